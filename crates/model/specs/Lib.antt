@@ -1,0 +1,15 @@
+pub mod Places
+pub mod Tables
+pub mod Words
+pub mod Points
+pub mod Records
+pub mod Lines
+pub mod Machine
+pub mod Refusals
+pub mod Command
+pub mod SetUp
+pub mod View
+pub mod Replies
+pub mod Object
+pub mod History
+pub mod Linearizable

@@ -1,0 +1,212 @@
+// The declared types of the bench, and the values of them that a set-up writes.
+ghost use mathlib.Core.Path.{_≡_};
+ghost use mathlib.Core.Bool.{false};
+ghost use Prim.Native.Nat.{_<_};
+ghost use lib.ListN.{replicate};
+ghost use Rattle.model.specs.Places.{noLinks};
+ghost use Rattle.model.specs.Tables.{noBank, noHelp};
+ghost use Rattle.model.specs.Records.{noProcess};
+ghost use Rattle.model.specs.Refusals.{isStart};
+ghost use Rattle.model.specs.SetUp.{xAtSetUp, bankAtSetUp, helpAtSetUp, processAtSetUp};
+ghost use Rattle.model.specs.Replies.{numberOf};
+
+// A buffer's number, below 3N.
+pub struct BufferNumber(pub u8);
+
+// A sequence number, below 2N.
+pub struct SequenceNumber(pub u8);
+
+// A process's number, below N.
+pub struct ProcessNumber(pub u8);
+
+// What X holds: Figure 2's xtype.
+pub struct XContent {
+    pub buf: BufferNumber,
+    pub seq: SequenceNumber,
+}
+
+// What a place of Help holds: Figure 2's helptype.
+pub struct HelpContent {
+    pub flag: u8,
+    pub buf: BufferNumber,
+}
+
+// X, with one link for each process.
+pub struct XPlace {
+    pub content: XContent,
+    pub links: [bool; 16],
+}
+
+// A place of Bank, with one link for each process.
+pub struct BankPlace {
+    pub content: BufferNumber,
+    pub links: [bool; 16],
+}
+
+// A place of Help, with one link for each process.
+pub struct HelpPlace {
+    pub content: HelpContent,
+    pub links: [bool; 16],
+}
+
+// The bench record: N, W, X, Bank (2N places), Help (N places) and their links.
+pub struct Bench {
+    pub n: usize,
+    pub w: usize,
+    pub x: XPlace,
+    pub bank: [BankPlace; 32],
+    pub help: [HelpPlace; 16],
+}
+
+// The private numbers of a process. Its return area and its offer area lie in the lent words.
+pub struct Process {
+    pub mybuf: BufferNumber,
+    pub x: XContent,
+    pub line: u8,
+    pub word: usize,
+    pub count: usize,
+    pub answered: bool,
+    pub b: BufferNumber,
+    pub c: BufferNumber,
+    pub d: BufferNumber,
+    pub e: BufferNumber,
+}
+
+// What a command orders.
+pub enum Order {
+    StartLl,
+    StartSc,
+    StartVl,
+    Step,
+}
+
+// What a command answers: refused with its number; accepted, with no answer yet; or a call's answer with its count of own steps.
+// The words of an LL's answer stand in the process's return area.
+pub enum Reply {
+    Refused(u8),
+    Accepted,
+    LlAnswered(usize),
+    ScAnswered(bool, usize),
+    VlAnswered(bool, usize),
+}
+
+// What a line makes of X and of its own process, with its reply.
+pub struct XStep {
+    pub place: XPlace,
+    pub process: Process,
+    pub reply: Reply,
+}
+
+// What a line makes of a place of Bank and of its own process.
+pub struct BankStep {
+    pub place: BankPlace,
+    pub process: Process,
+}
+
+// What a line makes of a place of Help and of its own process.
+pub struct HelpStep {
+    pub place: HelpPlace,
+    pub process: Process,
+}
+
+// What a line that moves a word makes of its own process, with its reply.
+pub struct WordStep {
+    pub process: Process,
+    pub reply: Reply,
+}
+
+// What an accepted command leaves of the bench and of its process, with its reply.
+pub struct Moved {
+    pub bench: Bench,
+    pub process: Process,
+    pub reply: Reply,
+}
+
+// No process has a link.
+pub fn no_links() -> [bool; 16]
+    ensures { λ r. ⌜ r ≡ noLinks ⌝ }
+{
+    [false; 16]
+}
+
+// X at the set-up.
+pub fn x_at_set_up() -> XPlace
+    ensures { λ r. ⌜ r ≡ xAtSetUp ⌝ }
+{
+    XPlace {
+        content: XContent {
+            buf: BufferNumber(0),
+            seq: SequenceNumber(0),
+        },
+        links: [false; 16],
+    }
+}
+
+// Bank[k] at the set-up.
+pub fn bank_at_set_up(k: u8) -> BankPlace
+    ensures { λ r. ⌜ r ≡ bankAtSetUp k ⌝ }
+{
+    BankPlace {
+        content: BufferNumber(k),
+        links: [false; 16],
+    }
+}
+
+// Help[p] at the set-up.
+pub fn help_at_set_up() -> HelpPlace
+    ensures { λ r. ⌜ r ≡ helpAtSetUp ⌝ }
+{
+    HelpPlace {
+        content: HelpContent {
+            flag: 0,
+            buf: BufferNumber(0),
+        },
+        links: [false; 16],
+    }
+}
+
+// A process at the set-up, with the buffer that it owns.
+pub fn process_at_set_up(mybuf: u8) -> Process
+    ensures { λ r. ⌜ r ≡ processAtSetUp mybuf ⌝ }
+{
+    Process {
+        mybuf: BufferNumber(mybuf),
+        x: XContent {
+            buf: BufferNumber(0),
+            seq: SequenceNumber(0),
+        },
+        line: 0,
+        word: 0,
+        count: 0,
+        answered: false,
+        b: BufferNumber(0),
+        c: BufferNumber(0),
+        d: BufferNumber(0),
+        e: BufferNumber(0),
+    }
+}
+
+// Whether an order is a start.
+pub fn is_start(order: Order) -> bool
+    ensures { λ r. ⌜ r ≡ isStart order ⌝ }
+{
+    match order {
+        Order::StartLl => true,
+        Order::StartSc => true,
+        Order::StartVl => true,
+        Order::Step => false,
+    }
+}
+
+// The number of a refusal, 0 for none.
+pub fn number_of(reply: Reply) -> u8
+    ensures { λ r. ⌜ r ≡ numberOf reply ⌝ }
+{
+    match reply {
+        Reply::Refused(number) => number,
+        Reply::Accepted => 0,
+        Reply::LlAnswered(_) => 0,
+        Reply::ScAnswered(_, _) => 0,
+        Reply::VlAnswered(_, _) => 0,
+    }
+}
