@@ -1,0 +1,24 @@
+-- The theorems, each about model's own definitions, with no assumption but those of its statement.
+use Rattle.model.specs.Linearizable.{Demand3}
+use Rattle.linearization.specs.OwnDoing.{NeverForItsOwnDoing}
+use Rattle.linearization.specs.Buffers.{EveryBufferOnce, WordsStay}
+use Rattle.linearization.proofs.BufferTheorems
+use Rattle.linearization.proofs.SetUpSimulation.{set-up-admits}
+use Rattle.linearization.proofs.CommandRuns.{holds-along, sound}
+use Rattle.linearization.proofs.DemandThree.{demand-three}
+
+-- Demand 3, over every list of commands after every accepted set-up.
+pub demand-3 : Demand3
+demand-3 = demand-three
+
+-- After a set-up no command is refused by rows 1, 2, 3 or 9.
+pub never-for-its-own-doing : NeverForItsOwnDoing
+never-for-its-own-doing m shaped n w value cs e c = let hW = set-up-admits m n w value e .sizes .w-low in sound n w hW _ _ _ (holds-along m shaped n w value e hW cs) c
+
+-- After a set-up and any commands the 3N buffer numbers are each found exactly once among owned and kept.
+pub every-buffer-once : EveryBufferOnce
+every-buffer-once = BufferTheorems.every-buffer-once
+
+-- The words of a success, and the set-up value, stay in their buffer until X has changed 2N more times.
+pub words-stay : WordsStay
+words-stay = BufferTheorems.words-stay

@@ -1,0 +1,3 @@
+pub mod After
+pub mod OwnDoing
+pub mod Buffers
