@@ -37,6 +37,10 @@ helpAtSetUp = record { content = record { flag = 0; buf = record { 0 = 0 } }; li
 abbrev pub processAtSetUp : ℕ → Process
 processAtSetUp m = record { mybuf = record { 0 = m }; x = record { buf = record { 0 = 0 }; seq = record { 0 = 0 } }; line = lineNumber idle; word = 0; count = 0; answered = false; b = record { 0 = 0 }; c = record { 0 = 0 }; d = record { 0 = 0 }; e = record { 0 = 0 } }
 
+-- a bench record before any set-up, for a program to lend
+abbrev pub emptyBench : Bench
+emptyBench = record { n = 0; w = 0; x = xAtSetUp; bank = replicate 32 (bankAtSetUp 0); help = replicate 16 helpAtSetUp }
+
 abbrev pub benchAtSetUp : Bench → ℕ → ℕ → Bench
 benchAtSetUp b n w = record { n = n; w = w; x = xAtSetUp; bank = sets (b .bank) 0 (map bankAtSetUp (numbers 0 (2 * n))); help = sets (b .help) 0 (replicate n helpAtSetUp) }
 

@@ -1,13 +1,8 @@
 // The declared types of the bench, and the values of them that a set-up writes.
 ghost use mathlib.Core.Path.{_≡_};
-ghost use mathlib.Core.Bool.{false};
-ghost use Prim.Native.Nat.{_<_};
-ghost use lib.ListN.{replicate};
 ghost use Rattle.model.specs.Places.{noLinks};
-ghost use Rattle.model.specs.Tables.{noBank, noHelp};
-ghost use Rattle.model.specs.Records.{noProcess};
 ghost use Rattle.model.specs.Refusals.{isStart};
-ghost use Rattle.model.specs.SetUp.{xAtSetUp, bankAtSetUp, helpAtSetUp, processAtSetUp};
+ghost use Rattle.model.specs.SetUp.{xAtSetUp, bankAtSetUp, helpAtSetUp, processAtSetUp, emptyBench};
 ghost use Rattle.model.specs.Replies.{numberOf};
 
 // A buffer's number, below 3N.
@@ -162,6 +157,19 @@ pub fn help_at_set_up() -> HelpPlace
             buf: BufferNumber(0),
         },
         links: [false; 16],
+    }
+}
+
+// A bench record before any set-up, for a program to lend.
+pub fn empty_bench() -> Bench
+    ensures { λ r. ⌜ r ≡ emptyBench ⌝ }
+{
+    Bench {
+        n: 0,
+        w: 0,
+        x: x_at_set_up(),
+        bank: [bank_at_set_up(0); 32],
+        help: [help_at_set_up(); 16],
     }
 }
 

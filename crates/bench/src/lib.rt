@@ -1,0 +1,100 @@
+// The public entries of the bench: a set-up and a command over lent memory, and the view of a written value. None asks anything of the caller.
+ghost use mathlib.Core.Path.{_≡_};
+ghost use Rattle.model.specs.Command.{command};
+ghost use Rattle.model.specs.SetUp.{setUp};
+ghost use Rattle.model.specs.View.{viewNumber, view};
+ghost use Rattle.bench.specs.Lent.{memory};
+ghost use Rattle.bench.specs.Settling.{settling};
+use model::Bench;
+use model::Order;
+use model::Process;
+use model::Reply;
+
+mod lent;
+
+// Process `process`, any number, is given an order, with the words of `value` where it starts an SC.
+// The reply and all lent memory after it are those of the model.
+// Wrong programs that this rules out: one that puts the words of a refused SC into the offer area before it refuses;
+// one that stores the stepped process's record at another place, or not at all.
+pub fn command(
+    bench: &mut Bench,
+    records: &mut [Process],
+    words: &mut [u64],
+    process: usize,
+    order: Order,
+    value: &[u64],
+) -> Reply
+    ensures { λ r. ⌜ (r, memory (now (bench .exit)) (now (records .exit)) (now (words .exit))) ≡ command (memory (now (bench .entry)) (now (records .entry)) (now (words .entry))) process order (now (value .entry)) ⌝ }
+{
+    let b = *bench;
+    let len = records.len();
+    let none = machine::records::no_process();
+    let all = lent::gather(records, none);
+    let out = machine::decision::decide(b, all, len, process, order, value, words);
+    *bench = out.bench;
+    // A refusal names a place past the end, and there nothing is stored.
+    lent::put_or(records, out.at, out.process);
+    out.reply
+}
+
+// What a set-up comes to: the number of its refusal, the bench, and how many records are to be set up.
+struct Settled {
+    number: u8,
+    bench: Bench,
+    count: usize,
+}
+
+// The set-up by value, but for the lent words, which it writes.
+fn settle(bench: Bench, len: usize, n: usize, w: usize, value: &[u64], words: &mut [u64]) -> Settled
+    ensures { λ r. ⌜ (r, now (words .exit)) ≡ settling bench len n w (now (value .entry)) (now (words .entry)) ⌝ }
+{
+    let out = machine::set_up::prepare(bench, len, n, w, value, words);
+    let number = out.number;
+    let next = out.bench;
+    let count = lent::records_to_write(number, n);
+    Settled {
+        number,
+        bench: next,
+        count,
+    }
+}
+
+// A set-up for N = n and W = w with the given value, whatever the lent memory held. It answers the number of its refusal, 0 for none.
+// The answer and all lent memory after it are those of the model.
+// Wrong programs that this rules out: one that clears the words and then finds that too few records are lent;
+// one that sets up every record that is lent, and not the first N alone.
+pub fn set_up(
+    bench: &mut Bench,
+    records: &mut [Process],
+    words: &mut [u64],
+    n: usize,
+    w: usize,
+    value: &[u64],
+) -> u8
+    ensures { λ r. ⌜ (r, memory (now (bench .exit)) (now (records .exit)) (now (words .exit))) ≡ setUp (memory (now (bench .entry)) (now (records .entry)) (now (words .entry))) n w (now (value .entry)) ⌝ }
+{
+    let b = *bench;
+    let len = records.len();
+    let out = settle(b, len, n, w, value, words);
+    *bench = out.bench;
+    lent::set_up_records(records, n, out.count);
+    out.number
+}
+
+// The number of a view's refusal, 0 for none: rows 2, 3, 8, 15.
+// Wrong programs that this rules out: one that takes the last success for one too many (15 at a good number);
+// one that looks at the value before the list (8 where 3 comes first).
+pub fn view_number(w: usize, value: &[u64], written: &[u64], k: usize) -> u8
+    ensures { λ r. ⌜ r ≡ viewNumber w (now (value .entry)) (now (written .entry)) k ⌝ }
+{
+    machine::view::view_number(w, value, written, k)
+}
+
+// The words of success k, no copy: the set-up value for 0, else a part of the list; an empty part of the set-up value at a refusal.
+// Wrong programs that this rules out: one that always gives the set-up value;
+// one that counts the successes in the list from 0, so that success 1 shows the second.
+pub fn view<'a>(w: usize, value: &'a [u64], written: &'a [u64], k: usize) -> &'a [u64]
+    ensures { λ r. ⌜ now r ≡ view w (now (value .entry)) (now (written .entry)) k ⌝ }
+{
+    machine::view::view(w, value, written, k)
+}

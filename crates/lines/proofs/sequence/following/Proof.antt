@@ -1,0 +1,23 @@
+-- `lines::sequence::following` meets its contract: the callee's result, put together.
+-- Assumes nothing.
+use borrow.Author.Needs.{needs}
+use Rattle.lines.proofs.sequence.following.Statement.{statement}
+use Rattle.lines.proofs.sequence.following.Tie as tie
+
+cast-i : tie.Need-cast-i
+cast-i c = search needs
+
+add-modulo : tie.Need-add-modulo
+add-modulo c = search needs
+
+mul-modulo : tie.Need-mul-modulo
+mul-modulo c = search needs
+
+modulo-requires : tie.Need-modulo-requires
+modulo-requires c κs = search needs
+
+returns : tie.Need-returns
+returns c = simp (c .modulo .ensures)
+
+pub following-spec : {M : Type 1} → statement M
+following-spec = tie.close (tie.spec cast-i add-modulo mul-modulo modulo-requires returns)

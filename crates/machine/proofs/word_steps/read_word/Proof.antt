@@ -1,0 +1,27 @@
+-- `machine::word_steps::read_word` meets its contract: both places are lent, and the word is copied.
+-- Assumes nothing.
+use native.Mathlib.Omega.{arith}
+use Rattle.machine.proofs.WordLaws.{lies}
+use borrow.Author.Needs.{needs}
+use Rattle.machine.proofs.word_steps.read_word.Statement.{statement}
+use Rattle.machine.proofs.word_steps.read_word.Tie as tie
+
+buffer-word-requires : tie.Need-buffer-word-requires
+buffer-word-requires c κs = search needs
+
+return-word-requires : tie.Need-return-word-requires
+return-word-requires c κs = search needs
+
+copy-word-requires : tie.Need-copy-word-requires
+copy-word-requires c κs = let h = c .before .before .before .before .pre .0 in (simp (c .before .before .buffer-word .ensures) (lies (c .before .before .before .before .args .bench .n) (omega arith) (h .word) (h .lent .words)), simp (c .before .return-word .ensures) (lies (c .before .before .before .before .args .bench .n) (omega arith) (h .word) (h .lent .words)))
+
+same-length : tie.Need-same-length
+same-length c = search needs
+
+returns : tie.Need-returns
+returns c = simp (c .before .before .before .copy-word .ensures, c .before .before .before .before .before .before .buffer-word .ensures, c .before .before .before .before .before .return-word .ensures)
+
+pub read-word-spec : {M : Type 1} → statement M
+read-word-spec =
+    tie.close
+    (tie.spec buffer-word-requires return-word-requires copy-word-requires same-length returns)

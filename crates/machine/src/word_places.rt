@@ -1,0 +1,39 @@
+// The lent words: 5N rows of W words. Rows 0 to 3N-1 are BUF, row 3N+p is the return area of p, row 4N+p its offer area.
+ghost use mathlib.Core.Path.{_≡_};
+ghost use Prim.Native.Nat.{_+_, _*_, _<_, _≤_};
+ghost use lib.ListN.{length};
+ghost use Rattle.model.specs.Words.{bufferWord, returnWord, offerWord, copied};
+use model::BufferNumber;
+use model::ProcessNumber;
+
+// Where word k of BUF[b] lies.
+pub fn buffer_word(w: usize, b: BufferNumber, k: usize) -> usize
+    requires { ⌜ (w ≤ 64) × (k < 64) ⌝ }
+    ensures { λ r. ⌜ r ≡ bufferWord w b k ⌝ }
+{
+    (b.0 as usize) * w + k
+}
+
+// Where word k of p's return area lies.
+pub fn return_word(n: usize, w: usize, p: ProcessNumber, k: usize) -> usize
+    requires { ⌜ (n ≤ 16) × ((w ≤ 64) × (k < 64)) ⌝ }
+    ensures { λ r. ⌜ r ≡ returnWord n w p k ⌝ }
+{
+    (3 * n + p.0 as usize) * w + k
+}
+
+// Where word k of p's offer area lies.
+pub fn offer_word(n: usize, w: usize, p: ProcessNumber, k: usize) -> usize
+    requires { ⌜ (n ≤ 16) × ((w ≤ 64) × (k < 64)) ⌝ }
+    ensures { λ r. ⌜ r ≡ offerWord n w p k ⌝ }
+{
+    (4 * n + p.0 as usize) * w + k
+}
+
+// One word is copied whole. Both are places that the functions above give.
+pub fn copy_word(words: &mut [u64], from: usize, to: usize)
+    requires { ⌜ (from < length (now words)) × (to < length (now words)) ⌝ }
+    ensures { λ _. ⌜ now (words .exit) ≡ copied (now (words .entry)) from to ⌝ }
+{
+    words[to] = words[from];
+}
