@@ -2,3 +2,4 @@
 pub mod Again
 pub mod RecordLaws
 pub mod SetUpLaws
+pub mod TextLaws

@@ -1,9 +1,9 @@
--- Lent memory as the model sees it, and records set up one by one where they lie.
+-- Lent memory as the model sees it, and records set up or stored back one by one where they lie.
 use Prim.Native.Nat.{ℕ, zero, suc, _+_, _*_}
 use mathlib.Core.List.{List}
 use mathlib.Core.Bool.{cond}
 use lib.Dec.{eqb, leb, ltb}
-use lib.ListN.{set}
+use lib.ListN.{getD, set}
 use Rattle.model.specs.declared.Bench.{Bench}
 use Rattle.model.specs.declared.Process.{Process}
 use Rattle.model.specs.Machine.{Memory}
@@ -26,3 +26,8 @@ recordsToWrite number n = cond (eqb number 0) n 0
 unfoldable pub recordsWritten : List Process → ℕ → ℕ → List Process
 recordsWritten l n zero = l
 recordsWritten l n (suc i) = set (recordsWritten l n i) i (recordFor n i)
+
+-- l with its first i records taken from a
+unfoldable pub recordsStored : List Process → List Process → ℕ → List Process
+recordsStored l a zero = l
+recordsStored l a (suc i) = set (recordsStored l a i) i (getD a i noProcess)

@@ -1,8 +1,9 @@
-// Lent process records: one is read or replaced, sixteen are gathered, the first are set up. A place past the end reads as another record, and there nothing is stored.
+// Lent process records: one is read or replaced, sixteen are gathered, the first are set up or stored back. A place past the end reads as another record, and there nothing is stored.
 ghost use mathlib.Core.Path.{_≡_};
 ghost use lib.ListN.{getD, set};
+ghost use Rattle.model.specs.Records.{noProcess};
 ghost use Rattle.machine.specs.Gathered.{gathered};
-ghost use Rattle.bench.specs.Lent.{recordFor, recordsToWrite, recordsWritten};
+ghost use Rattle.bench.specs.Lent.{recordFor, recordsStored, recordsToWrite, recordsWritten};
 use machine::records::Records;
 use model::Process;
 use model::ProcessNumber;
@@ -70,6 +71,28 @@ pub fn set_up_records(records: &mut [Process], n: usize, count: usize)
     let mut i = 0;
     while i < count {
         let q = record_for(n, i);
+        put_or(records, i, q);
+        i += 1;
+    }
+}
+
+// One of sixteen records, or the filler past their end.
+pub fn pick(all: Records, i: usize) -> Process
+    ensures { λ r. ⌜ r ≡ getD (all .list) i noProcess ⌝ }
+{
+    if i < 16 {
+        return all.list[i];
+    }
+    machine::records::no_process()
+}
+
+// The first n of sixteen records are stored back, where they are lent.
+pub fn store_back(records: &mut [Process], all: Records, n: usize)
+    ensures { λ _. ⌜ now (records .exit) ≡ recordsStored (now (records .entry)) (all .list) n ⌝ }
+{
+    let mut i = 0;
+    while i < n {
+        let q = pick(all, i);
         put_or(records, i, q);
         i += 1;
     }

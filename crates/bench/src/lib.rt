@@ -1,8 +1,9 @@
-// The public entries of the bench: a set-up and a command over lent memory, and the view of a written value. None asks anything of the caller.
+// The public entries of the bench: a set-up, a command and a text run over lent memory, and the view of a written value. None asks anything of the caller.
 ghost use mathlib.Core.Path.{_≡_};
 ghost use Rattle.model.specs.Command.{command};
 ghost use Rattle.model.specs.SetUp.{setUp};
 ghost use Rattle.model.specs.View.{viewNumber, view};
+ghost use Rattle.run.specs.TextRun.{runText};
 ghost use Rattle.bench.specs.Lent.{memory};
 ghost use Rattle.bench.specs.Settling.{settling};
 use model::Bench;
@@ -79,6 +80,39 @@ pub fn set_up(
     *bench = out.bench;
     lent::set_up_records(records, n, out.count);
     out.number
+}
+
+// What a text run returns: its number, 0 at `end`, the entries done and the listing bytes written.
+pub struct TextRun {
+    pub number: u8,
+    pub entries: usize,
+    pub written: usize,
+}
+
+// A whole text run, on any text and any lent memory. What it returns, all lent memory and the listing after it are those of the model.
+// Wrong programs that this rules out: one that sets the bench up and then finds a fault further on in the text;
+// one that blanks the listing after its last line.
+pub fn run_text(
+    bench: &mut Bench,
+    records: &mut [Process],
+    words: &mut [u64],
+    text: &[u8],
+    listing: &mut [u8],
+) -> TextRun
+    ensures { λ r. ⌜ record { number = r .number; entries = r .entries; written = r .written; memory = memory (now (bench .exit)) (now (records .exit)) (now (words .exit)); listing = now (listing .exit) } ≡ runText (memory (now (bench .entry)) (now (records .entry)) (now (words .entry))) (now (text .entry)) (now (listing .entry)) ⌝ }
+{
+    let b = *bench;
+    let len = records.len();
+    let none = machine::records::no_process();
+    let all = lent::gather(records, none);
+    let out = run::text_run::run_by_value(b, all, len, words, text, listing);
+    *bench = out.bench;
+    lent::store_back(records, out.all, 16);
+    TextRun {
+        number: out.number,
+        entries: out.entries,
+        written: out.written,
+    }
 }
 
 // The number of a view's refusal, 0 for none: rows 2, 3, 8, 15.

@@ -1,0 +1,6 @@
+pub mod WritingLaws
+pub mod DecimalLaws
+pub mod LineLaws
+pub mod Lengths
+pub mod Theorems
+pub mod Examples

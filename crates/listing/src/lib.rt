@@ -1,0 +1,130 @@
+// The lines of a listing, written into lent bytes from a place on. All functions are inner: the text run is made of them.
+ghost use mathlib.Core.Path.{_≡_};
+ghost use mathlib.Core.List.{[], _∷_};
+ghost use mathlib.Core.Bool.{Bool};
+ghost use Prim.Native.Nat.{_+_, _≤_};
+ghost use lib.ListN.{length, take, drop};
+ghost use Rattle.listing.specs.Decimal.{decimal};
+ghost use Rattle.listing.specs.Lines.{answerHead, wordsOf, llLine, truthLine, endLine, refusedLine};
+ghost use Rattle.listing.specs.Writing.{Room, Wrote};
+
+// One byte.
+pub fn put(list: &mut [u8], at: usize, b: u8) -> usize
+    requires { ⌜ Room (now list) at (b ∷ []) ⌝ }
+    ensures { λ r. ⌜ Wrote (now (list .entry)) at (b ∷ []) (now (list .exit)) r ⌝ }
+{
+    list[at] = b;
+    at + 1
+}
+
+// Bytes as they stand.
+pub fn plain(list: &mut [u8], at: usize, bytes: &[u8]) -> usize
+    requires { ⌜ Room (now list) at (now bytes) ⌝ }
+    ensures { λ r. ⌜ Wrote (now (list .entry)) at (now (bytes .entry)) (now (list .exit)) r ⌝ }
+{
+    let mut next = at;
+    let mut i = 0;
+    while i < bytes.len() {
+        next = put(list, next, bytes[i]);
+        i += 1;
+    }
+    next
+}
+
+// A number in decimal: the digits before the last, then the last.
+pub fn number(list: &mut [u8], at: usize, n: u64) -> usize
+    requires { ⌜ Room (now list) at (decimal n) ⌝ }
+    ensures { λ r. ⌜ Wrote (now (list .entry)) at (decimal n) (now (list .exit)) r ⌝ }
+{
+    if n < 10 {
+        return put(list, at, 48 + n as u8);
+    }
+    let next = number(list, at, n / 10);
+    put(list, next, 48 + (n % 10) as u8)
+}
+
+// A space and a number for each of w words.
+pub fn words(list: &mut [u8], at: usize, ws: &[u64], from: usize, w: usize) -> usize
+    requires { ⌜ (from + w ≤ length (now ws)) × (Room (now list) at (wordsOf (take w (drop from (now ws))))) ⌝ }
+    ensures { λ r. ⌜ Wrote (now (list .entry)) at (wordsOf (take w (drop from (now (ws .entry))))) (now (list .exit)) r ⌝ }
+{
+    let mut next = at;
+    let mut i = 0;
+    while i < w {
+        next = put(list, next, 32);
+        next = number(list, next, ws[from + i]);
+        i += 1;
+    }
+    next
+}
+
+// The part of an answer line that all kinds share: process, letter and count.
+pub fn answer_head(list: &mut [u8], at: usize, process: u64, letter: u8, count: u64) -> usize
+    requires { ⌜ Room (now list) at (answerHead process letter count) ⌝ }
+    ensures { λ r. ⌜ Wrote (now (list .entry)) at (answerHead process letter count) (now (list .exit)) r ⌝ }
+{
+    let a = number(list, at, process);
+    let b = put(list, a, 32);
+    let c = put(list, b, letter);
+    let d = put(list, c, 32);
+    number(list, d, count)
+}
+
+// The line of an LL's answer, whose w words stand in `ws` from a place on.
+pub fn ll_line(
+    list: &mut [u8],
+    at: usize,
+    process: u64,
+    count: u64,
+    ws: &[u64],
+    from: usize,
+    w: usize,
+) -> usize
+    requires { ⌜ (from + w ≤ length (now ws)) × (Room (now list) at (llLine process count (take w (drop from (now ws))))) ⌝ }
+    ensures { λ r. ⌜ Wrote (now (list .entry)) at (llLine process count (take w (drop from (now (ws .entry))))) (now (list .exit)) r ⌝ }
+{
+    let a = answer_head(list, at, process, 76, count);
+    let b = words(list, a, ws, from, w);
+    put(list, b, 10)
+}
+
+// The line of an SC's or a VL's answer, with the letter of its kind.
+pub fn truth_line(
+    list: &mut [u8],
+    at: usize,
+    process: u64,
+    letter: u8,
+    count: u64,
+    answer: bool,
+) -> usize
+    requires { ⌜ Room (now list) at (truthLine process letter count answer) ⌝ }
+    ensures { λ r. ⌜ Wrote (now (list .entry)) at (truthLine process letter count answer) (now (list .exit)) r ⌝ }
+{
+    let a = answer_head(list, at, process, letter, count);
+    if answer {
+        return plain(list, a, b" 1\n");
+    }
+    plain(list, a, b" 0\n")
+}
+
+// The last line of a run that met no refusal.
+pub fn end_line(list: &mut [u8], at: usize, entries: u64) -> usize
+    requires { ⌜ Room (now list) at (endLine entries) ⌝ }
+    ensures { λ r. ⌜ Wrote (now (list .entry)) at (endLine entries) (now (list .exit)) r ⌝ }
+{
+    let a = plain(list, at, b"end ");
+    let b = number(list, a, entries);
+    put(list, b, 10)
+}
+
+// The last line of a refused run.
+pub fn refused_line(list: &mut [u8], at: usize, refusal: u64, entries: u64) -> usize
+    requires { ⌜ Room (now list) at (refusedLine refusal entries) ⌝ }
+    ensures { λ r. ⌜ Wrote (now (list .entry)) at (refusedLine refusal entries) (now (list .exit)) r ⌝ }
+{
+    let a = plain(list, at, b"refused ");
+    let b = number(list, a, refusal);
+    let c = put(list, b, 32);
+    let d = number(list, c, entries);
+    put(list, d, 10)
+}

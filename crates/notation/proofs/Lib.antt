@@ -1,0 +1,14 @@
+pub mod KindLaws
+pub mod ScanLaws
+pub mod ItemLaws
+pub mod HeaderLaws
+pub mod Agreement
+pub mod Trees
+pub mod TextTrees
+pub mod ScanPlaces
+pub mod TextPlaces
+pub mod Theorems
+pub mod GroupLaws
+pub mod TurnLaws
+pub mod Examples
+pub mod Replies

@@ -1,0 +1,182 @@
+-- What a reader promises fixes its reply: two replies that keep the promise are one.
+use Prim.Native.Nat.{ℕ, _+_, _*_, _≤_, _<_}
+use mathlib.Core.Path.{_≡_, refl, sym, ap, subst, _∙_}
+use mathlib.Core.List.{List}
+use mathlib.Core.Bool.{Bool, true, false, true≢false}
+use native.Mathlib.Omega.{arith}
+use borrow.Author.Tests.{ltb-true, ltb-false}
+use lib.Dec.{ltb}
+use lib.ListN.{length, getD}
+use Rattle.notation.specs.declared.Kind.{Kind}
+use Rattle.notation.specs.declared.Kind.the-variants.{Digit, Gap, Marked, Offer, Open, Close, Other}
+use Rattle.notation.specs.declared.Digits.{Digits}
+use Rattle.notation.specs.declared.Digits.the-variants.{Value, NoNumber}
+use Rattle.notation.specs.declared.Start.{Start}
+use Rattle.notation.specs.declared.Follow.{Follow}
+use Rattle.notation.specs.declared.Header.{Header}
+use Rattle.notation.specs.declared.Header.the-variants.{First, NoFirst}
+use Rattle.notation.specs.Bytes.{space, lineFeed, kindOf, isDigit, isGap}
+use Rattle.notation.specs.Grammar.{largest}
+use Rattle.notation.specs.Readers as D
+use Rattle.notation.specs.Readers.{Counts, Numbered, Exceeds, NumberSays, Whole, NoneAt, NumberAtSays, Ended, NotEnded, FieldSays, Headed, NotHeaded, HeaderSays, Gapped, Skipped, offerOf, Signed, Begins, Behind, After, Follows}
+
+-- below, or the same
+below-or : (P : Type 0) (i n : ℕ) → i < n + 1 → (i < n → P) → (i ≡ n → P) → P
+below-or P i n h f g = pick (ltb i n) refl
+  where
+    pick : (t : Bool) → ltb i n ≡ t → P
+    pick true e = f (ltb-true i n e)
+    pick false e = g (omega (arith, ltb-false i n e))
+
+same-if : (a b : ℕ) → (a < b → ⊥) → (b < a → ⊥) → a ≡ b
+same-if a b p q = omega (arith, p, q)
+
+digit-same : {d e : ℕ} → Digit d ≡ Digit e → d ≡ e
+digit-same q = cc
+
+module _ (s : List ℕ) where
+  -- digits of one number
+  counts-on : {at v next v′ : ℕ} → Counts s at v next v′ → at ≤ next
+  counts-on D.still = omega arith
+  counts-on (D.digit c l e f) = omega (arith, counts-on c)
+
+  digits-between : {at v next v′ : ℕ} → Counts s at v next v′ → (i : ℕ) → at ≤ i → i < next → isDigit (kindOf (getD s i 0)) ≡ true
+  digits-between D.still i p q = absurd (omega arith)
+  digits-between (D.digit {next = next} c l e f) i p q = below-or _ i next q (λ r. digits-between c i p r) (λ r. ap (λ (x : ℕ). isDigit (kindOf (getD s x 0))) r ∙ ap isDigit e)
+
+  one-digit : (i j : ℕ) {d e : ℕ} → i ≡ j → kindOf (getD s i 0) ≡ Digit d → kindOf (getD s j 0) ≡ Digit e → d ≡ e
+  one-digit i j r p q = digit-same (sym p ∙ ap (λ (x : ℕ). kindOf (getD s x 0)) r ∙ q)
+
+  counts-same : {at v n a m b : ℕ} → Counts s at v n a → Counts s at v m b → n ≡ m → a ≡ b
+  counts-same D.still D.still r = refl
+  counts-same D.still (D.digit c l e f) r = absurd (omega (arith, counts-on c))
+  counts-same (D.digit c l e f) D.still r = absurd (omega (arith, counts-on c))
+  counts-same (D.digit {next = i} c l e f) (D.digit {next = j} c₂ l₂ e₂ f₂) r = omega (arith, counts-same c c₂ (omega arith), one-digit i j (omega arith) e e₂)
+
+  fits-at : {at v n a i b d : ℕ} → Counts s at v n a → Counts s at v i b → i < n → kindOf (getD s i 0) ≡ Digit d → b * 10 + d ≤ largest
+  fits-at D.still c₂ q k = absurd (omega (arith, counts-on c₂))
+  fits-at {i = i} (D.digit {next = next} c l e f) c₂ q k = below-or _ i next q (λ r. fits-at c c₂ r k) (λ r. omega (arith, counts-same c₂ c r, one-digit i next r k e))
+
+  -- one number
+  stops-first : {at v a n b m : ℕ} → Numbered s at v a n → Numbered s at v b m → n < m → ⊥
+  stops-first {n = n} p q l = true≢false (sym (digits-between (q .counts) n (p .on) l) ∙ p .stops (omega (arith, q .within)))
+
+  numbered-one : {at v a n b m : ℕ} → Numbered s at v a n → Numbered s at v b m → (a ≡ b) × (n ≡ m)
+  numbered-one {n = n} {m = m} p q = let r = same-if n m (stops-first p q) (stops-first q p) in (counts-same (p .counts) (q .counts) r, r)
+
+  exceeds-not : {at v a n : ℕ} → Exceeds s at v → Numbered s at v a n → ⊥
+  exceeds-not {n = n} x p = below-or ⊥ (x .next) n (omega (arith, later)) (λ r. omega (arith, fits-at (p .counts) (x .counts) r (x .is), x .large)) (λ r. true≢false (sym (ap isDigit (x .is)) ∙ ap (λ (y : ℕ). isDigit (kindOf (getD s y 0))) r ∙ p .stops (omega (arith, x .here))))
+    where
+      later : n < x .next → ⊥
+      later l = true≢false (sym (digits-between (x .counts) n (p .on) l) ∙ p .stops (omega (arith, x .here)))
+
+  pub number-one : (at v : ℕ) (r r′ : Digits) → NumberSays s at v r → NumberSays s at v r′ → r ≡ r′
+  number-one at v (Value a n) (Value b m) p q = let e = numbered-one p q in let x = e .0 in let y = e .1 in cc
+  number-one at v (Value a n) NoNumber p q = absurd (exceeds-not q p)
+  number-one at v NoNumber (Value b m) p q = absurd (exceeds-not p q)
+  number-one at v NoNumber NoNumber p q = refl
+
+  whole-one : {at a n b m : ℕ} → Whole s at a n → Whole s at b m → (a ≡ b) × (n ≡ m)
+  whole-one {at} {b = b} {m = m} p q = numbered-one (p .numbered) (subst (λ (x : ℕ). Numbered s (at + 1) x b m) (one-digit at at refl (q .is) (p .is)) (q .numbered))
+
+  none-not : {at a n : ℕ} → NoneAt s at → Whole s at a n → ⊥
+  none-not (D.ends h) w = omega (arith, w .here)
+  none-not (D.other h k) w = true≢false (sym (ap isDigit (w .is)) ∙ k)
+  none-not {at} {a} {n} (D.exceeds h e x) w = exceeds-not x (subst (λ (y : ℕ). Numbered s (at + 1) y a n) (one-digit at at refl (w .is) e) (w .numbered))
+
+  pub number-at-one : (at : ℕ) (r r′ : Digits) → NumberAtSays s at r → NumberAtSays s at r′ → r ≡ r′
+  number-at-one at (Value a n) (Value b m) p q = let e = whole-one p q in let x = e .0 in let y = e .1 in cc
+  number-at-one at (Value a n) NoNumber p q = absurd (none-not q p)
+  number-at-one at NoNumber (Value b m) p q = absurd (none-not p q)
+  number-at-one at NoNumber NoNumber p q = refl
+
+  -- one field, one first line
+  ended-one : {at stop a n b m : ℕ} → Ended s at stop a n → Ended s at stop b m → (a ≡ b) × (n ≡ m)
+  ended-one p q = let e = whole-one (p .number) (q .number) in (e .0, omega (arith, e .1, p .past, q .past))
+
+  ended-not : {at stop a n : ℕ} → NotEnded s at stop → Ended s at stop a n → ⊥
+  ended-not (D.none x) e = none-not x (e .number)
+  ended-not (D.ends w h) e = omega (arith, whole-one w (e .number) .1, e .here)
+  ended-not (D.other w h k) e = k (ap (λ (x : ℕ). getD s x 0) (whole-one w (e .number) .1) ∙ e .is)
+
+  pub field-one : (at stop : ℕ) (r r′ : Digits) → FieldSays s at stop r → FieldSays s at stop r′ → r ≡ r′
+  field-one at stop (Value a n) (Value b m) p q = let e = ended-one p q in let x = e .0 in let y = e .1 in cc
+  field-one at stop (Value a n) NoNumber p q = absurd (ended-not q p)
+  field-one at stop NoNumber (Value b m) p q = absurd (ended-not p q)
+  field-one at stop NoNumber NoNumber p q = refl
+
+  moved : {at at′ stop a n : ℕ} → at ≡ at′ → Ended s at stop a n → Ended s at′ stop a n
+  moved {stop = stop} {a = a} {n = n} e p = subst (λ (x : ℕ). Ended s x stop a n) e p
+
+  headed-not : {n w v next : ℕ} → NotHeaded s → Headed s n w v next → ⊥
+  headed-not (D.noN x) h = ended-not x (h .nEnds)
+  headed-not (D.noW p x) h = ended-not x (moved (ended-one (h .nEnds) p .1) (h .wEnds))
+  headed-not (D.noInitial p q x) h = ended-not x (moved (ended-one (moved (ended-one (h .nEnds) p .1) (h .wEnds)) q .1) (h .initialEnds))
+
+  pub first-line-one : (r r′ : Header) → HeaderSays s r → HeaderSays s r′ → r ≡ r′
+  first-line-one (First n w v a) (First m x u b) p q =
+      let e = ended-one (p .nEnds) (q .nEnds) in
+      let f = ended-one (moved (e .1) (p .wEnds)) (q .wEnds) in
+      let g = ended-one (moved (f .1) (p .initialEnds)) (q .initialEnds) in
+      let e₀ = e .0 in let f₀ = f .0 in let g₀ = g .0 in let g₁ = g .1 in cc
+  first-line-one (First n w v a) NoFirst p q = absurd (headed-not q p)
+  first-line-one NoFirst (First m x u b) p q = absurd (headed-not p q)
+  first-line-one NoFirst NoFirst p q = refl
+
+  -- one end of gaps
+  gaps-between : {at next : ℕ} → Gapped s at next → (i : ℕ) → at ≤ i → i < next → isGap (kindOf (getD s i 0)) ≡ true
+  gaps-between D.stay i p q = absurd (omega arith)
+  gaps-between (D.gap {next = next} g l e) i p q = below-or _ i next q (λ r. gaps-between g i p r) (λ r. ap (λ (x : ℕ). isGap (kindOf (getD s x 0))) r ∙ ap isGap e)
+
+  gap-first : {at n m : ℕ} → Skipped s at n → Skipped s at m → n < m → ⊥
+  gap-first {n = n} p q l = true≢false (sym (gaps-between (q .gaps) n (p .on) l) ∙ p .stops (omega (arith, q .within)))
+
+  pub skip-one : {at n m : ℕ} → Skipped s at n → Skipped s at m → n ≡ m
+  skip-one {n = n} {m = m} p q = same-if n m (gap-first p q) (gap-first q p)
+
+  -- one beginning of an item
+  signed-one : (v place : ℕ) (k : Kind) (r r′ : Start) → Signed s v place k r → Signed s v place k r′ → r ≡ r′
+  signed-one v place (Digit d) r r′ p q = p ∙ sym q
+  signed-one v place Gap r r′ p q = p ∙ sym q
+  signed-one v place (Marked m) r r′ p q = p ∙ sym q
+  signed-one v place Offer r r′ p q = p .same ∙ ap (offerOf v) (number-at-one (place + 1) (p .number) (q .number) (p .is) (q .is)) ∙ sym (q .same)
+  signed-one v place Open r r′ p q = p ∙ sym q
+  signed-one v place Close r r′ p q = p ∙ sym q
+  signed-one v place Other r r′ p q = p ∙ sym q
+
+  sign-one : (v place v′ place′ : ℕ) (k k′ : Kind) (r r′ : Start) → v ≡ v′ → place ≡ place′ → kindOf (getD s place 0) ≡ k → kindOf (getD s place′ 0) ≡ k′ → Signed s v place k r → Signed s v′ place′ k′ r′ → r ≡ r′
+  sign-one v place v′ place′ k k′ r r′ e f g h p q = signed-one v place k r r′ p (subst (λ (x : Kind). Signed s v place x r′) (sym h ∙ ap (λ (x : ℕ). kindOf (getD s x 0)) (sym f) ∙ g) (subst (λ (x : ℕ). Signed s x place k′ r′) (sym e) (subst (λ (x : ℕ). Signed s v′ x k′ r′) (sym f) q)))
+
+  pub begin-one : {at : ℕ} {r r′ : Start} → Begins s at r → Begins s at r′ → r ≡ r′
+  begin-one (D.none x) (D.none y) = refl
+  begin-one (D.none x) (D.ends w h) = refl
+  begin-one (D.none x) (D.signed w h e q) = absurd (none-not x w)
+  begin-one (D.ends w h) (D.none y) = refl
+  begin-one (D.ends w h) (D.ends w₂ h₂) = refl
+  begin-one (D.ends w h) (D.signed w₂ h₂ e q) = absurd (omega (arith, whole-one w w₂ .1))
+  begin-one (D.signed w h e q) (D.none y) = absurd (none-not y w)
+  begin-one (D.signed w h e q) (D.ends w₂ h₂) = absurd (omega (arith, whole-one w w₂ .1))
+  begin-one (D.signed {v = v} {place = place} {k = k} {r = r} w h e q) (D.signed {v = v′} {place = place′} {k = k′} {r = r′} w₂ h₂ e₂ q₂) =
+      let o = whole-one w w₂ in sign-one v place v′ place′ k k′ r r′ (o .0) (o .1) e e₂ q q₂
+
+  -- one thing that follows it
+  behind-one : (n m : ℕ) {r r′ : Follow} → n ≡ m → Behind s n r → Behind s m r′ → r ≡ r′
+  behind-one n m o (D.ends h) (D.ends h₂) = refl
+  behind-one n m o (D.ends h) (D.byte h₂ e q) = absurd (omega arith)
+  behind-one n m o (D.byte h e q) (D.ends h₂) = absurd (omega arith)
+  behind-one n m o (D.byte h e q) (D.byte h₂ e₂ q₂) = cc
+
+  after-one : (at : ℕ) (k : Kind) (r r′ : Follow) → After s at k r → After s at k r′ → r ≡ r′
+  after-one at (Digit d) r r′ p q = p ∙ sym q
+  after-one at Gap r r′ p q = behind-one (p .next) (q .next) (skip-one (p .skipped) (q .skipped)) (p .behind) (q .behind)
+  after-one at (Marked m) r r′ p q = p ∙ sym q
+  after-one at Offer r r′ p q = p ∙ sym q
+  after-one at Open r r′ p q = p ∙ sym q
+  after-one at Close r r′ p q = p ∙ sym q
+  after-one at Other r r′ p q = p ∙ sym q
+
+  pub follow-one : {at : ℕ} {r r′ : Follow} → Follows s at r → Follows s at r′ → r ≡ r′
+  follow-one (D.ends h) (D.ends h₂) = refl
+  follow-one (D.ends h) (D.byte h₂ e q) = absurd (omega arith)
+  follow-one (D.byte h e q) (D.ends h₂) = absurd (omega arith)
+  follow-one {at} (D.byte {k = k} {r = r} h e q) (D.byte {k = k′} {r = r′} h₂ e₂ q₂) = after-one at k r r′ q (subst (λ (x : Kind). After s at x r′) (sym e₂ ∙ e) q₂)

@@ -1,0 +1,119 @@
+-- Laws of the reading: one byte, the end, and stretches put together.
+use Prim.Native.Nat.{ℕ, _+_, _*_, _≤_, _<_}
+use mathlib.Core.Path.{_≡_, refl, sym, ap, _∙_}
+use mathlib.Core.List.{List, [], _∷_, _++_, append-assoc, append-nil}
+use mathlib.Core.Bool.{Bool, true, false}
+use native.Mathlib.Omega.{arith}
+use native.Mathlib.Numerals.{add-one}
+use borrow.Author.Tests.{le-leb, lt-leb}
+use lib.ListN.{length, getD, drop, drop-of-length-le}
+use lib.Seq.{drop-cons}
+use Rattle.notation.specs.declared.Kind.{Kind}
+use Rattle.notation.specs.declared.Kind.the-variants.{Digit, Gap}
+use Rattle.notation.specs.declared.Entry.{Entry}
+use Rattle.notation.specs.declared.Entry.the-variants.{StartSc}
+use Rattle.notation.specs.Bytes.{kindOf}
+use Rattle.notation.specs.Grammar.{largest}
+use Rattle.notation.specs.Scan.{onDigit, Mode, between, num, offer, offerNum, done, to, bad, more, move, said, Frame, fault, atEnd, go, scan}
+use Rattle.notation.specs.Readers as D
+use Rattle.notation.specs.Readers.{Counts, still, digit, Exceeds, Whole, Gapped}
+use Rattle.notation.specs.Stretches.{Goes, Faults}
+
+-- one byte
+pub scan-at : (s : List ℕ) (at : ℕ) (m : Mode) (stack : List Frame) (os : List Entry) (d : ℕ) → at < length s
+    → scan (drop at s) m stack os d ≡ go (scan (drop (at + 1) s)) (drop (at + 1) s) (move m (kindOf (getD s at 0))) stack (os ++ said m (kindOf (getD s at 0))) d
+unfolding scan
+scan-at s at m stack os d h = rw (add-one, drop-cons s at 0)
+
+-- the end
+pub scan-end : (s : List ℕ) (at : ℕ) (m : Mode) (stack : List Frame) (os : List Entry) (d : ℕ) → length s ≤ at → scan (drop at s) m stack os d ≡ atEnd m stack os
+unfolding scan
+scan-end s at m stack os d h = rw (drop-of-length-le s {i = at} h)
+
+-- one more digit of a number
+pub digit-fits : {A : Type 0} (v d : ℕ) (fits : ℕ → A) (over : A) → v * 10 + d ≤ largest → onDigit v d fits over ≡ fits (v * 10 + d)
+unfolding onDigit
+digit-fits v d fits over h = simp (le-leb _ _ h)
+
+pub digit-over : {A : Type 0} (v d : ℕ) (fits : ℕ → A) (over : A) → largest < v * 10 + d → onDigit v d fits over ≡ over
+unfolding onDigit
+digit-over v d fits over h = simp (lt-leb _ _ h)
+
+-- a mode that gathers a number
+pub record Gathers (f : ℕ → Mode) : Type 0 where
+  pub moves : (v d : ℕ) → move (f v) (Digit d) ≡ more f v d
+  pub says : (v d : ℕ) → said (f v) (Digit d) ≡ []
+
+-- a mode before such a number
+pub record Leads (m : Mode) (f : ℕ → Mode) : Type 0 where
+  pub moves : (d : ℕ) → move m (Digit d) ≡ to (f d)
+  pub says : (d : ℕ) → said m (Digit d) ≡ []
+
+pub gathers-num : Gathers num
+unfolding move said
+gathers-num = record { moves = λ v d. refl; says = λ v d. refl }
+
+pub gathers-offer : (p : ℕ) → Gathers (offerNum p)
+unfolding move said
+gathers-offer p = record { moves = λ v d. refl; says = λ v d. refl }
+
+pub leads-num : (e : Bool) → Leads (between e) num
+unfolding move said
+leads-num e = record { moves = λ d. refl; says = λ d. refl }
+
+pub leads-offer : (p : ℕ) → Leads (offer p) (offerNum p)
+unfolding move said
+leads-offer p = record { moves = λ d. refl; says = λ d. refl }
+
+pub more-fits : (f : ℕ → Mode) (v d : ℕ) → v * 10 + d ≤ largest → more f v d ≡ to (f (v * 10 + d))
+unfolding more
+more-fits f v d h = digit-fits v d (λ x. to (f x)) bad h
+
+pub more-over : (f : ℕ → Mode) (v d : ℕ) → largest < v * 10 + d → more f v d ≡ bad
+unfolding more
+more-over f v d h = digit-over v d (λ x. to (f x)) bad h
+
+module _ {s : List ℕ} where
+  pub stay : (at : ℕ) (m : Mode) → at ≤ length s → Goes s at m at m []
+  stay at m h = record { on = omega arith; within = h; same = λ stack os d. ap (λ (x : List Entry). scan (drop at s) m stack x d) (sym (append-nil os)) }
+
+  pub then : {a b c : ℕ} {m m′ m″ : Mode} {es es′ : List Entry} → Goes s a m b m′ es → Goes s b m′ c m″ es′ → Goes s a m c m″ (es ++ es′)
+  then {c = c} {m″ = m″} {es = es} {es′ = es′} p q = record { on = omega (arith, p .on, q .on); within = q .within; same = λ stack os d. p .same stack os d ∙ q .same stack (os ++ es) d ∙ ap (λ (x : List Entry). scan (drop c s) m″ stack x d) (append-assoc os es es′) }
+
+  pub then-fault : {a b k : ℕ} {m m′ : Mode} {es : List Entry} → Goes s a m b m′ es → Faults s b m′ k → Faults s a m k
+  then-fault {es = es} p q = record { same = λ stack os d. p .same stack os d ∙ q .same stack (os ++ es) d }
+
+  -- a byte of a known kind that leads to another mode
+  pub byte : (m m′ : Mode) (k : Kind) (es : List Entry) (at : ℕ) → at < length s → kindOf (getD s at 0) ≡ k → move m k ≡ to m′ → said m k ≡ es → Goes s at m (at + 1) m′ es
+  unfolding go
+  byte m m′ k es at h e p q = record { on = omega arith; within = omega arith; same = λ stack os r. scan-at s at m stack os r h ∙ simp (e, p, q) }
+
+  pub byte-bad : (m : Mode) (k : Kind) (at : ℕ) → at < length s → kindOf (getD s at 0) ≡ k → move m k ≡ bad → Faults s at m 10
+  unfolding go
+  byte-bad m k at h e p = record { same = λ stack os r. scan-at s at m stack os r h ∙ simp (e, p) }
+
+  pub end-fault : (m : Mode) (at : ℕ) → length s ≤ at → ((stack : List Frame) (os : List Entry) → atEnd m stack os ≡ fault 10) → Faults s at m 10
+  end-fault m at h e = record { same = λ stack os d. scan-end s at m stack os d h ∙ e stack os }
+
+  gap : (e : Bool) (at : ℕ) → at < length s → kindOf (getD s at 0) ≡ Gap → Goes s at (between e) (at + 1) (between e) []
+  unfolding move said
+  gap e at h p = byte (between e) (between e) Gap [] at h p refl refl
+
+  pub gaps : {at next : ℕ} (e : Bool) → at ≤ length s → Gapped s at next → Goes s at (between e) next (between e) []
+  gaps {at} e h D.stay = stay at (between e) h
+  gaps e h (D.gap {next = next} g l k) = then (gaps e h g) (gap e next l k)
+
+  -- the digits of a number
+  pub counted : {at v next v′ : ℕ} (f : ℕ → Mode) → Gathers f → at ≤ length s → Counts s at v next v′ → Goes s at (f v) next (f v′) []
+  counted {at} {v} f g h still = stay at (f v) h
+  counted f g h (digit {next = next} {v′ = v′} {d = d} c l e fits) = then (counted f g h c) (byte (f v′) (f (v′ * 10 + d)) (Digit d) [] next l e (g .moves v′ d ∙ more-fits f v′ d fits) (g .says v′ d))
+
+  pub exceeded : {at v : ℕ} (f : ℕ → Mode) → Gathers f → at ≤ length s → Exceeds s at v → Faults s at (f v) 10
+  exceeded f g h x = then-fault (counted f g h (x .counts)) (byte-bad (f (x .v′)) (Digit (x .d)) (x .next) (x .here) (x .is) (g .moves (x .v′) (x .d) ∙ more-over f (x .v′) (x .d) (x .large)))
+
+  -- a number from its first digit on
+  pub numbered : {at v next : ℕ} {m : Mode} {f : ℕ → Mode} → Leads m f → Gathers f → Whole s at v next → Goes s at m next (f v) []
+  numbered {at} {m = m} {f = f} l g w = then (byte m (f (w .d)) (Digit (w .d)) [] at (w .here) (w .is) (l .moves (w .d)) (l .says (w .d))) (counted f g (omega (arith, w .here)) (w .numbered .counts))
+
+  pub too-large : {at d : ℕ} {m : Mode} {f : ℕ → Mode} → Leads m f → Gathers f → at < length s → kindOf (getD s at 0) ≡ Digit d → Exceeds s (at + 1) d → Faults s at m 10
+  too-large {at} {d} {m} {f} l g h e x = then-fault (byte m (f d) (Digit d) [] at h e (l .moves d) (l .says d)) (exceeded f g (omega arith) x)

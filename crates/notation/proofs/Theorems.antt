@@ -1,0 +1,48 @@
+-- The theorems about the notation: the grammar and the byte-at-a-time reading agree, and every text that is not right has one fault at one place.
+use Prim.Native.Nat.{ℕ}
+use mathlib.Core.Path.{_≡_, sym, ap, _∙_}
+use mathlib.Core.List.{List}
+use mathlib.Core.Logic.{_⊎_}
+use Rattle.notation.specs.Grammar.{Text, Said, bytes, says, deepest}
+use Rattle.notation.specs.FirstLine.{right, wrong, read}
+use Rattle.notation.specs.Right.{Right, Tells, Fault}
+use Rattle.notation.proofs.Agreement.{text-read}
+use Rattle.notation.proofs.TextTrees.{text-given, right-same}
+use Rattle.notation.proofs.TextPlaces.{fault-placed, same-place, same-fault, fault-wrong, decided}
+
+-- every right text is read to what it says
+pub right-is-read : (t : Text deepest) → read (bytes t) ≡ right (says t)
+unfolding read
+right-is-read t = text-read t
+
+-- whatever is read to an end is a right text that says so
+pub read-is-right : (s : List ℕ) (a : Said) → read s ≡ right a → Tells deepest s a
+unfolding read
+read-is-right s a h = text-given deepest s a h
+
+-- a text says one thing
+pub says-one-thing : (s : List ℕ) (a b : Said) → Tells deepest s a → Tells deepest s b → a ≡ b
+says-one-thing s a b p q = right-same (sym (reads p) ∙ reads q)
+  where
+    reads : {c : Said} → Tells deepest s c → read s ≡ right c
+    reads t = ap read (sym (t .text)) ∙ right-is-read (t .tree) ∙ ap right (t .saying)
+
+-- a text that is not read to an end has a fault of the reading's number, at the first byte after which no text could be right
+pub wrong-has-fault : (s : List ℕ) (k : ℕ) → read s ≡ wrong k → Fault s k
+unfolding read
+wrong-has-fault s k h = fault-placed s k h
+
+-- then it is not right
+pub fault-is-wrong : (s : List ℕ) (k : ℕ) → Fault s k → Right deepest s → ⊥
+fault-is-wrong s k p = fault-wrong p
+
+-- the fault of a text is one: one place, one number
+pub one-place : (s : List ℕ) (j k : ℕ) (p : Fault s j) (q : Fault s k) → p .at ≡ q .at
+one-place s j k p q = same-place p q
+
+pub one-number : (s : List ℕ) (j k : ℕ) → Fault s j → Fault s k → j ≡ k
+one-number s j k p q = same-fault p q
+
+-- so every text is right, or has a fault 10, or has a fault 11, and no two of these
+pub right-or-fault : (s : List ℕ) → Right deepest s ⊎ (Fault s 10 ⊎ Fault s 11)
+right-or-fault s = decided s

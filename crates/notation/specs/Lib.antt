@@ -1,0 +1,9 @@
+pub mod Bytes
+pub mod Grammar
+pub mod Scan
+pub mod FirstLine
+pub mod Right
+pub mod Readers
+pub mod Stretches
+pub mod Groups
+pub mod Carrying

@@ -1,0 +1,250 @@
+// The readers of the schedule text: bytes, numbers, the first line, the beginning of an item and what follows it.
+// All are inner: the text run is made of them.
+ghost use mathlib.Core.Path.{_≡_};
+ghost use Prim.Native.Nat.{_≤_};
+ghost use lib.ListN.{length};
+ghost use Rattle.notation.specs.Bytes.{kindOf, entryOf};
+ghost use Rattle.notation.specs.Grammar.{largest};
+ghost use Rattle.notation.specs.Readers.{NumberSays, NumberAtSays, FieldSays, HeaderSays, Skipped, Begins, Follows};
+
+// What a letter or a sign orders: `l`, `v`, `.` one step, `!` all steps until the call answers.
+pub enum Mark {
+    Ll,
+    Vl,
+    One,
+    All,
+}
+
+// What a byte is to the notation: a digit; a space or line feed; a mark; `s`; `(`; `)`; or none of these.
+pub enum Kind {
+    Digit(u64),
+    Gap,
+    Marked(Mark),
+    Offer,
+    Open,
+    Close,
+    Other,
+}
+
+// An entry of a schedule, with its process; StartSc also with the number that stands in all words.
+pub enum Entry {
+    StartLl(u64),
+    StartVl(u64),
+    StartSc(u64, u64),
+    Step(u64),
+    Finish(u64),
+}
+
+// A number and the place after it, or none.
+pub enum Digits {
+    Value(u64, usize),
+    NoNumber,
+}
+
+// The first line's N, W and initial number, and where the items begin.
+pub enum Header {
+    First(u64, u64, u64, usize),
+    NoFirst,
+}
+
+// An item that is no group, or a group's count; and the place after it, or after the `(`.
+pub enum Start {
+    Single(Entry, usize),
+    Group(u64, usize),
+    Wrong,
+}
+
+// What follows an item: a next one and its place, a `)` and the place after it, the text's end, or a stray byte.
+pub enum Follow {
+    Item(usize),
+    Shut(usize),
+    End,
+    Stray,
+}
+
+// What a byte is.
+pub fn class(b: u8) -> Kind
+    ensures { λ r. ⌜ r ≡ kindOf b ⌝ }
+{
+    match b {
+        48..=57 => Kind::Digit((b as u64) - 48),
+        10 => Kind::Gap,
+        32 => Kind::Gap,
+        33 => Kind::Marked(Mark::All),
+        40 => Kind::Open,
+        41 => Kind::Close,
+        46 => Kind::Marked(Mark::One),
+        108 => Kind::Marked(Mark::Ll),
+        115 => Kind::Offer,
+        118 => Kind::Marked(Mark::Vl),
+        _ => Kind::Other,
+    }
+}
+
+// What a mark orders of process p.
+pub fn entry_of(m: Mark, p: u64) -> Entry
+    ensures { λ r. ⌜ r ≡ entryOf m p ⌝ }
+{
+    match m {
+        Mark::Ll => Entry::StartLl(p),
+        Mark::Vl => Entry::StartVl(p),
+        Mark::One => Entry::Step(p),
+        Mark::All => Entry::Finish(p),
+    }
+}
+
+// The digits from a place on, after digits that make v.
+pub fn number(text: &[u8], at: usize, v: u64) -> Digits
+    requires { ⌜ (at ≤ length (now text)) × (v ≤ largest) ⌝ }
+    ensures { λ r. ⌜ NumberSays (now (text .entry)) at v r ⌝ }
+{
+    let mut next = at;
+    let mut value = v;
+    while next < text.len() {
+        let k = class(text[next]);
+        let Kind::Digit(d) = k else {
+            return Digits::Value(value, next);
+        };
+        let more = value * 10 + d;
+        if 4294967295 < more {
+            return Digits::NoNumber;
+        }
+        value = more;
+        next += 1;
+    }
+    Digits::Value(value, next)
+}
+
+// The number that begins at a place.
+pub fn number_at(text: &[u8], at: usize) -> Digits
+    requires { ⌜ at ≤ length (now text) ⌝ }
+    ensures { λ r. ⌜ NumberAtSays (now (text .entry)) at r ⌝ }
+{
+    if text.len() <= at {
+        return Digits::NoNumber;
+    }
+    let k = class(text[at]);
+    let Kind::Digit(d) = k else {
+        return Digits::NoNumber;
+    };
+    number(text, at + 1, d)
+}
+
+// A number and the one byte that ends it; the place given is after that byte.
+pub fn field(text: &[u8], at: usize, stop: u8) -> Digits
+    requires { ⌜ at ≤ length (now text) ⌝ }
+    ensures { λ r. ⌜ FieldSays (now (text .entry)) at stop r ⌝ }
+{
+    let got = number_at(text, at);
+    match got {
+        Digits::NoNumber => Digits::NoNumber,
+        Digits::Value(v, next) => {
+            if text.len() <= next {
+                return Digits::NoNumber;
+            }
+            if text[next] != stop {
+                return Digits::NoNumber;
+            }
+            Digits::Value(v, next + 1)
+        }
+    }
+}
+
+// The first line: N, W and the initial number, one space between, then a line feed.
+pub fn first_line(text: &[u8]) -> Header
+    ensures { λ r. ⌜ HeaderSays (now (text .entry)) r ⌝ }
+{
+    let first = field(text, 0, 32);
+    let Digits::Value(n, second) = first else {
+        return Header::NoFirst;
+    };
+    let middle = field(text, second, 32);
+    let Digits::Value(w, third) = middle else {
+        return Header::NoFirst;
+    };
+    let last = field(text, third, 10);
+    let Digits::Value(initial, items) = last else {
+        return Header::NoFirst;
+    };
+    Header::First(n, w, initial, items)
+}
+
+// The first byte from a place on that is no gap.
+pub fn skip(text: &[u8], at: usize) -> usize
+    requires { ⌜ at ≤ length (now text) ⌝ }
+    ensures { λ r. ⌜ Skipped (now (text .entry)) at r ⌝ }
+{
+    let mut next = at;
+    while next < text.len() {
+        let k = class(text[next]);
+        let Kind::Gap = k else {
+            return next;
+        };
+        next += 1;
+    }
+    next
+}
+
+// An item up to its end, or to the `(` of a group.
+pub fn begin(text: &[u8], at: usize) -> Start
+    requires { ⌜ at ≤ length (now text) ⌝ }
+    ensures { λ r. ⌜ Begins (now (text .entry)) at r ⌝ }
+{
+    let got = number_at(text, at);
+    match got {
+        Digits::NoNumber => Start::Wrong,
+        Digits::Value(v, next) => {
+            if text.len() <= next {
+                return Start::Wrong;
+            }
+            let sign = class(text[next]);
+            match sign {
+                Kind::Marked(m) => Start::Single(entry_of(m, v), next + 1),
+                Kind::Offer => {
+                    let word = number_at(text, next + 1);
+                    match word {
+                        Digits::NoNumber => Start::Wrong,
+                        Digits::Value(k, end) => Start::Single(Entry::StartSc(v, k), end),
+                    }
+                }
+                Kind::Open => {
+                    if v == 0 {
+                        return Start::Wrong;
+                    }
+                    if 255 < v {
+                        return Start::Wrong;
+                    }
+                    Start::Group(v, next + 1)
+                }
+                _ => Start::Wrong,
+            }
+        }
+    }
+}
+
+// What follows an item.
+pub fn after(text: &[u8], at: usize) -> Follow
+    requires { ⌜ at ≤ length (now text) ⌝ }
+    ensures { λ r. ⌜ Follows (now (text .entry)) at r ⌝ }
+{
+    if text.len() <= at {
+        return Follow::End;
+    }
+    let k = class(text[at]);
+    match k {
+        Kind::Close => Follow::Shut(at + 1),
+        Kind::Gap => {
+            let next = skip(text, at + 1);
+            if text.len() <= next {
+                return Follow::End;
+            }
+            let sign = class(text[next]);
+            match sign {
+                Kind::Close => Follow::Shut(next + 1),
+                Kind::Digit(_) => Follow::Item(next),
+                _ => Follow::Stray,
+            }
+        }
+        _ => Follow::Stray,
+    }
+}

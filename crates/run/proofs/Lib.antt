@@ -1,0 +1,17 @@
+pub mod RecordLaws
+pub mod WordLaws
+pub mod ObeyLaws
+pub mod CommandLaws
+pub mod DecisionLaws
+pub mod SingleLaws
+pub mod FinishLaws
+pub mod ReadingLaws
+pub mod AnswerLaws
+pub mod LastLaws
+pub mod SetUpLaws
+pub mod FaultLaws
+pub mod StartLaws
+pub mod RunLaws
+pub mod Runs
+pub mod CommandFrame
+pub mod TextFrame

@@ -1,0 +1,94 @@
+-- What an obeyed order leaves: N and W stay, as many words are lent, no word has more than ten digits, and the reply is no refusal
+-- and has a count of one step more.
+use mathlib.Core.Path.{_≡_, refl}
+use mathlib.Core.Bool.{Bool, true, false, cond}
+use mathlib.Core.List.{List}
+use Prim.Native.Nat.{ℕ, _+_, _*_, _<_}
+use native.Mathlib.Omega.{arith}
+use lib.Dec.{ltb}
+use lib.ListN.{length, getD, length-set}
+use lib.Seq.{length-sets}
+use Rattle.model.specs.declared.ProcessNumber.{ProcessNumber}
+use Rattle.model.specs.declared.Bench.{Bench}
+use Rattle.model.specs.declared.Process.{Process}
+use Rattle.model.specs.declared.Order.{Order}
+use Rattle.model.specs.declared.Order.the-variants.{StartLl, StartSc, StartVl, Step}
+use Rattle.model.specs.declared.Moved.{Moved}
+use Rattle.model.specs.declared.Reply.{Reply}
+use Rattle.model.specs.declared.Reply.the-variants.{Accepted, LlAnswered, ScAnswered, VlAnswered}
+use Rattle.model.specs.Words.{returnWord, offerWord, copied}
+use Rattle.model.specs.Points.{Point, pointOf, idle, line1, line2, line3, line4, line5, line6, line7, line7copy, line8, line9, line10, line11, line12, line12valid, line13, line14, line14valid, line15, line17, line18, line19, line23}
+use Rattle.model.specs.Machine.{stepAt, obey}
+use Rattle.machine.specs.Ranges.{Ready}
+use Rattle.machine.proofs.WordLaws.{within}
+use Rattle.run.proofs.WordLaws.{Below, Every, below-set, below-sets}
+
+-- a reply that is no refusal, with the count k if it answers
+pub data Plain (k : ℕ) : Reply → Type 0 where
+  accepted : Plain k Accepted
+  ll : Plain k (LlAnswered k)
+  sc : {t : Bool} → Plain k (ScAnswered t k)
+  vl : {t : Bool} → Plain k (VlAnswered t k)
+
+pub record Obeyed (b : Bench) (q : Process) (ws : List ℕ) (out : Moved × List ℕ) : Type 0 where
+  pub n : out .0 .bench .n ≡ b .n
+  pub w : out .0 .bench .w ≡ b .w
+  pub words : length (out .1) ≡ length ws
+  pub small : Below (5 * b .n * b .w) ws → Below (5 * b .n * b .w) (out .1)
+  pub reply : Plain (q .count + 1) (out .0 .reply)
+
+-- a step that leaves the words
+quiet : {b : Bench} {q : Process} {ws : List ℕ} (out : Moved) → out .bench .n ≡ b .n → out .bench .w ≡ b .w → Plain (q .count + 1) (out .reply) → Obeyed b q ws (out, ws)
+quiet out n w r = record { n = n; w = w; words = refl; small = λ s. s; reply = r }
+
+-- and one that copies a word
+moves : {b : Bench} {q : Process} {ws : List ℕ} (out : Moved) (from to : ℕ) → out .bench .n ≡ b .n → out .bench .w ≡ b .w → from < 5 * b .n * b .w → Plain (q .count + 1) (out .reply) → Obeyed b q ws (out, copied ws from to)
+moves {ws = ws} out from to n w h r = record { n = n; w = w; words = length-set ws to (getD ws from 0); small = λ s. below-set to (getD ws from 0) (s .at from h) s; reply = r }
+
+-- line 11 answers with its last word
+last-word : (t : Bool) (k : ℕ) → Plain k (cond t Accepted (LlAnswered k))
+last-word true k = accepted
+last-word false k = ll
+
+module _ {b : Bench} {q : Process} {p : ProcessNumber} {ws : List ℕ} (r : Ready b q p ws) where
+  buffer-in : (f : ℕ) → f < 3 * b .n → f * b .w + q .word < 5 * b .n * b .w
+  buffer-in f h = within {b = f} {c = 5 * b .n} (omega arith) (r .word)
+
+  return-in : returnWord (b .n) (b .w) p (q .word) < 5 * b .n * b .w
+  return-in = let l = r .lent in within {b = 3 * b .n + p .0} {c = 5 * b .n} (omega (arith, l .process)) (r .word)
+
+  offer-in : offerWord (b .n) (b .w) p (q .word) < 5 * b .n * b .w
+  offer-in = let l = r .lent in within {b = 4 * b .n + p .0} {c = 5 * b .n} (omega (arith, l .process)) (r .word)
+
+  step-obeyed : (y : Point) → Obeyed b q ws (stepAt y p b q ws)
+  unfolding stepAt
+  step-obeyed idle = quiet _ refl refl accepted
+  step-obeyed line1 = quiet _ refl refl accepted
+  step-obeyed line2 = quiet _ refl refl accepted
+  step-obeyed line3 = moves _ _ _ refl refl (buffer-in (q .x .buf .0) (r .x-buf)) accepted
+  step-obeyed line4 = quiet _ refl refl accepted
+  step-obeyed line5 = quiet _ refl refl accepted
+  step-obeyed line6 = moves _ _ _ refl refl (buffer-in (q .x .buf .0) (r .x-buf)) accepted
+  step-obeyed line7 = quiet _ refl refl accepted
+  step-obeyed line7copy = moves _ _ _ refl refl (buffer-in (q .b .0) (r .b-buf)) accepted
+  step-obeyed line8 = quiet _ refl refl accepted
+  step-obeyed line9 = quiet _ refl refl accepted
+  step-obeyed line10 = quiet _ refl refl accepted
+  step-obeyed line11 = moves _ _ _ refl refl return-in (last-word (ltb (q .word + 1) (b .w)) (q .count + 1))
+  step-obeyed line12 = quiet _ refl refl accepted
+  step-obeyed line12valid = quiet _ refl refl accepted
+  step-obeyed line13 = quiet _ refl refl accepted
+  step-obeyed line14 = quiet _ refl refl accepted
+  step-obeyed line14valid = quiet _ refl refl accepted
+  step-obeyed line15 = quiet _ refl refl accepted
+  step-obeyed line17 = moves _ _ _ refl refl offer-in accepted
+  step-obeyed line18 = quiet _ refl refl accepted
+  step-obeyed line19 = quiet _ refl refl sc
+  step-obeyed line23 = quiet _ refl refl vl
+
+  pub order-obeyed : (o : Order) (v : List ℕ) → Every v → Obeyed b q ws (obey o p v b q ws)
+  unfolding obey
+  order-obeyed StartLl v e = quiet _ refl refl accepted
+  order-obeyed StartSc v e = record { n = refl; w = refl; words = length-sets ws (offerWord (b .n) (b .w) p 0) v; small = λ s. below-sets ws (offerWord (b .n) (b .w) p 0) v e s; reply = accepted }
+  order-obeyed StartVl v e = quiet _ refl refl accepted
+  order-obeyed Step v e = step-obeyed (pointOf (q .line))

@@ -1,0 +1,162 @@
+-- The parts of a whole text run put together.
+use mathlib.Core.Path.{_≡_, sym, ap, subst, _∙_}
+use mathlib.Core.Bool.{cond}
+use mathlib.Core.List.{List}
+use Prim.Native.Nat.{ℕ, _≤_, _<_}
+use native.Mathlib.Omega.{arith}
+use lib.Dec.{eqb}
+use lib.ListN.{length, take, replicate}
+use borrow.Author.Tests.{eq-eqb, ne-eqb, lt-ltb, le-ltb}
+use Rattle.model.specs.declared.Bench.{Bench}
+use Rattle.model.specs.declared.Process.{Process}
+use Rattle.model.specs.Records.{noProcess}
+use Rattle.model.specs.Machine.{Memory}
+use Rattle.model.specs.SetUp.{atSetUp, setUpRefusal, setUp}
+use Rattle.machine.specs.declared.records.Records.{Records}
+use Rattle.machine.specs.Gathered.{gathered}
+use Rattle.machine.specs.Lengths.{setUpNumber}
+use Rattle.notation.specs.declared.Entry.{Entry}
+use Rattle.notation.specs.Grammar.{largest, deepest}
+use Rattle.notation.specs.Carrying.{carries}
+use Rattle.notation.specs.Readers.{Headed, NotHeaded}
+use Rattle.notation.specs.FirstLine.{whole, read}
+use Rattle.notation.specs.Groups.{ItemsEnded, ItemsClosed, ItemsBroken}
+use Rattle.notation.proofs.HeaderLaws.{headed-reads}
+use Rattle.notation.proofs.GroupLaws.{not-headed}
+use Rattle.run.specs.declared.state.Run.{Run}
+use Rattle.run.specs.declared.items.Items.{Items}
+use Rattle.run.specs.declared.last_line.Whole.{Whole}
+use Rattle.run.specs.declared.text_run.First.{First}
+use Rattle.run.specs.TextRun.{Progress, Ended, ended, begun, carry, carryAll, started, carriedOut, roomNeeded, longestText, runText}
+use Rattle.run.specs.Held.{Held, held, progress, Filled, Sound, Kept}
+use Rattle.run.specs.Reading.{ItemsSay}
+use Rattle.run.specs.Whole.{freshRun, closed, Closable, memoryOf, fewOf, Answers, Lending, Right, refusedWith, saysAfter}
+use Rattle.run.proofs.RecordLaws.{gathered-filled, filled-gathered, few-small, few-take, filled-few, few-filled}
+use Rattle.run.proofs.ReadingLaws.{nothing-read, all-ran, carries-all}
+use Rattle.run.proofs.StartLaws.{set-up-same, first, begun-same}
+
+-- a sound run has room for its last line
+pub sound-closable : {len : ℕ} {h : Held} → Sound len h → Closable (h .run) (h .listing)
+sound-closable s = record { entries = s .entries; stop = s .stop; room = s .room }
+
+-- with its last line a run is ended
+pub closed-answers : {len : ℕ} {list′ : List ℕ} {out : Whole} (r : Run) (ws list : List ℕ) → Filled len (r .all .list) → _≡_ {A = Whole × List ℕ} (out, list′) (closed r list) → Answers len out ws list′ (ended (progress len (held r ws list)))
+closed-answers {len} r ws list f e = record {
+  same = ap (λ (x : Whole × List ℕ). record { number = x .0 .number; entries = x .0 .entries; written = x .0 .written; memory = memoryOf (x .0 .bench) (x .0 .all) len ws; listing = x .1 }) e;
+  filled = subst (λ (x : Records). Filled len (x .list)) (sym (ap (λ (x : Whole × List ℕ). x .0 .all) e)) f;
+}
+
+pub answers-as : {len : ℕ} {out : Whole} {ws list : List ℕ} {a b : Ended} → Answers len out ws list a → a ≡ b → Answers len out ws list b
+answers-as x e = record { same = x .same ∙ e; filled = x .filled }
+
+-- a set-up that is refused, and one that is not
+not-begun : (k : ℕ) (F : Memory → Ended) (x m : Memory) (e : Ended) → (k ≡ 0 → ⊥) → cond (eqb k 0) (F (cond (eqb k 0) x m)) e ≡ e
+not-begun k F x m e n = simp (ne-eqb k 0 n)
+
+is-begun : (k : ℕ) (F : Memory → Ended) (x m : Memory) (e : Ended) → k ≡ 0 → cond (eqb k 0) (F (cond (eqb k 0) x m)) e ≡ F x
+is-begun k F x m e z = simp (eq-eqb k 0 z)
+
+-- a text with a fault
+module _ (s : List ℕ) (f : First) (m : Memory) (list : List ℕ) where
+  pub broken-says : {k : ℕ} → ItemsBroken s (f .items) deepest k → refusedWith k m list ≡ saysAfter s f m list
+  unfolding whole
+  broken-says i = sym (ap (λ v. carriedOut m list (whole (f .n) (f .w) (f .initial) v)) (i .same))
+
+  pub closed-says : {next : ℕ} {es : List Entry} → ItemsClosed s (f .items) deepest next es → refusedWith 10 m list ≡ saysAfter s f m list
+  unfolding whole
+  closed-says i = sym (ap (λ v. carriedOut m list (whole (f .n) (f .w) (f .initial) v)) (i .same))
+
+  -- a right text, by its set-up
+  right-says : {es : List Entry} → ItemsEnded s (f .items) deepest es → started m list (record { n = f .n; w = f .w; initial = f .initial; entries = es }) (setUp m (f .n) (f .w) (replicate (f .w) (f .initial))) ≡ saysAfter s f m list
+  unfolding whole
+  right-says i = sym (ap (λ v. carriedOut m list (whole (f .n) (f .w) (f .initial) v)) (i .same))
+
+  abbrev number : ℕ
+  number = setUpRefusal m (f .n) (f .w) (replicate (f .w) (f .initial))
+
+  refused-says : Right s f → (number ≡ 0 → ⊥) → refusedWith number m list ≡ saysAfter s f m list
+  unfolding setUp
+  refused-says r n = sym (not-begun number (λ x. ended (carryAll (r .says) (begun x list 0))) (atSetUp m (f .n) (f .w) (replicate (f .w) (f .initial))) m (refusedWith number m list) n) ∙ right-says (r .ended)
+
+  begun-says : (r : Right s f) → number ≡ 0 → ended (carryAll (r .says) (begun (atSetUp m (f .n) (f .w) (replicate (f .w) (f .initial))) list 0)) ≡ saysAfter s f m list
+  unfolding setUp
+  begun-says r z = sym (is-begun number (λ x. ended (carryAll (r .says) (begun x list 0))) (atSetUp m (f .n) (f .w) (replicate (f .w) (f .initial))) m (refusedWith number m list) z) ∙ right-says (r .ended)
+
+-- what the second reading leaves
+pub record Carried (len : ℕ) (h h′ : Held) (e : Ended) : Type 0 where
+  pub kept : Kept len h h′
+  pub same : ended (progress len h′) ≡ e
+
+-- "then 1, 2, 3, then the set-up, then the entries"
+module _ {len : ℕ} {all : Records} {list : List ℕ} (s : List ℕ) (f : First) (b : Bench) (ws : List ℕ) (x : Lending len all list) (r : Right s f) {k : ℕ} (e : k ≡ setUpNumber (f .n) (f .w) len (length ws) (f .w)) where
+  abbrev lent : Memory
+  lent = memoryOf b all len ws
+
+  same-number : k ≡ setUpRefusal lent (f .n) (f .w) (replicate (f .w) (f .initial))
+  same-number = e ∙ set-up-same b all len ws (f .n) (f .w) (f .initial) (x .few) (x .filled)
+
+  pub refused-start : (k ≡ 0 → ⊥) → refusedWith k lent list ≡ saysAfter s f lent list
+  refused-start n = ap (λ (j : ℕ). refusedWith j lent list) same-number ∙ refused-says s f lent list r (λ z. n (same-number ∙ z))
+
+  pub carried-start : {h h′ : Held} (small : f .initial ≤ largest) (z : k ≡ 0) (o : Items) → h ≡ first b ws x (f .n) (f .w) (f .initial) small (sym e ∙ z) → ItemsSay s (f .items) deepest len h h′ o → Carried len h h′ (saysAfter s f lent list)
+  carried-start {h} {h′} small z o q i =
+      let y = all-ran o (r .ended) i in
+      record {
+        kept = y .kept;
+        same = ap ended (y .ran .same ∙ ap (λ (fs : List Entry). carries carry fs (progress len h)) (y .read) ∙ carries-all (r .says) (progress len h) ∙ ap (λ (g : Held). carryAll (r .says) (progress len g)) q
+            ∙ ap (carryAll (r .says)) (begun-same b ws x (f .n) (f .w) (f .initial) small (sym e ∙ z))) ∙ begun-says s f lent list r (sym same-number ∙ z);
+      }
+
+-- the first reading leaves all as it was
+pub unread : {s : List ℕ} {at d len : ℕ} {b : Bench} {all : Records} {h h′ : Held} (o : Items) → h .run ≡ freshRun b all 10 → ItemsSay s at d len h h′ o → (h′ .words ≡ h .words) × (h′ .listing ≡ h .listing)
+unread {h = h} o e i =
+    let n : h .run .stop ≡ 0 → ⊥ = λ z. omega (arith, ap (λ (r : Run). r .stop) e, z) in
+    let y = nothing-read o n i in
+    (ap (λ (p : Progress). p .memory .words) y, ap (λ (p : Progress). p .listing) y)
+
+pub lending-same : {len : ℕ} {all : Records} {list list′ : List ℕ} → list′ ≡ list → Lending len all list → Lending len all list′
+lending-same {len} {all} e x = subst (Lending len all) (sym e) x
+
+pub moved : (g : Memory → List ℕ → Ended) (b : Bench) (all : Records) (len : ℕ) {ws ws′ list list′ : List ℕ} → ws′ ≡ ws → list′ ≡ list → g (memoryOf b all len ws′) list′ ≡ g (memoryOf b all len ws) list
+moved g b all len e q = rw (e, q)
+
+-- the whole run
+pub lending-few : {k : ℕ} {all : Records} {list : List ℕ} (len : ℕ) → k ≡ fewOf len → all ≡ gathered (take len (all .list)) noProcess 16 → roomNeeded ≤ length list → Lending k all list
+lending-few {all = all} len e g l = rw e (record { few = few-small len; filled = filled-few (gathered-filled len all g); room = l })
+
+module _ (m : Memory) (text list : List ℕ) where
+  pub run-14 : length list < roomNeeded → record { number = 14; entries = 0; written = 0; memory = m; listing = list } ≡ runText m text list
+  unfolding runText
+  run-14 l = simp (lt-ltb (length list) roomNeeded l)
+
+  module _ (l : roomNeeded ≤ length list) where
+    pub run-12 : longestText < length text → refusedWith 12 m list ≡ runText m text list
+    unfolding runText
+    run-12 h = simp (le-ltb (length list) roomNeeded l, lt-ltb longestText (length text) h)
+
+    run-read : length text ≤ longestText → carriedOut m list (read text) ≡ runText m text list
+    unfolding runText
+    run-read h = simp (le-ltb (length list) roomNeeded l, le-ltb longestText (length text) h)
+
+    pub run-not-headed : length text ≤ longestText → NotHeaded text → refusedWith 10 m list ≡ runText m text list
+    run-not-headed h n = sym (ap (carriedOut m list) (not-headed n)) ∙ run-read h
+
+    pub run-headed : (f : First) → length text ≤ longestText → Headed text (f .n) (f .w) (f .initial) (f .items) → saysAfter text f m list ≡ runText m text list
+    unfolding read
+    run-headed f h x = sym (ap (carriedOut m list) (headed-reads x deepest)) ∙ run-read h
+
+-- over all lent records
+pub answered : {k : ℕ} {out : Whole} {ws′ list′ : List ℕ} (len : ℕ) (b : Bench) (all : Records) (ws : List ℕ) (g : Memory → Ended) → k ≡ fewOf len → all ≡ gathered (take len (all .list)) noProcess 16
+    → Answers k out ws′ list′ (g (memoryOf b all k ws))
+    → (_≡_ {A = Ended} (record { number = out .number; entries = out .entries; written = out .written; memory = memoryOf (out .bench) (out .all) len ws′; listing = list′ }) (g (memoryOf b all len ws))) × (out .all ≡ gathered (take len (out .all .list)) noProcess 16)
+answered {k} {out} {ws′} {list′} len b all ws g e q x =
+    let f : Filled (fewOf len) (out .all .list) = subst (λ (j : ℕ). Filled j (out .all .list)) e (x .filled) in
+    let a : take k (all .list) ≡ take len (all .list) = ap (λ (j : ℕ). take j (all .list)) e ∙ few-take len (all .list) (gathered-filled len all q .sixteen) in
+    let o : take len (out .all .list) ≡ take k (out .all .list) = sym (ap (λ (j : ℕ). take j (out .all .list)) e ∙ few-take len (out .all .list) (f .sixteen)) in (
+      ap (λ (l : List Process). record { number = out .number; entries = out .entries; written = out .written; memory = record { bench = out .bench; records = l; words = ws′ }; listing = list′ }) o ∙ x .same
+          ∙ ap (λ (l : List Process). g (record { bench = b; records = l; words = ws })) a,
+      filled-gathered len (out .all) (few-filled f),
+    )
+
+pub ended-as : {a b c : Ended} {P : Type 0} → (a ≡ b) × P → b ≡ c → (a ≡ c) × P
+ended-as x e = (x .0 ∙ e, x .1)

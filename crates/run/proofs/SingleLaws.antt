@@ -1,0 +1,187 @@
+-- An entry that is one command, on a run that the code holds.
+use mathlib.Core.Path.{_≡_, refl, sym, ap, subst, _∙_}
+use mathlib.Core.List.{List}
+use Prim.Native.Nat.{ℕ, _+_, _-_, _*_, _≤_, _<_}
+use native.Mathlib.Omega.{arith}
+use lib.ListN.{length, set, take, replicate}
+use lib.Seq.{take-set-lt}
+use borrow.Author.Tests.{eq-eqb, ne-eqb, le-leb, lt-leb, lt-ltb, le-ltb}
+use Rattle.model.specs.Replies.{numberOf}
+use Rattle.model.specs.declared.Bench.{Bench}
+use Rattle.model.specs.declared.Process.{Process}
+use Rattle.model.specs.declared.Order.{Order}
+use Rattle.model.specs.declared.Reply.{Reply}
+use Rattle.model.specs.declared.Reply.the-variants.{Refused, Accepted, LlAnswered, ScAnswered, VlAnswered}
+use Rattle.model.specs.Machine.{Memory}
+use Rattle.model.specs.Command.{command}
+use Rattle.machine.specs.declared.decision.Outcome.{Outcome}
+use Rattle.machine.specs.Decision.{decided}
+use Rattle.machine.specs.Gathered.{storedBack}
+use Rattle.notation.specs.declared.Entry.{Entry}
+use Rattle.notation.specs.declared.Entry.the-variants.{StartLl, StartVl, StartSc, Step, Finish}
+use Rattle.listing.specs.Writing.{Wrote}
+use Rattle.listing.proofs.WritingLaws.{kept}
+use Rattle.run.specs.TextRun.{mostEntries, roomNeeded, lineOf, counted, replied, processOf, orderOf, valueOf, commanded, single}
+use Rattle.run.specs.Held.{Held, held, progress, stoppedRun, Sound, Ready, Kept, Becomes, Small, offeredBy, givenBy, answerLine, Listable}
+use Rattle.run.proofs.WordLaws.{Below, Every, every-replicate, every-none, take-replicate}
+use Rattle.run.proofs.RecordLaws.{filled-set}
+use Rattle.run.proofs.CommandLaws.{Decides, decides, decided-command}
+use Rattle.run.proofs.DecisionLaws.{Done, done, unchanged}
+
+-- the value that the code lends is the entry's
+pub given-small : (e : Entry) (w : ℕ) → w ≤ 64 → givenBy w e ≤ 64
+given-small (StartLl p) w h = omega arith
+given-small (StartVl p) w h = omega arith
+given-small (StartSc p k) w h = h
+given-small (Step p) w h = omega arith
+given-small (Finish p) w h = omega arith
+
+pub value-same : (e : Entry) (w : ℕ) → w ≤ 64 → take (givenBy w e) (replicate 64 (offeredBy e)) ≡ valueOf w e
+value-same (StartLl p) w h = refl
+value-same (StartVl p) w h = refl
+value-same (StartSc p k) w h = take-replicate w 64 k h
+value-same (Step p) w h = refl
+value-same (Finish p) w h = refl
+
+-- and so the code decides what the entry orders
+pub command-decided : (e : Entry) (b : Bench) (list : List Process) (len : ℕ) (ws : List ℕ) {x : Outcome × List ℕ} {p : ℕ} {o : Order} {g k : ℕ} {value : List ℕ} → b .w ≤ 64
+    → p ≡ processOf e → o ≡ orderOf e → g ≡ givenBy (b .w) e → k ≡ offeredBy e → value ≡ replicate 64 k
+    → x ≡ decided b list len p o (take g value) ws → x ≡ decided b list len (processOf e) (orderOf e) (valueOf (b .w) e) ws
+command-decided e b list len ws {x} {p} {o} {g} {k} {value} h ep eo eg ek ev d =
+    let v : take g value ≡ valueOf (b .w) e = ap (take g) ev ∙ ap (λ (j : ℕ). take g (replicate 64 j)) ek ∙ ap (λ (j : ℕ). take j (replicate 64 (offeredBy e))) eg ∙ value-same e (b .w) h in
+    d ∙ ap (λ (j : ℕ). decided b list len j o (take g value) ws) ep ∙ ap (λ (y : Order). decided b list len (processOf e) y (take g value) ws) eo ∙ ap (λ (y : List ℕ). decided b list len (processOf e) (orderOf e) y ws) v
+
+value-every : (e : Entry) (w : ℕ) → Small e → Every (valueOf w e)
+value-every (StartLl p) w s = every-none
+value-every (StartVl p) w s = every-none
+value-every (StartSc p k) w s = every-replicate w k (s .1)
+value-every (Step p) w s = every-none
+value-every (Finish p) w s = every-none
+
+line-same : (m : Memory) (p : ℕ) (r : Reply) → answerLine (m .bench .n) (m .bench .w) (m .words) p r ≡ lineOf m p r
+line-same m p (Refused c) = refl
+line-same m p Accepted = refl
+line-same m p (LlAnswered k) = refl
+line-same m p (ScAnswered t k) = refl
+line-same m p (VlAnswered t k) = refl
+
+-- a run that stops stays sound
+pub stops : {len : ℕ} {h : Held} (k : ℕ) → (k ≡ 0 → ⊥) → k ≤ 15 → Sound len h → Kept len h (held (stoppedRun (h .run) k) (h .words) (h .listing))
+stops k n l s = record {
+  sound = record { few = s .few; filled = s .filled; entries = s .entries; stop = l; room = s .room; going = λ z. absurd (n z) };
+  words = refl;
+  listing = refl;
+}
+
+pub stays : {len : ℕ} {h : Held} → Sound len h → Kept len h h
+stays s = record { sound = s; words = refl; listing = refl }
+
+module _ {len : ℕ} {h : Held} (e : Entry) (out : Outcome) (ws : List ℕ) (small : Small e) (s : Sound len h) (r : Ready h)
+    (d : _≡_ {A = Outcome × List ℕ} (out, ws) (decided (h .run .bench) (h .run .all .list) len (processOf e) (orderOf e) (valueOf (h .run .bench .w) e) (h .words))) where
+  abbrev m : Memory
+  m = progress len h .memory
+
+  abbrev v : List ℕ
+  v = valueOf (h .run .bench .w) e
+
+  cases : Decides (h .run .bench) (h .run .all .list) len (processOf e) (orderOf e) v (h .words) (out, ws)
+  cases = subst (Decides (h .run .bench) (h .run .all .list) len (processOf e) (orderOf e) v (h .words)) (sym d)
+      (decides (h .run .bench) (h .run .all .list) len (processOf e) (orderOf e) v (h .words) (s .filled .sixteen) (value-every e (h .run .bench .w) small))
+
+  stored : storedBack (take len (h .run .all .list)) (out, ws) ≡ command m (processOf e) (orderOf e) v
+  stored = ap (storedBack (take len (h .run .all .list))) d ∙ decided-command (h .run .bench) (h .run .all .list) len (processOf e) (orderOf e) v (h .words) (s .few) (s .filled)
+
+  -- refused: the run stops, and nothing changes
+  pub refused-becomes : (numberOf (out .reply) ≡ 0 → ⊥) → Becomes len (commanded e) h (held (stoppedRun (h .run) (numberOf (out .reply))) ws (h .listing))
+  refused-becomes n =
+      let u = unchanged (h .run .bench) (h .run .all .list) len (processOf e) (orderOf e) v (h .words) (s .filled .sixteen) cases n in
+      rw (u .words) (record {
+        same = sym (ap (replied (progress len h) (processOf e)) (sym stored) ∙ simp (ne-eqb (numberOf (out .reply)) 0 n));
+        kept = stops (numberOf (out .reply)) n (u .few) s;
+      })
+
+  module _ (z : numberOf (out .reply) ≡ 0) where
+    did : Done (h .run .bench) (h .run .all .list) len (processOf e) (orderOf e) v (h .words) (out, ws)
+    did = done (h .run .bench) (h .run .all .list) len (processOf e) (orderOf e) v (h .words) (s .filled .sixteen) cases z
+
+    below : Below (5 * h .run .bench .n * h .run .bench .w) (h .words)
+    below = record { at = s .going (r .goes) .small }
+
+    pub place-small : out .at < 16
+    place-small = let x = did in omega (arith, x .place, x .process, x .n-most)
+
+    abbrev line : List ℕ
+    line = answerLine (out .bench .n) (out .bench .w) ws (processOf e) (out .reply)
+
+    pub listable : Listable (out .reply) (processOf e) (out .bench .n) (out .bench .w) ws (h .listing) (h .run .written)
+    listable = let x = did in record {
+      process = x .process;
+      n-most = x .n-most;
+      w-most = x .w-most;
+      lent = x .lent;
+      room = record { fits = omega (arith, x .line below, r .room) };
+    }
+
+    -- obeyed: one entry more, with its line
+    module _ (list : List ℕ) (next : ℕ) (w : Wrote (h .listing) (h .run .written) line list next) where
+      abbrev after : Held
+      after = held (record { bench = out .bench; all = record { list = set (h .run .all .list) (out .at) (out .process) }; written = next; entries = h .run .entries + 1; stop = 0 }) ws list
+
+      lent-place : out .at < len
+      lent-place = let x = did in omega (arith, x .place, x .process, x .records)
+
+      abbrev left : Memory
+      left = record { bench = out .bench; records = set (take len (h .run .all .list)) (out .at) (out .process); words = ws }
+
+      after-same : progress len after ≡ counted (progress len h) left (lineOf left (processOf e) (out .reply))
+      after-same =
+          let t : take len (set (h .run .all .list) (out .at) (out .process)) ≡ set (take len (h .run .all .list)) (out .at) (out .process) = take-set-lt len (h .run .all .list) (out .at) (out .process) lent-place in
+          let l : line ≡ lineOf left (processOf e) (out .reply) = line-same left (processOf e) (out .reply) in
+          let p = w .place in
+          let q = w .list in
+          rw (t, p, q, l)
+
+      pub answered-becomes : Becomes len (commanded e) h after
+      answered-becomes = let x = did in record {
+        same = after-same ∙ sym (ap (replied (progress len h) (processOf e)) (sym stored) ∙ simp (eq-eqb (numberOf (out .reply)) 0 z));
+        kept = record {
+          sound = record {
+            few = s .few;
+            filled = filled-set (out .at) (out .process) lent-place (s .filled);
+            entries = omega (arith, r .entries);
+            stop = omega arith;
+            room = omega (arith, w .place, x .line below, r .room, kept w);
+            going = λ y. record { width = x .w-most; small = x .small below .at };
+          };
+          words = x .words;
+          listing = kept w;
+        };
+      }
+
+-- "before each entry 12, then 14"
+module _ {len : ℕ} {h : Held} (e : Entry) (s : Sound len h) where
+  pub single-stopped : (h .run .stop ≡ 0 → ⊥) → Becomes len (single e) h h
+  unfolding single
+  single-stopped n = record { same = simp (ne-eqb (h .run .stop) 0 n); kept = stays s }
+
+  pub single-12 : h .run .stop ≡ 0 → mostEntries ≤ h .run .entries → Becomes len (single e) h (held (stoppedRun (h .run) 12) (h .words) (h .listing))
+  unfolding single
+  single-12 z m = record { same = simp (eq-eqb (h .run .stop) 0 z, le-leb mostEntries (h .run .entries) m); kept = stops 12 (λ y. omega arith) (omega arith) s }
+
+  module _ (z : h .run .stop ≡ 0) (m : h .run .entries < mostEntries) where
+    pub single-14 : length (h .listing) - h .run .written < roomNeeded → Becomes len (single e) h (held (stoppedRun (h .run) 14) (h .words) (h .listing))
+    unfolding single
+    single-14 l = record {
+      same = simp (eq-eqb (h .run .stop) 0 z, lt-leb mostEntries (h .run .entries) m, lt-ltb (length (h .listing) - h .run .written) roomNeeded l);
+      kept = stops 14 (λ y. omega arith) (omega arith) s;
+    }
+
+    pub single-ready : roomNeeded ≤ length (h .listing) - h .run .written → Ready h
+    single-ready l = record { goes = z; entries = m; room = omega (arith, s .room) }
+
+    pub single-commanded : {h′ : Held} → roomNeeded ≤ length (h .listing) - h .run .written → Becomes len (commanded e) h h′ → Becomes len (single e) h h′
+    unfolding single
+    single-commanded l b = record {
+      same = b .same ∙ simp (eq-eqb (h .run .stop) 0 z, lt-leb mostEntries (h .run .entries) m, le-ltb (length (h .listing) - h .run .written) roomNeeded l);
+      kept = b .kept;
+    }

@@ -1,0 +1,117 @@
+-- The set-up of a text run: refused by its number, or done, with a sound run before its first entry.
+use mathlib.Core.Path.{_≡_, refl, sym, ap, _∙_}
+use mathlib.Core.Bool.{cond}
+use mathlib.Core.List.{List, [], _∷_, _++_, map}
+use Prim.Native.Nat.{ℕ, zero, suc, _+_, _-_, _*_, _≤_, _<_}
+use native.Mathlib.Omega.{arith}
+use lib.Dec.{ltb}
+use lib.ListN.{length, getD, set, take, drop, replicate, length-append, length-replicate, List·getD-append}
+use lib.Seq.{sets, sets-eq, take-set-lt}
+use borrow.Author.Tests.{ltb-false}
+use Rattle.model.specs.declared.Bench.{Bench}
+use Rattle.model.specs.declared.Process.{Process}
+use Rattle.model.specs.Refusals.{row1, row2}
+use Rattle.model.specs.SetUp.{numbers, processAtSetUp, recordsAtSetUp, wordsAtSetUp, benchAtSetUp, atSetUp, setUpRefusal}
+use Rattle.machine.specs.declared.records.Records.{Records}
+use Rattle.machine.specs.Lengths.{row3Lent, row8Always, setUpNumber, set-up-number}
+use Rattle.machine.specs.SetUpByValue.{Accepted}
+use Rattle.machine.proofs.RowLaws.{cleared, neither}
+use Rattle.machine.proofs.SetUpLaws.{first-row, set-up-fits}
+use Rattle.notation.specs.Grammar.{largest}
+use Rattle.run.specs.Held.{Held, held, progress, Filled, Sound}
+use Rattle.run.specs.TextRun.{begun}
+use Rattle.run.specs.Whole.{freshRun, memoryOf, Lending}
+use Rattle.run.specs.declared.state.Run.{Run}
+use Rattle.run.proofs.WordLaws.{Every, every-replicate, take-replicate}
+use Rattle.run.proofs.RecordLaws.{filled-set, lent-length}
+use Rattle.run.proofs.CommandLaws.{first-small}
+use Rattle.run.proofs.SetUpLaws.{mapped-length}
+
+pub number-small : (n w len words value : ℕ) → setUpNumber n w len words value ≤ 9
+unfolding setUpNumber
+number-small n w len words value = first-small (row1 n ∷ row2 w ∷ row3Lent n w len words ∷ row8Always w value ∷ []) refl
+
+-- row 3 leaves enough records
+records-lent : (n w len words value : ℕ) → setUpNumber n w len words value ≡ 0 → n ≤ len
+unfolding setUpNumber
+records-lent n w len words value e =
+    let r8 : ℕ = cond (row8Always w value .holds) 8 0 in
+    let r3 : ℕ = cond (row3Lent n w len words .holds) 3 r8 in
+    let r2 : ℕ = cond (row2 w .holds) 2 r3 in
+    let c1 = cleared (row1 n .holds) 0 r2 e in
+    let c2 = cleared (row2 w .holds) 1 r3 (c1 .1) in
+    let c3 = cleared (row3Lent n w len words .holds) 2 r8 (c2 .1) in
+    ltb-false len n (neither (ltb words (5 * n * w)) (ltb len n) (c3 .0) .1)
+
+-- the number that the code finds is the set-up's
+pub set-up-same : (b : Bench) (all : Records) (len : ℕ) (ws : List ℕ) (n w k : ℕ) → len ≤ 16 → Filled len (all .list)
+    → setUpNumber n w len (length ws) w ≡ setUpRefusal (memoryOf b all len ws) n w (replicate w k)
+set-up-same b all len ws n w k h f =
+    ap (λ (j : ℕ). setUpNumber n w j (length ws) w) (sym (lent-length h f)) ∙
+    ap (setUpNumber n w (length (take len (all .list))) (length ws)) (sym (length-replicate w k)) ∙
+    set-up-number (memoryOf b all len ws) n w (replicate w k)
+
+-- records stored in lent places
+filled-sets : {len : ℕ} (list : List Process) (i : ℕ) (vs : List Process) → i + length vs ≤ len → Filled len list → Filled len (sets list i vs)
+filled-sets list i [] h f = f
+filled-sets list i (q ∷ vs) h f = filled-sets (set list i q) (suc i) vs (omega arith) (filled-set i q (omega arith) f)
+
+take-sets : (len : ℕ) (list : List Process) (i : ℕ) (vs : List Process) → i + length vs ≤ len → take len (sets list i vs) ≡ sets (take len list) i vs
+take-sets len list i [] h = refl
+take-sets len list i (q ∷ vs) h = take-sets len (set list i q) (suc i) vs (omega arith) ∙ ap (λ (l : List Process). sets l (suc i) vs) (take-set-lt len list i q (omega arith))
+
+every-append : (a b : List ℕ) → Every a → Every b → Every (a ++ b)
+every-append a b p q = record { at = all a (p .at) }
+  where
+    all : (a : List ℕ) → ((i : ℕ) → getD a i 0 ≤ largest) → (i : ℕ) → getD (a ++ b) i 0 ≤ largest
+    all [] h i = q .at i
+    all (x ∷ a) h zero = h 0
+    all (x ∷ a) h (suc i) = all a (λ j. h (suc j)) i
+
+-- every word of the 5N rows is the value's or 0
+words-small : (ws : List ℕ) (n w k : ℕ) → Accepted n w (length ws) w → k ≤ largest → (i : ℕ) → i < 5 * n * w → getD (wordsAtSetUp ws n w (replicate w k)) i 0 ≤ largest
+words-small ws n w k a h i l =
+    let rest : List ℕ = replicate (5 * n * w - w) 0 in
+    let u : List ℕ = replicate w k ++ rest in
+    let f = first-row n w (a .n-some) in
+    let m : length u ≡ 5 * n * w = length-append (replicate w k) rest ∙ omega (arith, length-replicate w k, length-replicate {A = ℕ} (5 * n * w - w) 0) in
+    rw (sets-eq u ws 0 (omega (arith, a .words-lent)), List·getD-append u (drop (0 + length u) ws) 0 i (omega arith)) (every-append (replicate w k) rest (every-replicate w k h) (every-replicate (5 * n * w - w) 0 (omega arith)) .at i)
+
+module _ {len : ℕ} {all : Records} {list : List ℕ} (b : Bench) (ws : List ℕ) (x : Lending len all list) where
+  -- a run that is stopped before it begins is sound
+  pub stopped-sound : (k : ℕ) → (k ≡ 0 → ⊥) → k ≤ 15 → Sound len (held (freshRun b all k) ws list)
+  stopped-sound k n l = record { few = x .few; filled = x .filled; entries = omega arith; stop = l; room = omega (arith, x .room); going = λ z. absurd (n z) }
+
+  module _ (n w k : ℕ) (small : k ≤ largest) (z : setUpNumber n w len (length ws) w ≡ 0) where
+    pub accepted : Accepted n w (length ws) w
+    accepted = set-up-fits n w len (length ws) w z
+
+    abbrev newRecords : List Process
+    newRecords = map processAtSetUp (numbers (2 * n) n)
+
+    in-lent : 0 + length newRecords ≤ len
+    in-lent = omega (arith, mapped-length (2 * n) n, records-lent n w len (length ws) w z)
+
+    abbrev pub first : Held
+    first = held (freshRun (benchAtSetUp b n w) (record { list = recordsAtSetUp (all .list) n }) 0) (wordsAtSetUp ws n w (replicate w k)) list
+
+    -- and so is one after its set-up
+    pub begun-sound : Sound len first
+    begun-sound = record {
+      few = x .few;
+      filled = filled-sets (all .list) 0 newRecords in-lent (x .filled);
+      entries = omega arith;
+      stop = omega arith;
+      room = omega (arith, x .room);
+      going = λ y. record { width = accepted .w-most; small = words-small ws n w k accepted small };
+    }
+
+    pub begun-same : progress len first ≡ begun (atSetUp (memoryOf b all len ws) n w (replicate w k)) list 0
+    begun-same = ap (λ (l : List Process). begun (record { bench = benchAtSetUp b n w; records = l; words = wordsAtSetUp ws n w (replicate w k) }) list 0) (take-sets len (all .list) 0 newRecords in-lent)
+
+    -- what the code holds after its set-up
+    pub first-held : {r : Run} {b′ : Bench} {all′ : Records} {ws′ value : List ℕ} → r ≡ freshRun b′ all′ 0 → b′ ≡ benchAtSetUp b n w → all′ ≡ record { list = recordsAtSetUp (all .list) n }
+        → ws′ ≡ wordsAtSetUp ws n w (take w value) → value ≡ replicate 64 k → held r ws′ list ≡ first
+    first-held {value = value} er eb ea ew ev =
+        let v : take w value ≡ replicate w k = ap (take w) ev ∙ take-replicate w 64 k (accepted .w-most) in
+        rw (er, eb, ea, ew, v)

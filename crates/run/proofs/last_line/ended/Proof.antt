@@ -1,0 +1,46 @@
+-- `run::last_line::ended`: "The last line is `end E` or `refused C E`".
+use borrow.Author.Needs.{needs}
+use Rattle.run.proofs.LastLaws.{end-room, refused-room, end-closed, refused-closed}
+use Rattle.run.proofs.last_line.ended.Statement.{statement}
+use Rattle.run.proofs.last_line.ended.Tie as tie
+
+cast-stop : tie.Need-cast-stop
+cast-stop c = search needs
+
+end-line-requires : tie.Need-end-line-requires
+end-line-requires c κs = end-room (c .before .before .before .before .pre)
+
+returned-requires : tie.Need-returned-requires
+returned-requires c κs = search needs
+
+same-length : tie.Need-same-length
+same-length c = search needs
+
+returns : tie.Need-returns
+returns c = end-closed _ _ _ (c .before .before .before .before .before .if1 .taken) (c .before .before .before .end-line .ensures) (c .returned .ensures)
+
+refused-line-requires : tie.Need-refused-line-requires
+refused-line-requires c κs = refused-room (c .before .before .before .before .pre)
+
+returned-requires-2 : tie.Need-returned-requires-2
+returned-requires-2 c κs = search needs
+
+same-length-2 : tie.Need-same-length-2
+same-length-2 c = search needs
+
+returns-2 : tie.Need-returns-2
+returns-2 c = refused-closed _ _ _ (c .before .before .before .before .before .if1 .left) (c .before .before .before .refused-line .ensures) (c .returned2 .ensures)
+
+pub ended-spec : {M : Type 1} → statement M
+ended-spec =
+    tie.close
+    (tie.spec
+    cast-stop
+    end-line-requires
+    returned-requires
+    same-length
+    returns
+    refused-line-requires
+    returned-requires-2
+    same-length-2
+    returns-2)

@@ -1,0 +1,4 @@
+pub mod TextRun
+pub mod Held
+pub mod Reading
+pub mod Whole

@@ -1,0 +1,149 @@
+-- The meaning of a text run (01, "When the bench says no" and "Schedule text and listing").
+use Prim.Native.Nat.{ℕ, zero, suc, _+_, _-_, _*_}
+use mathlib.Core.List.{List, [], _∷_}
+use mathlib.Core.Bool.{Bool, not, _&&_, cond}
+use lib.Dec.{eqb, ltb, leb}
+use lib.ListN.{length, replicate}
+use lib.Seq.{sets}
+use Rattle.model.specs.declared.Order.{Order}
+use Rattle.model.specs.declared.Order.the-variants
+use Rattle.model.specs.declared.Reply.{Reply}
+use Rattle.model.specs.declared.Reply.the-variants.{Refused, Accepted, LlAnswered, ScAnswered, VlAnswered}
+use Rattle.model.specs.Words.{returnArea}
+use Rattle.model.specs.Records.{recordAt}
+use Rattle.model.specs.Machine.{Memory}
+use Rattle.model.specs.Refusals.{isIdle}
+use Rattle.model.specs.Command.{command}
+use Rattle.model.specs.Replies.{numberOf}
+use Rattle.model.specs.SetUp.{setUp}
+use Rattle.notation.specs.declared.Entry.{Entry}
+use Rattle.notation.specs.declared.Entry.the-variants.{StartLl, StartVl, StartSc, Step, Finish}
+use Rattle.notation.specs.Grammar.{Said}
+use Rattle.notation.specs.FirstLine.{Reading, right, wrong, read}
+use Rattle.listing.specs.Lines.{llLine, truthLine, endLine, refusedLine}
+
+-- A run in progress: the lent memory, the listing, how many of its bytes are written, the entries done, and the number of the refusal that
+-- stopped it, 0 while it goes on.
+pub record Progress : Type 0 where
+  pub memory : Memory
+  pub listing : List ℕ
+  pub written : ℕ
+  pub entries : ℕ
+  pub stop : ℕ
+
+abbrev pub stopped : ℕ → Progress → Progress
+stopped k s = record { memory = s .memory; listing = s .listing; written = s .written; entries = s .entries; stop = k }
+
+-- "60,000 entries already done", "listing room left under 744 bytes", "text over 16,384 bytes"
+abbrev pub mostEntries : ℕ
+mostEntries = 60000
+
+abbrev pub roomNeeded : ℕ
+roomNeeded = 744
+
+abbrev pub longestText : ℕ
+longestText = 16384
+
+-- "The listing has a line for each answer": the bytes that the reply to process p adds, with the memory as the command left it
+abbrev pub lineOf : Memory → ℕ → Reply → List ℕ
+lineOf m p (Refused c) = []
+lineOf m p Accepted = []
+lineOf m p (LlAnswered k) = llLine p k (returnArea (m .bench .n) (m .bench .w) (record { 0 = p }) (m .words))
+lineOf m p (ScAnswered t k) = truthLine p 83 k t
+lineOf m p (VlAnswered t k) = truthLine p 86 k t
+
+-- what a reply makes of the run: "After a refused entry nothing more runs."; else one entry more, with its line
+abbrev pub counted : Progress → Memory → List ℕ → Progress
+counted s m line = record { memory = m; listing = sets (s .listing) (s .written) line; written = s .written + length line; entries = s .entries + 1; stop = 0 }
+
+abbrev pub replied : Progress → ℕ → Reply × Memory → Progress
+replied s p out = cond (eqb (numberOf (out .0)) 0) (counted s (out .1) (lineOf (out .1) p (out .0))) (stopped (numberOf (out .0)) s)
+
+-- an entry that is one command: its process, its order, and its value ("The value k has k in all W words.")
+abbrev pub processOf : Entry → ℕ
+processOf (StartLl p) = p
+processOf (StartVl p) = p
+processOf (StartSc p k) = p
+processOf (Step p) = p
+processOf (Finish p) = p
+
+abbrev pub orderOf : Entry → Order
+orderOf (StartLl p) = the-variants.StartLl
+orderOf (StartVl p) = the-variants.StartVl
+orderOf (StartSc p k) = the-variants.StartSc
+orderOf (Step p) = the-variants.Step
+orderOf (Finish p) = the-variants.Step
+
+abbrev pub valueOf : ℕ → Entry → List ℕ
+valueOf w (StartLl p) = []
+valueOf w (StartVl p) = []
+valueOf w (StartSc p k) = replicate w k
+valueOf w (Step p) = []
+valueOf w (Finish p) = []
+
+abbrev pub commanded : Entry → Progress → Progress
+commanded e s = replied s (processOf e) (command (s .memory) (processOf e) (orderOf e) (valueOf (s .memory .bench .w) e))
+
+-- "before each entry 12, then 14"
+unfoldable pub single : Entry → Progress → Progress
+single e s =
+    cond (eqb (s .stop) 0)
+    (cond (leb mostEntries (s .entries)) (stopped 12 s)
+    (cond (ltb (length (s .listing) - s .written) roomNeeded) (stopped 14 s)
+    (commanded e s)))
+    s
+
+-- "`!` is steps until the call answers, at least one": whether a further step follows
+abbrev pub unanswered : ℕ → Progress → Bool
+unanswered p s = eqb (s .stop) 0 && not (isIdle (recordAt (s .memory .records) (record { 0 = p })))
+
+-- row 13: "`!` unanswered after 4W+7 steps"; `left` is how many may follow
+unfoldable pub finish : ℕ → ℕ → Progress → Progress
+finish zero p s = stopped 13 s
+finish (suc left) p s = cond (unanswered p (single (Step p) s)) (finish left p (single (Step p) s)) (single (Step p) s)
+
+-- "An entry is one command; `!` is an entry for each of its steps."
+unfoldable pub carry : Entry → Progress → Progress
+carry (StartLl p) s = single (StartLl p) s
+carry (StartVl p) s = single (StartVl p) s
+carry (StartSc p k) s = single (StartSc p k) s
+carry (Step p) s = single (Step p) s
+carry (Finish p) s = cond (eqb (s .stop) 0) (finish (4 * s .memory .bench .w + 7) p s) s
+
+unfoldable pub carryAll : List Entry → Progress → Progress
+carryAll [] s = s
+carryAll (e ∷ es) s = carryAll es (carry e s)
+
+-- "Every text run returns a number (0 at `end`), the entries done and the count of listing bytes written."
+pub record Ended : Type 0 where
+  pub number : ℕ
+  pub entries : ℕ
+  pub written : ℕ
+  pub memory : Memory
+  pub listing : List ℕ
+
+-- "The last line is `end E` or `refused C E`", "Bytes after the last line stay."
+abbrev pub lastLine : Progress → List ℕ
+lastLine s = cond (eqb (s .stop) 0) (endLine (s .entries)) (refusedLine (s .stop) (s .entries))
+
+abbrev pub ended : Progress → Ended
+ended s = record { number = s .stop; entries = s .entries; written = s .written + length (lastLine s); memory = s .memory; listing = sets (s .listing) (s .written) (lastLine s) }
+
+-- a run before its first entry; one that is refused before the set-up has its number at once
+abbrev pub begun : Memory → List ℕ → ℕ → Progress
+begun m listing stop = record { memory = m; listing = listing; written = 0; entries = 0; stop = stop }
+
+-- "then 1, 2, 3, then the set-up, then the entries"
+abbrev pub started : Memory → List ℕ → Said → ℕ × Memory → Ended
+started m listing t prepared = cond (eqb (prepared .0) 0) (ended (carryAll (t .entries) (begun (prepared .1) listing 0))) (ended (begun m listing (prepared .0)))
+
+abbrev pub carriedOut : Memory → List ℕ → Reading → Ended
+carriedOut m listing (right t) = started m listing t (setUp m (t .n) (t .w) (replicate (t .w) (t .initial)))
+carriedOut m listing (wrong k) = ended (begun m listing k)
+
+-- "A text run takes 14 at its start, then 12 for length, then 10 and 11 over the whole text"; "A refusal 14 at the start writes nothing."
+unfoldable pub runText : Memory → List ℕ → List ℕ → Ended
+runText m text listing =
+    cond (ltb (length listing) roomNeeded) (record { number = 14; entries = 0; written = 0; memory = m; listing = listing })
+    (cond (ltb longestText (length text)) (ended (begun m listing 12))
+    (carriedOut m listing (read text)))

@@ -1,0 +1,79 @@
+-- The whole text run as the code holds it: what its parts are given and what they answer.
+use mathlib.Core.Path.{_≡_}
+use mathlib.Core.Bool.{false, cond}
+use Prim.Native.Nat.{ℕ, _+_, _≤_}
+use mathlib.Core.List.{List, []}
+use lib.Dec.{eqb, ltb}
+use lib.ListN.{length, take, drop}
+use lib.Seq.{sets}
+use Rattle.model.specs.declared.Bench.{Bench}
+use Rattle.model.specs.Machine.{Memory}
+use Rattle.machine.specs.declared.records.Records.{Records}
+use Rattle.notation.specs.declared.Entry.{Entry}
+use Rattle.notation.specs.Grammar.{largest, deepest}
+use Rattle.notation.specs.Scan.{scan, between}
+use Rattle.notation.specs.FirstLine.{whole}
+use Rattle.notation.specs.Groups.{ItemsEnded}
+use Rattle.listing.specs.Lines.{endLine, refusedLine}
+use Rattle.run.specs.declared.state.Run.{Run}
+use Rattle.run.specs.declared.last_line.Whole.{Whole}
+use Rattle.run.specs.declared.text_run.First.{First}
+use Rattle.run.specs.TextRun.{Ended, ended, begun, carriedOut, mostEntries, roomNeeded}
+use Rattle.run.specs.Held.{Filled, lastRoom}
+
+abbrev pub freshRun : Bench → Records → ℕ → Run
+freshRun b all k = record { bench = b; all = all; written = 0; entries = 0; stop = k }
+
+abbrev pub wholeOf : Run → ℕ → Whole
+wholeOf r written = record { bench = r .bench; all = r .all; number = r .stop; entries = r .entries; written = written }
+
+-- the last line of a run
+abbrev pub lastOf : Run → List ℕ
+lastOf r = cond (eqb (r .stop) 0) (endLine (r .entries)) (refusedLine (r .stop) (r .entries))
+
+-- what a run comes to with its last line
+abbrev pub closed : Run → List ℕ → Whole × List ℕ
+closed r list = (wholeOf r (r .written + length (lastOf r)), sets list (r .written) (lastOf r))
+
+-- there is room for the last line
+pub record Closable (r : Run) (list : List ℕ) : Type 0 where
+  pub entries : r .entries ≤ mostEntries
+  pub stop : r .stop ≤ 15
+  pub room : r .written + lastRoom ≤ length list
+
+-- the lent memory, with `len` records
+abbrev pub memoryOf : Bench → Records → ℕ → List ℕ → Memory
+memoryOf b all len words = record { bench = b; records = take len (all .list); words = words }
+
+-- of the lent records at most sixteen are looked at
+abbrev pub fewOf : ℕ → ℕ
+fewOf len = cond (ltb 16 len) 16 len
+
+-- what a part of a text run answers, with the memory and the listing after it
+pub record Answers (len : ℕ) (r : Whole) (ws list : List ℕ) (e : Ended) : Type 0 where
+  pub same : _≡_ {A = Ended} (record { number = r .number; entries = r .entries; written = r .written; memory = memoryOf (r .bench) (r .all) len ws; listing = list }) e
+  pub filled : Filled len (r .all .list)
+
+-- what is lent to a part of a text run
+pub record Lending (len : ℕ) (all : Records) (list : List ℕ) : Type 0 where
+  pub few : len ≤ 16
+  pub filled : Filled len (all .list)
+  pub room : roomNeeded ≤ length list
+
+-- the first line is read
+pub record Headed (s : List ℕ) (f : First) : Type 0 where
+  pub within : f .items ≤ length s
+  pub initial : f .initial ≤ largest
+
+-- and the items are right
+pub record Right (s : List ℕ) (f : First) : Type 0 where
+  pub says : List Entry
+  pub ended : ItemsEnded s (f .items) deepest says
+
+-- a run that is refused before its set-up
+abbrev pub refusedWith : ℕ → Memory → List ℕ → Ended
+refusedWith k m list = ended (begun m list k)
+
+-- what is left of a text run once the first line is read
+abbrev pub saysAfter : List ℕ → First → Memory → List ℕ → Ended
+saysAfter s f m list = carriedOut m list (whole (f .n) (f .w) (f .initial) (scan (drop (f .items) s) (between false) [] [] deepest))

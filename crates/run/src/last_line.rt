@@ -1,0 +1,58 @@
+// The end of a text run: its last line and what it returns.
+ghost use mathlib.Core.Path.{_≡_};
+ghost use Rattle.run.specs.Whole.{freshRun, wholeOf, closed, Closable};
+use crate::state::Run;
+use machine::records::Records;
+use model::Bench;
+
+// What a text run leaves of the bench and the records, and what it returns: its number, the entries done and the listing bytes written.
+pub struct Whole {
+    pub bench: Bench,
+    pub all: Records,
+    pub number: u8,
+    pub entries: usize,
+    pub written: usize,
+}
+
+// A run before its first entry, or one that a refusal keeps from it.
+pub fn fresh(bench: Bench, all: Records, number: u8) -> Run
+    ensures { λ r. ⌜ r ≡ freshRun bench all number ⌝ }
+{
+    Run {
+        bench,
+        all,
+        written: 0,
+        entries: 0,
+        stop: number,
+    }
+}
+
+// What a run returns that has written so many bytes.
+pub fn returned(run: Run, written: usize) -> Whole
+    ensures { λ r. ⌜ r ≡ wholeOf run written ⌝ }
+{
+    let bench = run.bench;
+    let all = run.all;
+    Whole {
+        bench,
+        all,
+        number: run.stop,
+        entries: run.entries,
+        written,
+    }
+}
+
+// "The last line is `end E` or `refused C E`".
+pub fn ended(run: Run, list: &mut [u8]) -> Whole
+    requires { ⌜ Closable run (now list) ⌝ }
+    ensures { λ r. ⌜ (r, now (list .exit)) ≡ closed run (now (list .entry)) ⌝ }
+{
+    let entries = run.entries as u64;
+    let stop = run.stop as u64;
+    if stop == 0 {
+        let next = listing::end_line(list, run.written, entries);
+        return returned(run, next);
+    }
+    let next = listing::refused_line(list, run.written, stop, entries);
+    returned(run, next)
+}

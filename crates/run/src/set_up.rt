@@ -1,0 +1,23 @@
+// The records at the set-up, by value.
+ghost use mathlib.Core.Path.{_≡_};
+ghost use Prim.Native.Nat.{_≤_};
+ghost use Rattle.model.specs.SetUp.{recordsAtSetUp};
+use machine::records;
+use machine::records::Records;
+use machine::set_up;
+use model::ProcessNumber;
+
+// "mybuf of p = 2N + p"; records from n on stay.
+pub fn records_at_set_up(all: Records, n: usize) -> Records
+    requires { ⌜ n ≤ 16 ⌝ }
+    ensures { λ r. ⌜ r ≡ record { list = recordsAtSetUp (all .list) n } ⌝ }
+{
+    let mut next = all;
+    let mut p = 0;
+    while p < n {
+        let process = set_up::record_at_set_up(n, ProcessNumber(p as u8));
+        next = records::with_record(next, p, process);
+        p += 1;
+    }
+    next
+}

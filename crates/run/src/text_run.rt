@@ -1,0 +1,145 @@
+// A whole text run (01, "When the bench says no"): "A text run takes 14 at its start, then 12 for length, then 10 and 11 over the whole text,
+// then 1, 2, 3, then the set-up, then the entries".
+ghost use mathlib.Core.Path.{_≡_};
+ghost use Prim.Native.Nat.{_≤_};
+ghost use lib.ListN.{take};
+ghost use Rattle.model.specs.Records.{noProcess};
+ghost use Rattle.machine.specs.Gathered.{gathered};
+ghost use Rattle.run.specs.TextRun.{runText};
+ghost use Rattle.run.specs.Whole.{memoryOf, fewOf, Answers, Lending, Headed, Right, saysAfter, refusedWith};
+use crate::entries;
+use crate::items;
+use crate::items::Items;
+use crate::last_line;
+use crate::last_line::Whole;
+use crate::set_up;
+use machine::records::Records;
+use model::Bench;
+use notation::Header;
+
+// The first line's numbers, and where the items begin.
+pub struct First {
+    pub n: u64,
+    pub w: u64,
+    pub initial: u64,
+    pub items: usize,
+}
+
+// A run that is refused before its set-up.
+fn refused(
+    bench: Bench,
+    all: Records,
+    len: usize,
+    number: u8,
+    words: &mut [u64],
+    list: &mut [u8],
+) -> Whole
+    requires { ⌜ (Lending len all (now list)) × (number ≤ 15) ⌝ }
+    ensures { λ r. ⌜ Answers len r (now (words .exit)) (now (list .exit)) (refusedWith number (memoryOf bench all len (now (words .entry))) (now (list .entry))) ⌝ }
+{
+    let run = last_line::fresh(bench, all, number);
+    last_line::ended(run, list)
+}
+
+// "then 1, 2, 3, then the set-up, then the entries", of a text that is known to be right. The value is looked at only where W is in its range.
+fn started(
+    bench: Bench,
+    all: Records,
+    len: usize,
+    first: First,
+    words: &mut [u64],
+    text: &[u8],
+    list: &mut [u8],
+) -> Whole
+    requires { ⌜ (Lending len all (now list)) × (Headed (now text) first) × (Right (now text) first) ⌝ }
+    ensures { λ r. ⌜ Answers len r (now (words .exit)) (now (list .exit)) (saysAfter (now (text .entry)) first (memoryOf bench all len (now (words .entry))) (now (list .entry))) ⌝ }
+{
+    let n = first.n as usize;
+    let w = first.w as usize;
+    let number = machine::set_up::set_up_number(n, w, len, words.len(), w);
+    if number != 0 {
+        return refused(bench, all, len, number, words, list);
+    }
+    let value = entries::repeated(first.initial);
+    machine::set_up::words_at_set_up(words, n, w, &value[..w]);
+    let begun = machine::set_up::bench_at_set_up(bench, n, w);
+    let records = set_up::records_at_set_up(all, n);
+    let run = last_line::fresh(begun, records, 0);
+    let read = items::group(text, first.items, 8, run, len, words, list);
+    let done = read.run;
+    last_line::ended(done, list)
+}
+
+// "then 10 and 11 over the whole text": it is read once with a stopped run, which carries nothing out.
+fn checked(
+    bench: Bench,
+    all: Records,
+    len: usize,
+    first: First,
+    words: &mut [u64],
+    text: &[u8],
+    list: &mut [u8],
+) -> Whole
+    requires { ⌜ (Lending len all (now list)) × (Headed (now text) first) ⌝ }
+    ensures { λ r. ⌜ Answers len r (now (words .exit)) (now (list .exit)) (saysAfter (now (text .entry)) first (memoryOf bench all len (now (words .entry))) (now (list .entry))) ⌝ }
+{
+    let run = last_line::fresh(bench, all, 10);
+    let reading = items::group(text, first.items, 8, run, len, words, list);
+    let out = reading.out;
+    match out {
+        Items::Broken(k) => refused(bench, all, len, k, words, list),
+        Items::Closed(_) => refused(bench, all, len, 10, words, list),
+        Items::Ended => started(bench, all, len, first, words, text, list),
+    }
+}
+
+// Of the lent records at most sixteen are looked at.
+fn few(len: usize) -> usize
+    ensures { λ r. ⌜ r ≡ fewOf len ⌝ }
+{
+    if 16 < len {
+        return 16;
+    }
+    len
+}
+
+// The text run: the number of its refusal, 0 at `end`, the entries done, the listing bytes written, and all memory after it.
+// `all` holds the first sixteen of `len` lent records, with a filler where there are fewer.
+pub fn run_by_value(
+    bench: Bench,
+    all: Records,
+    len: usize,
+    words: &mut [u64],
+    text: &[u8],
+    list: &mut [u8],
+) -> Whole
+    requires { ⌜ all ≡ gathered (take len (all .list)) noProcess 16 ⌝ }
+    ensures { λ r. ⌜ (record { number = r .number; entries = r .entries; written = r .written; memory = record { bench = r .bench; records = take len (r .all .list); words = now (words .exit) }; listing = now (list .exit) } ≡ runText (record { bench = bench; records = take len (all .list); words = now (words .entry) }) (now (text .entry)) (now (list .entry))) × (r .all ≡ gathered (take len (r .all .list)) noProcess 16) ⌝ }
+{
+    let lent = few(len);
+    if list.len() < 744 {
+        return Whole {
+            bench,
+            all,
+            number: 14,
+            entries: 0,
+            written: 0,
+        };
+    }
+    if 16384 < text.len() {
+        return refused(bench, all, lent, 12, words, list);
+    }
+    let header = notation::first_line(text);
+    match header {
+        Header::NoFirst => refused(bench, all, lent, 10, words, list),
+        Header::First(n, w, initial, items) => {
+            let first = First {
+                n,
+                w,
+                initial,
+                items,
+            };
+            checked(bench, all, lent, first, words, text, list)
+        }
+    }
+}

@@ -1,0 +1,79 @@
+-- `schedule::main` meets its contract, which only says that it is safe and ends: the records that it hands over are fillers.
+-- Assumes nothing but io's contracts.
+use mathlib.Core.Path.{_≡_, refl}
+use lib.ListN.{take, replicate}
+use Rattle.model.specs.declared.Process.{Process}
+use Rattle.model.specs.Records.{noProcess}
+use Rattle.machine.specs.declared.records.Records.{Records}
+use Rattle.machine.specs.Gathered.{gathered}
+use borrow.Author.Needs.{needs}
+use Rattle.schedule.proofs.main.Statement.{statement}
+use Rattle.schedule.proofs.main.Tie as tie
+
+slice-aggregate-read-full : tie.Need-slice-aggregate-read-full
+slice-aggregate-read-full c = search needs
+
+read-full-requires : tie.Need-read-full-requires
+read-full-requires c κs = search needs
+
+large-buffer-requires : tie.Need-large-buffer-requires
+large-buffer-requires c κs = search needs
+
+empty-bench-requires : tie.Need-empty-bench-requires
+empty-bench-requires c κs = search needs
+
+no-process-requires : tie.Need-no-process-requires
+no-process-requires c κs = search needs
+
+records-of-requires : tie.Need-records-of-requires
+records-of-requires c κs = search needs
+
+slice-aggregate-run-by-value : tie.Need-slice-aggregate-run-by-value
+slice-aggregate-run-by-value c = search needs
+
+array-share-prefix-text : tie.Need-array-share-prefix-text
+array-share-prefix-text c = search needs
+
+slice-aggregate-run-by-value-2 : tie.Need-slice-aggregate-run-by-value-2
+slice-aggregate-run-by-value-2 c = search needs
+
+slice-aggregate-run-by-value-3 : tie.Need-slice-aggregate-run-by-value-3
+slice-aggregate-run-by-value-3 c = search needs
+
+-- sixteen fillers are what gathering sixteen fillers gives
+fillers : (q : Process) (all : Records) → q ≡ noProcess → all ≡ record { list = replicate 16 q } → all ≡ gathered (take 16 (all .list)) noProcess 16
+unfolding gathered
+fillers q all e f = rw (f, e) refl
+
+run-by-value-requires : tie.Need-run-by-value-requires
+run-by-value-requires c κs =
+    fillers (c .before .before .before .before .no-process .result) (c .before .before .before .records-of .result)
+    (c .before .before .before .before .no-process .ensures) (c .before .before .before .records-of .ensures)
+
+slice-aggregate-print : tie.Need-slice-aggregate-print
+slice-aggregate-print c = search needs
+
+print-requires : tie.Need-print-requires
+print-requires c κs = search needs
+
+returns : tie.Need-returns
+returns c = search needs
+
+pub main-spec : {M : Type 1} → statement M
+main-spec =
+    tie.close
+    (tie.spec
+    slice-aggregate-read-full
+    read-full-requires
+    large-buffer-requires
+    empty-bench-requires
+    no-process-requires
+    records-of-requires
+    slice-aggregate-run-by-value
+    array-share-prefix-text
+    slice-aggregate-run-by-value-2
+    slice-aggregate-run-by-value-3
+    run-by-value-requires
+    slice-aggregate-print
+    print-requires
+    returns)

@@ -1,0 +1,18 @@
+// The program `schedule`: schedule text from standard input, at most 16,385 bytes, and its listing, of at most 65,536 bytes, to standard output.
+fn main() {
+    let mut text = [0; 16385];
+    let got = io::read_full(0, &mut text);
+    let mut words = [0; 5120];
+    let mut list = io::large_buffer();
+    let bench = model::empty_bench();
+    let all = machine::records::records_of(machine::records::no_process());
+    let out = run::text_run::run_by_value(bench, all, 16, &mut words, &text[..got], &mut list);
+    print(&list, out.written);
+}
+
+// The first bytes of the listing, as many as the run wrote.
+fn print(list: &[u8], written: usize) {
+    if written <= list.len() {
+        io::write_all(1, &list[0..written]);
+    }
+}

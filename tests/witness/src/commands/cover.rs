@@ -1,0 +1,142 @@
+//! `witness cover DIR`: what the texts of a folder reach.
+
+use super::files::{read_text, texts_in};
+use super::run::print;
+use crate::machine::Tally;
+use crate::schedule::{listing_of, Outcome, TEXT_LIMIT};
+
+/// The refusals that a text can meet. 3, 8, 9 and 15 are out of its reach,
+/// 13 never comes, and 12 is counted by its two causes.
+const REFUSALS: [u8; 9] = [1, 2, 4, 5, 6, 7, 10, 11, 14];
+
+pub fn cover(dir: &str) -> Result<u8, String> {
+    let mut sums = Sums::default();
+    for path in texts_in(dir)? {
+        let text = read_text(&path)?;
+        let (_, outcome, tally) = listing_of(&text, None);
+        sums.add(&text, outcome, &tally);
+    }
+    let (report, all_reached) = sums.report();
+    print(report.as_bytes())?;
+    Ok(u8::from(!all_reached))
+}
+
+#[derive(Default)]
+struct Sums {
+    texts: u64,
+    entries: u64,
+    ends: u64,
+    refused: [u64; 16],
+    too_long: u64,
+    tally: Tally,
+}
+
+impl Sums {
+    fn add(&mut self, text: &[u8], outcome: Outcome, tally: &Tally) {
+        self.texts += 1;
+        self.entries += outcome.entries;
+        self.tally.add(tally);
+        if outcome.number == 0 {
+            self.ends += 1;
+        } else if text.len() > TEXT_LIMIT {
+            self.too_long += 1;
+        } else {
+            self.refused[usize::from(outcome.number)] += 1;
+        }
+    }
+
+    /// All figures, and whether all that can occur did and nothing else.
+    fn report(&self) -> (String, bool) {
+        let mut lines = format!("{} texts, {} entries\n", self.texts, self.entries);
+        let mut missing = false;
+        for (name, times) in self
+            .counts()
+            .into_iter()
+            .chain(self.outcomes())
+            .chain(self.lines())
+        {
+            let note = if times == 0 { "  never reached" } else { "" };
+            lines += &format!("{name:<30} {times:>9}{note}\n");
+            missing |= times == 0;
+        }
+        let strange = self.tally.strange + self.impossible();
+        lines += &format!("{:<30} {strange:>9}\n", "what cannot occur");
+        (lines, !missing && strange == 0)
+    }
+
+    fn impossible(&self) -> u64 {
+        [3, 8, 9, 13, 15]
+            .iter()
+            .map(|number| self.refused[*number])
+            .sum()
+    }
+
+    fn counts(&self) -> Vec<(String, u64)> {
+        let mut rows = Vec::new();
+        for (name, times) in ["2W+5", "2W+6", "3W+7", "4W+7"].iter().zip(self.tally.ll) {
+            rows.push((format!("LL in {name} steps"), times));
+        }
+        for (more, times) in (4..).zip(self.tally.sc) {
+            rows.push((format!("SC in W+{more} steps"), times));
+        }
+        rows.push(("VL in 1 step".to_string(), self.tally.vl));
+        pair(
+            &mut rows,
+            "SC answers",
+            ["false", "true"],
+            self.tally.sc_answers,
+        );
+        pair(
+            &mut rows,
+            "VL answers",
+            ["false", "true"],
+            self.tally.vl_answers,
+        );
+        rows
+    }
+
+    fn outcomes(&self) -> Vec<(String, u64)> {
+        let mut rows = vec![("end".to_string(), self.ends)];
+        for number in REFUSALS {
+            rows.push((
+                format!("refused {number}"),
+                self.refused[usize::from(number)],
+            ));
+        }
+        rows.push(("refused 12, text too long".to_string(), self.too_long));
+        rows.push(("refused 12, 60,000 entries".to_string(), self.refused[12]));
+        rows
+    }
+
+    fn lines(&self) -> Vec<(String, u64)> {
+        let (tally, mut rows) = (&self.tally, Vec::new());
+        pair(&mut rows, "line 7, VL", ["false", "true"], tally.line7);
+        pair(&mut rows, "line 9, SC", ["fails", "succeeds"], tally.line9);
+        pair(
+            &mut rows,
+            "line 12, VL",
+            ["false", "true"],
+            tally.line12_validate,
+        );
+        pair(
+            &mut rows,
+            "line 13, SC",
+            ["fails", "succeeds"],
+            tally.line13,
+        );
+        pair(
+            &mut rows,
+            "line 14, VL",
+            ["false", "true"],
+            tally.line14_validate,
+        );
+        pair(&mut rows, "line 15, help", ["fails", "given"], tally.line15);
+        rows
+    }
+}
+
+fn pair(rows: &mut Vec<(String, u64)>, name: &str, outcomes: [&str; 2], times: [u64; 2]) {
+    for (outcome, times) in outcomes.iter().zip(times) {
+        rows.push((format!("{name} {outcome}"), times));
+    }
+}

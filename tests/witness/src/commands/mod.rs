@@ -1,0 +1,48 @@
+//! One file for each subcommand.
+
+mod bench_text;
+mod compare;
+mod cover;
+mod files;
+mod generate;
+mod history;
+mod run;
+
+pub use bench_text::bench_text;
+
+use crate::machine::Wrong;
+
+/// Carries out a subcommand and gives the exit status.
+pub fn dispatch(words: &[String]) -> Result<u8, String> {
+    let (wrong, words) = take_wrong(words)?;
+    let words: Vec<&str> = words.iter().map(String::as_str).collect();
+    match words.as_slice() {
+        ["run"] => run::run(wrong),
+        ["generate", seed, count, dir] => generate::generate(number(seed)?, number(count)?, dir),
+        ["cover", dir] => cover::cover(dir),
+        ["compare", program, dir] => compare::compare(program, dir),
+        ["history", seed, count] => history::history(number(seed)?, number(count)?, wrong),
+        ["bench-text", kind, n, w] => {
+            let text = bench_text(kind, number(n)?, number(w)?)?;
+            run::print(text.as_bytes())
+        }
+        _ => Err("no such subcommand".to_string()),
+    }
+}
+
+/// The option `--wrong KIND`, left out of the usage on purpose: it makes
+/// the simulator read Figure 2 wrongly.
+fn take_wrong(words: &[String]) -> Result<(Option<Wrong>, Vec<String>), String> {
+    let Some(at) = words.iter().position(|word| word == "--wrong") else {
+        return Ok((None, words.to_vec()));
+    };
+    let name = words.get(at + 1).map_or("", String::as_str);
+    let known: Vec<&str> = Wrong::ALL.iter().map(|(name, _)| *name).collect();
+    let wrong = Wrong::named(name).ok_or(format!("--wrong takes one of {}", known.join(", ")))?;
+    let rest = [&words[..at], &words[at + 2..]].concat();
+    Ok((Some(wrong), rest))
+}
+
+fn number(word: &str) -> Result<u64, String> {
+    word.parse().map_err(|_| format!("{word} is not a number"))
+}

@@ -1,0 +1,21 @@
+//! `witness run`: the program `schedule` of document 01.
+
+use std::io::{stdin, stdout, Read, Write};
+
+use crate::machine::Wrong;
+use crate::schedule::{listing_of, TEXT_LIMIT};
+
+pub fn run(wrong: Option<Wrong>) -> Result<u8, String> {
+    let mut text = Vec::new();
+    // One byte over the limit is enough to see that a text is too long.
+    let taken = stdin().take(TEXT_LIMIT as u64 + 1).read_to_end(&mut text);
+    taken.map_err(|error| error.to_string())?;
+    let (listing, _, _) = listing_of(&text, wrong);
+    print(&listing)
+}
+
+pub fn print(bytes: &[u8]) -> Result<u8, String> {
+    let mut out = stdout();
+    let written = out.write_all(bytes).and_then(|()| out.flush());
+    written.map(|()| 0).map_err(|error| error.to_string())
+}

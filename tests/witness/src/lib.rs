@@ -1,0 +1,10 @@
+//! A plain simulator of the schedule bench of document 01, written from that
+//! document and from Figure 2 of the 2005 paper alone, so that it can stand
+//! as a witness against another program.
+
+pub mod commands;
+pub mod history;
+pub mod machine;
+pub mod rng;
+pub mod schedule;
+pub mod texts;

@@ -1,0 +1,64 @@
+//! Commands: a process and an order, and the refusals 4 to 8.
+
+use super::bench::Bench;
+use super::process::Line;
+
+/// What a command asks of a process.
+#[derive(Clone, PartialEq, Eq, Debug)]
+pub enum Order {
+    Load,
+    Store(Vec<u64>),
+    Validate,
+    Step,
+}
+
+#[derive(Clone, PartialEq, Eq, Debug)]
+pub enum Reply {
+    Loaded(Vec<u64>),
+    Stored(bool),
+    Validated(bool),
+}
+
+#[derive(Clone, PartialEq, Eq, Debug)]
+pub struct Answer {
+    pub process: usize,
+    pub count: u64,
+    pub reply: Reply,
+}
+
+impl Bench {
+    /// One command: refused with a number, or carried out, perhaps with an
+    /// answer.
+    pub fn command(&mut self, process: u64, order: Order) -> Result<Option<Answer>, u8> {
+        if process >= self.n as u64 {
+            return Err(4);
+        }
+        let p = process as usize;
+        match order {
+            Order::Step if self.is_idle(p) => Err(6),
+            Order::Step => Ok(self.step(p)),
+            start => self.start(p, start).map(|()| None),
+        }
+    }
+
+    fn start(&mut self, p: usize, order: Order) -> Result<(), u8> {
+        if !self.is_idle(p) {
+            return Err(5);
+        }
+        if order != Order::Load && !self.processes[p].linked {
+            return Err(7);
+        }
+        let me = &mut self.processes[p];
+        me.line = match order {
+            Order::Store(words) if words.len() != self.w => return Err(8),
+            Order::Store(words) => {
+                me.offer_area = words;
+                Line::L12
+            }
+            Order::Validate => Line::L23,
+            _ => Line::L1,
+        };
+        me.count = 0;
+        Ok(())
+    }
+}

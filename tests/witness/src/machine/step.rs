@@ -1,0 +1,73 @@
+//! A step: one access, and where it leaves its process. The lines are in
+//! `load` and `store`; line 23 is so short that it stands here.
+
+use super::bench::Bench;
+use super::command::{Answer, Reply};
+use super::process::Line;
+
+/// Where a step leaves its process.
+pub(super) enum After {
+    At(Line),
+    Answer(Reply),
+}
+
+impl Bench {
+    pub(super) fn step(&mut self, p: usize) -> Option<Answer> {
+        self.processes[p].count += 1;
+        match self.access(p) {
+            After::At(line) => {
+                self.processes[p].line = line;
+                None
+            }
+            After::Answer(reply) => Some(self.answer(p, reply)),
+        }
+    }
+
+    fn answer(&mut self, process: usize, reply: Reply) -> Answer {
+        let me = &mut self.processes[process];
+        let count = me.count;
+        me.count = 0;
+        me.line = Line::Idle;
+        self.tally.answered(&reply, count, self.w);
+        Answer {
+            process,
+            count,
+            reply,
+        }
+    }
+
+    fn access(&mut self, p: usize) -> After {
+        match self.processes[p].line {
+            Line::Idle => unreachable!("a step at an idle process was refused"),
+            Line::L1 => self.line1(p),
+            Line::L2 => self.line2(p),
+            Line::L3 => self.line3(p),
+            Line::L4 => self.line4(p),
+            Line::L5 => self.line5(p),
+            Line::L6 => self.line6(p),
+            Line::L7Validate => self.line7_validate(p),
+            Line::L7Copy => self.line7_copy(p),
+            Line::L8 => self.line8(p),
+            Line::L9 => self.line9(p),
+            Line::L10 => self.line10(p),
+            Line::L11 => self.line11(p),
+            Line::L12 => self.line12(p),
+            Line::L12Validate => self.line12_validate(p),
+            Line::L13 => self.line13(p),
+            Line::L14 => self.line14(p),
+            Line::L14Validate => self.line14_validate(p),
+            Line::L15 => self.line15(p),
+            Line::L17 => self.line17(p),
+            Line::L18 => self.line18(p),
+            Line::L19 => self.line19(p),
+            Line::L23 => After::Answer(Reply::Validated(self.x.vl(p))),
+        }
+    }
+
+    /// Moves the word place on after a word; tells whether it was the last.
+    pub(super) fn was_last_word(&mut self, p: usize) -> bool {
+        let me = &mut self.processes[p];
+        me.word = (me.word + 1) % self.w;
+        me.word == 0
+    }
+}

@@ -1,0 +1,113 @@
+//! Lines 12 to 22 of Figure 2, procedure SC. Each function is one access.
+
+use super::bench::Bench;
+use super::command::Reply;
+use super::process::{Line, Request, Tag};
+use super::step::After;
+use super::tally::note;
+use super::wrong::Wrong;
+
+impl Bench {
+    pub(super) fn line12(&mut self, p: usize) -> After {
+        let x = self.processes[p].x;
+        if self.bank[x.sequence].ll(p) != x.buffer {
+            After::At(Line::L12Validate)
+        } else {
+            After::At(Line::L14)
+        }
+    }
+
+    pub(super) fn line12_validate(&mut self, p: usize) -> After {
+        if note(&mut self.tally.line12_validate, self.x.vl(p)) {
+            After::At(Line::L13)
+        } else {
+            After::At(Line::L14)
+        }
+    }
+
+    pub(super) fn line13(&mut self, p: usize) -> After {
+        let x = self.processes[p].x;
+        note(
+            &mut self.tally.line13,
+            self.bank[x.sequence].sc(p, x.buffer),
+        );
+        After::At(Line::L14)
+    }
+
+    pub(super) fn line14(&mut self, p: usize) -> After {
+        let reader = self.process_to_help(p);
+        let request = self.help[reader].ll(p);
+        if !request.helpme {
+            return After::At(Line::L17);
+        }
+        self.processes[p].d = request.buffer;
+        if self.reads(Wrong::NoCheck14) {
+            return After::At(Line::L15);
+        }
+        After::At(Line::L14Validate)
+    }
+
+    pub(super) fn line14_validate(&mut self, p: usize) -> After {
+        if note(&mut self.tally.line14_validate, self.x.vl(p)) {
+            After::At(Line::L15)
+        } else {
+            After::At(Line::L17)
+        }
+    }
+
+    /// Line 15, and line 16 if the help was taken: the two processes
+    /// exchange their buffers.
+    pub(super) fn line15(&mut self, p: usize) -> After {
+        let reader = self.process_to_help(p);
+        let handed_over = Request {
+            helpme: false,
+            buffer: self.processes[p].mybuf,
+        };
+        if note(&mut self.tally.line15, self.help[reader].sc(p, handed_over)) {
+            self.processes[p].mybuf = self.processes[p].d;
+        }
+        After::At(Line::L17)
+    }
+
+    pub(super) fn line17(&mut self, p: usize) -> After {
+        let me = &self.processes[p];
+        self.buf[me.mybuf][me.word] = me.offer_area[me.word];
+        if self.was_last_word(p) {
+            After::At(Line::L18)
+        } else {
+            After::At(Line::L17)
+        }
+    }
+
+    pub(super) fn line18(&mut self, p: usize) -> After {
+        let next = self.next_sequence(p);
+        self.processes[p].e = self.bank[next].read();
+        After::At(Line::L19)
+    }
+
+    /// Line 19, and lines 20 to 22.
+    pub(super) fn line19(&mut self, p: usize) -> After {
+        let new = Tag {
+            buffer: self.processes[p].mybuf,
+            sequence: self.next_sequence(p),
+        };
+        let success = self.x.sc(p, new);
+        if success {
+            self.processes[p].mybuf = self.processes[p].e;
+        }
+        After::Answer(Reply::Stored(success))
+    }
+
+    fn process_to_help(&self, p: usize) -> usize {
+        self.processes[p].x.sequence % self.n
+    }
+
+    fn next_sequence(&self, p: usize) -> usize {
+        let range = if self.reads(Wrong::SequenceModN) {
+            self.n
+        } else {
+            2 * self.n
+        };
+        (self.processes[p].x.sequence + 1) % range
+    }
+}

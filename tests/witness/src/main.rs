@@ -1,0 +1,22 @@
+use std::process::ExitCode;
+
+use witness::commands;
+
+const USAGE: &str = "usage:
+  witness run
+  witness generate SEED COUNT DIR
+  witness cover DIR
+  witness compare PROGRAM DIR
+  witness history SEED COUNT
+  witness bench-text KIND N W";
+
+fn main() -> ExitCode {
+    let words: Vec<String> = std::env::args().skip(1).collect();
+    match commands::dispatch(&words) {
+        Ok(code) => ExitCode::from(code),
+        Err(complaint) => {
+            eprintln!("witness: {complaint}\n{USAGE}");
+            ExitCode::from(2)
+        }
+    }
+}

@@ -1,0 +1,76 @@
+//! The shortest schedules that show the five wrong readings of Figure 2,
+//! typed from the last table of the proof plan: right last lines and wrong.
+
+mod common;
+use common::listing_when;
+use witness::history::{record, served_order};
+use witness::machine::Wrong;
+use witness::rng::Rng;
+
+fn check(schedule: &str, right_end: &str, wrong: Wrong, wrong_lines: &str) {
+    let text = format!("2 1 5\n{schedule}");
+    let right = listing_when(&text, None);
+    assert!(right.ends_with(right_end), "{right}");
+    let torn = listing_when(&text, Some(wrong));
+    let answers = torn.rsplit_once(" / ").expect("more than one line").0;
+    assert!(answers.ends_with(wrong_lines), "{torn}");
+}
+
+#[test]
+fn line_9_a_plain_write() {
+    check(
+        "0l 5(0.) 1l 1! 1s7 1! 0! 0l 0!",
+        "0 L 8 5 / 0 L 8 7 / end 35",
+        Wrong::Line9Plain,
+        "0 L 8 5 / 0 L 8 5",
+    );
+}
+
+#[test]
+fn line_10_keeps_mybuf() {
+    check(
+        "0l 4(0.) 1l 1! 1s7 1! 0! 0l 0!",
+        "0 L 7 5 / 0 L 8 7 / end 34",
+        Wrong::Line10Keeps,
+        "0 L 7 5 / 0 L 8 5",
+    );
+}
+
+#[test]
+fn no_vl_in_line_14() {
+    check(
+        "1l 1! 1s7 1! 0l 0. 1s8 1! 4(0.) 1l 1! 1s9 1! 0!",
+        "1 S 7 1 / 0 L 8 7 / end 48",
+        Wrong::NoCheck14,
+        "1 S 7 1 / 0 L 11 0",
+    );
+}
+
+#[test]
+fn lines_6_and_7_skipped() {
+    check(
+        "0l 0. 1l 1! 1s7 1! 0! 0v 0!",
+        "0 L 10 7 / 0 V 1 1 / end 30",
+        Wrong::Skip6And7,
+        "0 L 9 5 / 0 V 1 1",
+    );
+}
+
+#[test]
+fn sequence_number_modulo_n() {
+    check(
+        "1l 1! 1s7 2(1.) 0l 2(0.) 1! 1l 1! 1s8 1! 1s9 3(1.) 0!",
+        "1 S 7 1 / 0 L 8 5 / end 45",
+        Wrong::SequenceModN,
+        "1 S 7 1 / 0 L 8 9",
+    );
+}
+
+/// The brute-force search of the second witness can fail, and does.
+#[test]
+fn the_search_catches_each_of_them() {
+    for (name, wrong) in Wrong::ALL {
+        let torn = |index| served_order(&record(&mut Rng::stream(1, index), Some(wrong))).is_none();
+        assert!((0..200_000).any(torn), "{name} was never caught");
+    }
+}
