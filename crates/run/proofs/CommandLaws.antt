@@ -32,13 +32,6 @@ use Rattle.run.proofs.WordLaws.{Every}
 use Rattle.run.proofs.ObeyLaws.{Obeyed, order-obeyed}
 use Rattle.run.proofs.RecordLaws.{filled-gathered, lent-length}
 
-pub number-same : (r : Reply) → numberOf r ≡ numberOf r
-number-same (Refused c) = refl
-number-same Accepted = refl
-number-same (LlAnswered k) = refl
-number-same (ScAnswered t k) = refl
-number-same (VlAnswered t k) = refl
-
 -- the numbers of a command's rows are at most 9
 either-small : (t : Bool) (k rest : ℕ) → k ≤ 9 → rest ≤ 9 → cond t k rest ≤ 9
 either-small true k rest p q = p
