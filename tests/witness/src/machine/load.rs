@@ -50,11 +50,8 @@ impl Bench {
     }
 
     pub(super) fn line7_validate(&mut self, p: usize) -> After {
-        if note(&mut self.tally.line7, self.x.vl(p)) {
-            After::At(Line::L8)
-        } else {
-            After::At(Line::L7Copy)
-        }
+        let valid = note(&mut self.tally.line7, self.x.vl(p));
+        After::either(valid, Line::L8, Line::L7Copy)
     }
 
     pub(super) fn line7_copy(&mut self, p: usize) -> After {
@@ -106,10 +103,6 @@ impl Bench {
     fn read_word(&mut self, p: usize, from: usize, same: Line, next: Line) -> After {
         let me = &mut self.processes[p];
         me.return_area[me.word] = self.buf[from][me.word];
-        if self.was_last_word(p) {
-            After::At(next)
-        } else {
-            After::At(same)
-        }
+        After::either(self.was_last_word(p), next, same)
     }
 }

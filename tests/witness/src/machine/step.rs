@@ -11,6 +11,13 @@ pub(super) enum After {
     Answer(Reply),
 }
 
+impl After {
+    /// One line or another, by what the step found.
+    pub(super) fn either(found: bool, yes: Line, no: Line) -> After {
+        After::At(if found { yes } else { no })
+    }
+}
+
 impl Bench {
     pub(super) fn step(&mut self, p: usize) -> Option<Answer> {
         self.processes[p].count += 1;

@@ -10,19 +10,13 @@ use super::wrong::Wrong;
 impl Bench {
     pub(super) fn line12(&mut self, p: usize) -> After {
         let x = self.processes[p].x;
-        if self.bank[x.sequence].ll(p) != x.buffer {
-            After::At(Line::L12Validate)
-        } else {
-            After::At(Line::L14)
-        }
+        let differs = self.bank[x.sequence].ll(p) != x.buffer;
+        After::either(differs, Line::L12Validate, Line::L14)
     }
 
     pub(super) fn line12_validate(&mut self, p: usize) -> After {
-        if note(&mut self.tally.line12_validate, self.x.vl(p)) {
-            After::At(Line::L13)
-        } else {
-            After::At(Line::L14)
-        }
+        let valid = note(&mut self.tally.line12_validate, self.x.vl(p));
+        After::either(valid, Line::L13, Line::L14)
     }
 
     pub(super) fn line13(&mut self, p: usize) -> After {
@@ -48,11 +42,8 @@ impl Bench {
     }
 
     pub(super) fn line14_validate(&mut self, p: usize) -> After {
-        if note(&mut self.tally.line14_validate, self.x.vl(p)) {
-            After::At(Line::L15)
-        } else {
-            After::At(Line::L17)
-        }
+        let valid = note(&mut self.tally.line14_validate, self.x.vl(p));
+        After::either(valid, Line::L15, Line::L17)
     }
 
     /// Line 15, and line 16 if the help was taken: the two processes
@@ -72,11 +63,7 @@ impl Bench {
     pub(super) fn line17(&mut self, p: usize) -> After {
         let me = &self.processes[p];
         self.buf[me.mybuf][me.word] = me.offer_area[me.word];
-        if self.was_last_word(p) {
-            After::At(Line::L18)
-        } else {
-            After::At(Line::L17)
-        }
+        After::either(self.was_last_word(p), Line::L18, Line::L17)
     }
 
     pub(super) fn line18(&mut self, p: usize) -> After {
