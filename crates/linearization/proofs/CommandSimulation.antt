@@ -150,7 +150,7 @@ module _ (N W n : ℕ) (m : Memory) (z : State) (r : Related N W m z) (ok : InRa
         follows = exec-start N W n z p v hp o s i a e;
         said = ap (λ t. says (t .1) (record { 0 = p }) (t .0)) eq ∙ ap (says _ (record { 0 = p })) (start-reply o (record { 0 = p }) v bench (recordOf (z .loc p)) (m .words) s);
       });
-      related = rw (eq, exec-start N W n z p v hp o s i a e) (join _ _ (follow-start N W (m .bench .x) (m .bench .bank) (m .bench .help) (m .words) p n z hp (r .sizes .n-high) (r .places) (ok .each p hp) o v n (idle-word N W z p hp places (PointFacts.idle-is (z .loc p .point) i)) s e));
+      related = rw (eq, exec-start N W n z p v hp o s i a e) (join _ _ (follow-start N W (m .bench .x) (m .bench .bank) (m .bench .help) (m .words) p n z hp (r .places) (ok .each p hp) o v n (idle-word N W z p hp places (PointFacts.idle-is (z .loc p .point) i)) s e));
     }
       where
         eq : command m p o v ≡ putBack m (record { 0 = p }) (obey o (record { 0 = p }) v bench (recordOf (z .loc p)) (m .words))
@@ -183,7 +183,7 @@ module _ (N W n : ℕ) (m : Memory) (z : State) (r : Related N W m z) (ok : InRa
         eq = obeys p Step v k ∙ ap (putBack m (record { 0 = p })) (obey-is Step v ∙ step-is v)
 
         after : Related N W m′ z′
-        after = join made z′ (follow N W (m .bench .x) (m .bench .bank) (m .bench .help) (m .words) p n z hp (r .sizes .n-high) (r .places) (ok .each p hp) (z .loc p .point) refl)
+        after = join made z′ (follow N W (m .bench .x) (m .bench .bank) (m .bench .help) (m .words) p n z hp (r .places) (ok .each p hp) (z .loc p .point) refl)
 
         area : z .loc p .point ≡ line11 → z′ .loc p .returned ≡ z .loc p .returned
         area e = ap (λ y. GhostMachine.stepAt N W y n p z .loc p .returned) e ∙ return-stays N W n p z

@@ -1,13 +1,12 @@
 -- Row 9 never holds: the numbers of related memory are in range.
-use mathlib.Core.Path.{_≡_, refl, ap, ap₂, subst, _∙_}
-use mathlib.Core.Bool.{Bool, true, false, not, _&&_, cond}
-use mathlib.Core.List.{List}
-use Prim.Native.Nat.{ℕ, _+_, _*_, _≤_, _<_}
+use mathlib.Core.Path.{_≡_, refl, ap₂, subst}
+use mathlib.Core.Bool.{Bool, true, false, _&&_, cond}
+use Prim.Native.Nat.{ℕ, _+_, _*_, _^_, _≤_, _<_}
 use native.Mathlib.Omega.{arith}
 use lib.Dec.{ltb, leb}
 use borrow.Author.Tests.{lt-ltb, le-leb}
-use lib.ListN.{take, drop}
-use lib.Seq.{length-take-le, getD-take, getD-drop}
+use lib.ListN.{take}
+use lib.Seq.{length-take-le, getD-take}
 use Rattle.model.specs.declared.XPlace.{XPlace}
 use Rattle.model.specs.declared.BankPlace.{BankPlace}
 use Rattle.model.specs.declared.HelpPlace.{HelpPlace}
@@ -40,8 +39,8 @@ below : (a b c : ℕ) → a ≡ b → b < c → ltb a c ≡ true
 below a b c e h = lt-ltb a c (omega arith)
 
 module _ (N : ℕ) where
-  links-ok : (links : List Bool) (f : ℕ → Bool) → LinksLike N links f → linksOk N links ≡ true
-  links-ok links f r = every-true not false (drop N links) (λ j hj. ap not (getD-drop N links j false ∙ r .offered (N + j) (omega arith)))
+  links-ok : (links : ℕ) (f : ℕ → Bool) → LinksLike N links f → linksOk N links ≡ true
+  links-ok links f r = lt-ltb links (2 ^ N) (r .below)
 
   x-ok : (x : XPlace) (b s : ℕ) (f : ℕ → Bool) → b < 3 * N → s < 2 * N → XLike N x b s f → xPlaceOk N x ≡ true
   x-ok x b s f hb hs r = ap₂ _&&_ (ap₂ _&&_ (below _ _ _ (r .buf) hb) (below _ _ _ (r .seq) hs)) (links-ok _ f (r .links))

@@ -1,19 +1,21 @@
 -- The relation between model's memory and the ghost machine, and what one change of a list does to it.
--- The tables are longer than N needs: they are related below 2N, N and 5NW, the links also above N, where none is set.
-use mathlib.Core.Path.{_≡_, refl, sym, ap, _∙_}
+-- The tables are longer than N needs: they are related below 2N, N and 5NW, and above N no link is set.
+use mathlib.Core.Path.{_≡_, sym, ap, _∙_}
 use mathlib.Core.Bool.{Bool, true, false, cond}
 use mathlib.Core.List.{List}
-use Prim.Native.Nat.{ℕ, suc, _+_, _*_, _≤_, _<_}
+use Prim.Native.Nat.{ℕ, suc, _+_, _*_, _^_, _≤_, _<_}
 use native.Mathlib.Nat.{mul-le-mul-right}
 use native.Mathlib.Decide.{decLt}
 use native.Mathlib.Omega.{arith}
-use lib.ListN.{length, getD, set, replicate, length-set, getD-replicate, List·getD-eq-default}
+use lib.Pow.{pow-pos}
+use lib.ListN.{length, getD, set, length-set}
 use lib.Seq.{getD-set-same, getD-set-other, sets, length-sets}
 use Rattle.model.specs.declared.XPlace.{XPlace}
 use Rattle.model.specs.declared.BankPlace.{BankPlace}
 use Rattle.model.specs.declared.HelpPlace.{HelpPlace}
 use Rattle.model.specs.declared.Process.{Process}
-use Rattle.model.specs.Places.{noLinks}
+use Rattle.model.specs.Places.{noLinks, linked, link}
+use Rattle.model.proofs.LinkLaws.{none-linked, link-same, link-other, link-below}
 use Rattle.model.specs.Tables.{noBank, noHelp}
 use Rattle.model.specs.Points.{lineNumber}
 use Rattle.model.specs.Records.{recordAt}
@@ -27,10 +29,9 @@ abbrev pub recordOf : Local → Process
 recordOf f = record { mybuf = record { 0 = f .mybuf }; x = record { buf = record { 0 = f .copyBuf }; seq = record { 0 = f .copySeq } }; line = lineNumber (f .point); word = f .word; count = f .count; answered = f .answered; b = record { 0 = f .b }; c = record { 0 = f .c }; d = record { 0 = f .d }; e = record { 0 = f .e } }
 
 -- the links of one place; f q is the link of process q
-pub record LinksLike (N : ℕ) (links : List Bool) (f : ℕ → Bool) : Type 0 where
-  pub len : length links ≡ 16
-  pub at : (q : ℕ) → q < N → getD links q false ≡ f q
-  pub offered : (q : ℕ) → N ≤ q → getD links q false ≡ false
+pub record LinksLike (N : ℕ) (links : ℕ) (f : ℕ → Bool) : Type 0 where
+  pub at : (q : ℕ) → q < N → linked links (record { 0 = q }) ≡ f q
+  pub below : links < 2 ^ N
 
 pub record XLike (N : ℕ) (x : XPlace) (b s : ℕ) (f : ℕ → Bool) : Type 0 where
   pub buf : x .content .buf .0 ≡ b
@@ -80,29 +81,18 @@ pub record Related (N W : ℕ) (m : Memory) (z : State) : Type 0 where
 
 -- links: the same, one more, none
 module _ (N : ℕ) where
-  pub links-same : {links : List Bool} {f g : ℕ → Bool} → ((q : ℕ) → g q ≡ f q) → LinksLike N links f → LinksLike N links g
-  links-same e r = record { len = r .len; at = λ q hq. r .at q hq ∙ sym (e q); offered = r .offered }
+  pub links-same : {links : ℕ} {f g : ℕ → Bool} → ((q : ℕ) → g q ≡ f q) → LinksLike N links f → LinksLike N links g
+  links-same e r = record { at = λ q hq. r .at q hq ∙ sym (e q); below = r .below }
 
-  pub links-set : (links : List Bool) (f g : ℕ → Bool) (p : ℕ) → p < N → N ≤ 16 → g p ≡ true → ((q : ℕ) → (q ≡ p → ⊥) → g q ≡ f q) → LinksLike N links f → LinksLike N (set links p true) g
-  links-set links f g p hp hN e o r = record {
-    len = length-set links p true ∙ r .len;
-    at = λ q hq. go q hq (split q p);
-    offered = λ q hq. getD-set-other links p q true false (λ z. omega arith) ∙ r .offered q hq;
-  }
+  pub links-set : (links : ℕ) (f g : ℕ → Bool) (p : ℕ) → p < N → g p ≡ true → ((q : ℕ) → (q ≡ p → ⊥) → g q ≡ f q) → LinksLike N links f → LinksLike N (link links (record { 0 = p })) g
+  links-set links f g p hp e o r = record { at = λ q hq. go q hq (split q p); below = link-below links (record { 0 = p }) N hp (r .below) }
     where
-      go : (q : ℕ) → q < N → Split q p → getD (set links p true) q false ≡ g q
-      go q hq (same z) = rw z (getD-set-same links p true false (let y = r .len in omega arith) ∙ sym e)
-      go q hq (other ne) = getD-set-other links p q true false ne ∙ r .at q hq ∙ sym (o q ne)
-
-  no-link : (q : ℕ) → getD noLinks q false ≡ false
-  no-link q = go (decLt q 16)
-    where
-      go : Dec (q < 16) → getD (replicate 16 false) q false ≡ false
-      go (yes h) = getD-replicate 16 q false false h
-      go (no h) = List·getD-eq-default (replicate 16 false) false {n = q} (let z : 16 ≤ q = omega arith in z)
+      go : (q : ℕ) → q < N → Split q p → linked (link links (record { 0 = p })) (record { 0 = q }) ≡ g q
+      go q hq (same z) = rw z (link-same links (record { 0 = p }) ∙ sym e)
+      go q hq (other ne) = link-other links (record { 0 = p }) (record { 0 = q }) ne ∙ r .at q hq ∙ sym (o q ne)
 
   pub links-none : (g : ℕ → Bool) → ((q : ℕ) → g q ≡ false) → LinksLike N noLinks g
-  links-none g e = record { len = refl; at = λ q hq. no-link q ∙ sym (e q); offered = λ q hq. no-link q }
+  links-none g e = record { at = λ q hq. none-linked (record { 0 = q }) ∙ sym (e q); below = pow-pos N }
 
 -- a place that is left alone
 module _ (N : ℕ) where

@@ -2,7 +2,7 @@
 use mathlib.Core.Path.{_≡_, refl, sym, ap, ap₂, _∙_}
 use mathlib.Core.Bool.{Bool, true, false, not, cond}
 use mathlib.Core.List.{List}
-use Prim.Native.Nat.{ℕ, suc, _+_, _*_, _%_, _≤_, _<_}
+use Prim.Native.Nat.{ℕ, suc, _+_, _*_, _%_, _<_}
 use native.Mathlib.Nat.{mod-lt}
 use native.Mathlib.Numerals.{add-one}
 use native.Mathlib.Omega.{arith}
@@ -21,7 +21,7 @@ use Rattle.model.specs.declared.Order.{Order}
 use Rattle.model.specs.declared.Order.the-variants.{StartLl, StartSc, StartVl, Step}
 use Rattle.model.specs.declared.Reply.the-variants.{Accepted, LlAnswered, ScAnswered, VlAnswered}
 use Rattle.model.specs.declared.Moved.{Moved}
-use Rattle.model.specs.Places.{noLinks, writeHelp, llHelp, llBank}
+use Rattle.model.specs.Places.{linked, noLinks, writeHelp, llHelp, llBank}
 use Rattle.model.specs.Tables.{noBank, noHelp}
 use Rattle.model.specs.Records
 use Rattle.model.specs.Machine
@@ -111,7 +111,7 @@ ofHelp m = (m .linkX, m .linkBank, m .returned, m .offered)
 abbrev ofWords : Local → Bool × (ℕ → Bool) × (ℕ → Bool)
 ofWords m = (m .linkX, m .linkBank, m .linkHelp)
 
-module _ (N W : ℕ) (x : XPlace) (ks : List BankPlace) (hs : List HelpPlace) (ws : List ℕ) (p t : ℕ) (z : State) (hp : p < N) (hN : N ≤ 16) (r : PlacesLike N W x ks hs ws (z .sh) (z .loc)) (g : ProcessRanges N W (z .loc p)) where
+module _ (N W : ℕ) (x : XPlace) (ks : List BankPlace) (hs : List HelpPlace) (ws : List ℕ) (p t : ℕ) (z : State) (hp : p < N) (r : PlacesLike N W x ks hs ws (z .sh) (z .loc)) (g : ProcessRanges N W (z .loc p)) where
   abbrev h : Shared
   h = z .sh
 
@@ -189,14 +189,14 @@ module _ (N W : ℕ) (x : XPlace) (ks : List BankPlace) (hs : List HelpPlace) (w
   }) e (λ _. refl)
 
   -- X: LL, left alone, written
-  x-linked : getD (x .links) p false ≡ f .linkX
+  x-linked : linked (x .links) me ≡ f .linkX
   x-linked = r .x .links .at p hp
 
   ll-x : (y : Point) → Made N W p z (Machine.onX (doLine2 y me) (bench x ks hs) (recordOf f) ws) (quiet z p (GhostMachine.to y (GhostMachine.llX h t f)))
   ll-x y =
       let l : Local = GhostMachine.to y (GhostMachine.llX h t f) in
       on-x _ _ Accepted h (λ m. m) l
-      (record { buf = r .x .buf; seq = r .x .seq; links = links-set N (x .links) (λ q. z .loc q .linkX) _ p hp hN (ap (λ m. m .linkX) (upd-same (z .loc) p l)) (λ q ne. ap (λ m. m .linkX) (upd-other (z .loc) p q l ne)) (r .x .links) })
+      (record { buf = r .x .buf; seq = r .x .seq; links = links-set N (x .links) (λ q. z .loc q .linkX) _ p hp (ap (λ m. m .linkX) (upd-same (z .loc) p l)) (λ q ne. ap (λ m. m .linkX) (upd-other (z .loc) p q l ne)) (r .x .links) })
       (ap (λ c. Records.to y (Records.withX c (recordOf f))) (content (x .content) (h .xbuf) (h .xseq) (r .x .buf) (r .x .seq)) ∙ to-record y (GhostMachine.llX h t f)) refl refl (λ _. refl) (λ _. refl)
 
   stay-x : (q′ : Process) (a : Reply) (h′ : Shared) (l : Local) → q′ ≡ recordOf l → h′ .xbuf ≡ h .xbuf → h′ .xseq ≡ h .xseq → notX h′ ≡ notX h → l .linkX ≡ f .linkX → ofX l ≡ ofX f
@@ -214,7 +214,7 @@ module _ (N W : ℕ) (x : XPlace) (ks : List BankPlace) (hs : List HelpPlace) (w
         → Made N W p z (record { bench = bench x (set ks i (llBank (getD ks i noBank) me)) hs; process = q′; reply = Accepted }, ws) (quiet z p l)
     ll-bank q′ l e lb own =
         on-bank i hi _ q′ h (λ m. m) l
-        (record { buf = r .bank i hi .buf; links = links-set N _ (λ q. z .loc q .linkBank i) _ p hp hN (ap (λ m. m .linkBank i) (upd-same (z .loc) p l) ∙ ap (λ c. c i) lb ∙ upd-same (f .linkBank) i true) (λ q ne. ap (λ m. m .linkBank i) (upd-other (z .loc) p q l ne)) (r .bank i hi .links) })
+        (record { buf = r .bank i hi .buf; links = links-set N _ (λ q. z .loc q .linkBank i) _ p hp (ap (λ m. m .linkBank i) (upd-same (z .loc) p l) ∙ ap (λ c. c i) lb ∙ upd-same (f .linkBank) i true) (λ q ne. ap (λ m. m .linkBank i) (upd-other (z .loc) p q l ne)) (r .bank i hi .links) })
         e refl own (λ _. refl) (λ _. refl) (λ j ne. refl) (λ j ne. ap (λ c. c j) lb ∙ upd-other (f .linkBank) i j true ne) (λ j ne m. refl)
 
     stay-bank : (q′ : Process) (l : Local) → q′ ≡ recordOf l → l .linkBank ≡ f .linkBank → ofBank l ≡ ofBank f
@@ -236,7 +236,7 @@ module _ (N W : ℕ) (x : XPlace) (ks : List BankPlace) (hs : List HelpPlace) (w
         → Made N W p z (record { bench = bench x ks (set hs i (llHelp (getD hs i noHelp) me)); process = q′; reply = Accepted }, ws) (quiet z p l)
     ll-help q′ l e lh own =
         on-help i hi _ q′ h (λ m. m) l
-        (record { flag = r .help i hi .flag; buf = r .help i hi .buf; links = links-set N _ (λ q. z .loc q .linkHelp i) _ p hp hN (ap (λ m. m .linkHelp i) (upd-same (z .loc) p l) ∙ ap (λ c. c i) lh ∙ upd-same (f .linkHelp) i true) (λ q ne. ap (λ m. m .linkHelp i) (upd-other (z .loc) p q l ne)) (r .help i hi .links) })
+        (record { flag = r .help i hi .flag; buf = r .help i hi .buf; links = links-set N _ (λ q. z .loc q .linkHelp i) _ p hp (ap (λ m. m .linkHelp i) (upd-same (z .loc) p l) ∙ ap (λ c. c i) lh ∙ upd-same (f .linkHelp) i true) (λ q ne. ap (λ m. m .linkHelp i) (upd-other (z .loc) p q l ne)) (r .help i hi .links) })
         e refl own (λ _. refl) (λ _. refl) (λ j ne. (refl, refl)) (λ j ne. ap (λ c. c j) lh ∙ upd-other (f .linkHelp) i j true ne) (λ j ne m. refl)
 
     stay-help : (q′ : Process) (l : Local) → q′ ≡ recordOf l → l .linkHelp ≡ f .linkHelp → ofHelp l ≡ ofHelp f
@@ -365,7 +365,7 @@ module _ (N W : ℕ) (x : XPlace) (ks : List BankPlace) (hs : List HelpPlace) (w
       (λ t′. rw (add-one (f .copySeq), x-linked ∙ t′) (write-x _ _ (ScAnswered true (f .count + 1))
       (GhostMachine.wEnd p false t (GhostMachine.wX (f .mybuf) (suc (f .copySeq) % (2 * N)) (f .offered) t (suc (f .copySeq) % (2 * N)) (2 * N + p) h)) (GhostMachine.rest (f .answered) (GhostMachine.setMybuf (f .e) (GhostMachine.setLinkX false f))) refl refl refl refl refl refl))
       (λ t′. rw (add-one (f .copySeq), x-linked ∙ t′) (stay-x _ (ScAnswered false (f .count + 1)) (GhostMachine.wEnd p (f .linkX) t h) (GhostMachine.rest (f .answered) f) refl refl refl refl refl refl))
-  follow line23 e = stay-x _ (VlAnswered (getD (x .links) p false) (f .count + 1)) (GhostMachine.wEnd p (f .linkX) t h) (GhostMachine.rest (f .answered) f) refl refl refl refl refl refl
+  follow line23 e = stay-x _ (VlAnswered (linked (x .links) me) (f .count + 1)) (GhostMachine.wEnd p (f .linkX) t h) (GhostMachine.rest (f .answered) f) refl refl refl refl refl refl
 
   -- a start: p's record, and for SC its offer area; n is the number of the command
   -- (its word place is 0, as the ghost machine sets it)

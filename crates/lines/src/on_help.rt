@@ -12,9 +12,9 @@ use model::Process;
 use model::ProcessNumber;
 
 // A flag of Help: the process asks for help, or none is asked or it was given.
-const ASKED: u8 = 1;
+pub const ASKED: u8 = 1;
 
-const GIVEN: u8 = 0;
+pub const GIVEN: u8 = 0;
 
 // Line 1: Help[p] = (1, mybuf).
 pub fn do_line_1(help: HelpPlace, process: Process) -> HelpStep

@@ -14,20 +14,20 @@ process-digits : (p : ℕ) → p < 16 → length (decimal p) ≤ 2
 unfolding tens
 process-digits p h = at-most 2 p (omega arith) (omega arith)
 
-count-digits : (n : ℕ) → n ≤ 263 → length (decimal n) ≤ 3
+pub count-digits : (n : ℕ) → n ≤ 263 → length (decimal n) ≤ 3
 unfolding tens
 count-digits n h = at-most 3 n (omega arith) (omega arith)
 
-word-digits : (w : ℕ) → w ≤ 4294967295 → length (decimal w) ≤ 10
+pub word-digits : (w : ℕ) → w ≤ 4294967295 → length (decimal w) ≤ 10
 unfolding tens
 word-digits w h = at-most 10 w (omega arith) (omega arith)
 
-entries-digits : (e : ℕ) → e ≤ 60000 → length (decimal e) ≤ 5
+pub entries-digits : (e : ℕ) → e ≤ 60000 → length (decimal e) ≤ 5
 unfolding tens
 entries-digits e h = at-most 5 e (omega arith) (omega arith)
 
 -- lengths of parts put together
-joined : (a b : List ℕ) (m n : ℕ) → length a ≤ m → length b ≤ n → length (a ++ b) ≤ m + n
+pub joined : (a b : List ℕ) (m n : ℕ) → length a ≤ m → length b ≤ n → length (a ++ b) ≤ m + n
 joined a b m n p q = omega (arith, length-append a b)
 
 pub head-length : (p letter count : ℕ) → p < 16 → count ≤ 263 → length (answerHead p letter count) ≤ 8

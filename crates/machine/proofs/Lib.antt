@@ -3,7 +3,8 @@ pub mod AndLaws
 pub mod ListLaws
 pub mod WordLaws
 pub mod LineLaws
-pub mod ReadyLaws
+pub mod IndexLaws
+pub mod TakenLaws
 pub mod RowLaws
 pub mod ObeyLaws
 pub mod GatheredLaws

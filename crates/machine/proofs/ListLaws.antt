@@ -35,9 +35,6 @@ module _ {ℓ} {A : Type ℓ} where
   every-at f (a ∷ l) zero d e h = left (f a) (every f l) e
   every-at f (a ∷ l) (suc i) d e h = every-at f l i d (right (f a) (every f l) e) (le-of-suc-le-suc h)
 
-  pub every-drop-step : (f : A → Bool) (l : List A) (i : ℕ) (d : A) → i < length l → every f (drop i l) ≡ (f (getD l i d) && every f (drop (i + 1) l))
-  every-drop-step f l i d k = rw (drop-cons l i d k, add-one i)
-
   -- stores one run after another
   pub sets-append : (l : List A) (i : ℕ) (vs us : List A) → sets l i (vs ++ us) ≡ sets (sets l i vs) (i + length vs) us
   sets-append l i [] us = ap (λ (k : ℕ). sets l k us) (sym (add-zero i))

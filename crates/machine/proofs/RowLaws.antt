@@ -12,7 +12,7 @@ use Rattle.model.specs.declared.Order.{Order}
 use Rattle.model.specs.Records.{recordAt}
 use Rattle.model.specs.Refusals.{row1, row2, row4, row5, row6, row7, row9, inRange, processOk, bufferOk, sequenceOk, xOk, lineOk, countOk, isIdle, bringsValue}
 use Rattle.machine.specs.Lengths.{row3Lent, row8Lent}
-use Rattle.machine.specs.Decision.{decisionNumber}
+use Rattle.machine.specs.Decision.{decisionNumber, lateNumber, InOrder}
 use Rattle.machine.proofs.AndLaws.{left, right}
 
 -- a row that does not hold is passed, one that does answers
@@ -88,6 +88,11 @@ in-range n w q h e =
     }
 
 module _ (b : Bench) (list : List Process) (len p : ℕ) (o : Order) (value words : ℕ) where
+  -- where the lent memory is in order, the late rows decide
+  pub late-decides : InOrder b list len words → lateNumber (b .n) (b .w) list p o value ≡ decisionNumber b list len p o value words
+  unfolding lateNumber decisionNumber
+  late-decides h = over _ 1 (h .row-1) (over _ 2 (h .row-2) (over _ 3 (h .row-3) (over _ 9 (h .row-9) refl)))
+
   -- what it means that no row holds
   pub record Cleared : Type 0 where
     pub n-some : 0 < b .n

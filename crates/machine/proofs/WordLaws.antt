@@ -1,7 +1,7 @@
 -- Places in the lent words.
 use mathlib.Core.Path.{_≡_}
-use Prim.Native.Nat.{ℕ, suc, _+_, _*_, _%_, _≤_, _<_}
-use native.Mathlib.Nat.{mul-le-mul, mul-le-mul-right, suc-mul, mod-lt}
+use Prim.Native.Nat.{ℕ, suc, _+_, _*_, _≤_, _<_}
+use native.Mathlib.Nat.{mul-le-mul, mul-le-mul-right, suc-mul}
 use native.Mathlib.Omega.{arith}
 
 -- word k of row b lies within c rows
@@ -19,10 +19,3 @@ row-lies n {r} {k} {w} {l} hr hk hl = omega (arith, mul-le-mul-right {m = suc r}
 -- a place of a row up to 319 fits a machine number
 pub fits : {r w k : ℕ} → r ≤ 319 → w ≤ 64 → k < 64 → r * w + k < 20544
 fits {r} {w} {k} hr hw hk = omega (arith, mul-le-mul hr hw)
-
--- (s + 1) mod 2N is a place of Bank, s mod N a place of Help
-pub next-small : (n s : ℕ) → 0 < n → n ≤ 16 → (s + 1) % (2 * n) < 32
-next-small n s h l = omega (arith, mod-lt (s + 1) {m = 2 * n} (omega arith))
-
-pub helped-small : (n s : ℕ) → 0 < n → n ≤ 16 → s % n < 16
-helped-small n s h l = omega (arith, mod-lt s {m = n} h)

@@ -1,5 +1,5 @@
 pub mod Ranges
-pub mod Stored
+pub mod Taken
 pub mod Lengths
 pub mod Decision
 pub mod Gathered

@@ -2,9 +2,10 @@
 ghost use mathlib.Core.Path.{_≡_};
 ghost use mathlib.Core.List.{[], _∷_};
 ghost use Prim.Native.Nat.{_≤_};
+ghost use lib.ListN.{length};
 ghost use Rattle.model.specs.Refusals.{inRange, first, row5, row6, row7};
 ghost use Rattle.machine.specs.Lengths.{row8Lent};
-ghost use Rattle.machine.specs.Decision.{decisionNumber, refusedOutcome, obeyedOutcome, decided};
+ghost use Rattle.machine.specs.Decision.{decisionNumber, lateNumber, InOrder, refusedOutcome, obeyedOutcome, decided};
 use crate::causes;
 use crate::orders;
 use crate::records;
@@ -60,11 +61,19 @@ pub fn refusal(
     if !in_range(bench, all) {
         return causes::NUMBER_OUT_OF_RANGE;
     }
-    if causes::no_such_process(bench.n, p) {
+    late_refusal(bench.n, bench.w, all, p, order, value)
+}
+
+// Rows 4 to 8: all that a command can be refused for where the lent memory is in order.
+fn late_refusal(n: usize, w: usize, all: Records, p: usize, order: Order, value: usize) -> u8
+    requires { ⌜ n ≤ 16 ⌝ }
+    ensures { λ r. ⌜ r ≡ lateNumber n w (all .list) p order value ⌝ }
+{
+    if causes::no_such_process(n, p) {
         return causes::NO_SUCH_PROCESS;
     }
     let process = records::record_at(all, ProcessNumber(p as u8));
-    call_refusal(order, process, bench.w, value)
+    call_refusal(order, process, w, value)
 }
 
 // Rows 5 to 8, of the process that is named.
@@ -111,6 +120,29 @@ fn obeyed(moved: Moved, p: usize) -> Outcome
     }
 }
 
+// The command, with the number of its refusal.
+fn decide_by(
+    number: u8,
+    bench: Bench,
+    all: Records,
+    len: usize,
+    p: usize,
+    order: Order,
+    value: &[u64],
+    words: &mut [u64],
+) -> Outcome
+    requires { ⌜ number ≡ decisionNumber bench (all .list) len p order (length (now value)) (length (now words)) ⌝ }
+    ensures { λ r. ⌜ (r, now (words .exit)) ≡ decided bench (all .list) len p order (now (value .entry)) (now (words .entry)) ⌝ }
+{
+    if number != 0 {
+        return refused(bench, len, number);
+    }
+    let process_number = ProcessNumber(p as u8);
+    let process = records::record_at(all, process_number);
+    let moved = orders::obey(order, process_number, value, bench, process, words);
+    obeyed(moved, p)
+}
+
 // `all` holds the first sixteen lent records, with a filler where there are fewer; `len` is how many were lent.
 pub fn decide(
     bench: Bench,
@@ -124,11 +156,22 @@ pub fn decide(
     ensures { λ r. ⌜ (r, now (words .exit)) ≡ decided bench (all .list) len p order (now (value .entry)) (now (words .entry)) ⌝ }
 {
     let number = refusal(bench, all, len, p, order, value.len(), words.len());
-    if number != 0 {
-        return refused(bench, len, number);
-    }
-    let process_number = ProcessNumber(p as u8);
-    let process = records::record_at(all, process_number);
-    let moved = orders::obey(order, process_number, value, bench, process, words);
-    obeyed(moved, p)
+    decide_by(number, bench, all, len, p, order, value, words)
+}
+
+// The same where rows 1, 2, 3 and 9 are known not to hold: they are not looked at again.
+pub fn decide_in_order(
+    bench: Bench,
+    all: Records,
+    len: usize,
+    p: usize,
+    order: Order,
+    value: &[u64],
+    words: &mut [u64],
+) -> Outcome
+    requires { ⌜ InOrder bench (all .list) len (length (now words)) ⌝ }
+    ensures { λ r. ⌜ (r, now (words .exit)) ≡ decided bench (all .list) len p order (now (value .entry)) (now (words .entry)) ⌝ }
+{
+    let number = late_refusal(bench.n, bench.w, all, p, order, value.len());
+    decide_by(number, bench, all, len, p, order, value, words)
 }

@@ -5,7 +5,6 @@ ghost use mathlib.Core.Bool.{_&&_};
 ghost use lib.Dec.{ltb};
 ghost use lib.ListN.{take};
 ghost use Rattle.model.specs.Refusals.{every, bufferOk, sequenceOk, xOk, linksOk, xPlaceOk, bankPlaceOk, helpPlaceOk, lineOk, countOk, processOk, benchOk};
-use crate::causes;
 use crate::records::Records;
 use lines::points;
 use model::BankPlace;
@@ -45,18 +44,11 @@ pub fn x_ok(n: usize, x: XContent) -> bool
 }
 
 // No process from N on has a link.
-pub fn links_ok(n: usize, links: [bool; 16]) -> bool
+pub fn links_ok(n: usize, links: u16) -> bool
     requires { ⌜ n ≤ 16 ⌝ }
     ensures { λ r. ⌜ r ≡ linksOk n links ⌝ }
 {
-    let mut i = n;
-    while i < causes::MOST_PROCESSES {
-        if links[i] {
-            return false;
-        }
-        i += 1;
-    }
-    true
+    (links as usize) < (1usize << n)
 }
 
 // X with its links.

@@ -3,10 +3,14 @@ ghost use mathlib.Core.Path.{_≡_};
 ghost use Rattle.model.specs.Points.{pointOf};
 ghost use Rattle.model.specs.Machine.{stepAt};
 ghost use Rattle.machine.specs.Ranges.{Ready};
-use crate::bank_steps;
-use crate::help_steps;
+ghost use Rattle.machine.specs.Taken.{stepOn};
+use crate::taken;
+use crate::taken::Stepped;
+use crate::taken::Taken;
 use crate::word_steps;
-use crate::x_steps;
+use lines::on_bank;
+use lines::on_help;
+use lines::on_x;
 use lines::points;
 use model::Bench;
 use model::Moved;
@@ -15,38 +19,74 @@ use model::ProcessNumber;
 use model::Reply;
 
 // An idle process, and a line that is none (row 9 refuses it), stay as they are.
-pub fn step(bench: Bench, process: Process, p: ProcessNumber, words: &mut [u64]) -> Moved
-    requires { ⌜ Ready bench process p (now words) ⌝ }
-    ensures { λ r. ⌜ (r, now (words .exit)) ≡ stepAt (pointOf (process .line)) p bench process (now (words .entry)) ⌝ }
+pub fn on_taken(
+    n: usize,
+    w: usize,
+    p: ProcessNumber,
+    process: Process,
+    taken: Taken,
+    words: &mut [u64],
+) -> Stepped
+    requires { ⌜ Ready n w process p (now words) ⌝ }
+    ensures { λ r. ⌜ (r, now (words .exit)) ≡ stepOn (pointOf (process .line)) p n w taken process (now (words .entry)) ⌝ }
 {
     let line = process.line;
     match line {
-        points::LINE_1 => help_steps::step_1(bench, process, p),
-        points::LINE_2 => x_steps::step_2(bench, process, p),
-        points::LINE_3 => word_steps::step_3(bench, process, p, words),
-        points::LINE_4 => help_steps::step_4(bench, process, p),
-        points::LINE_5 => x_steps::step_5(bench, process, p),
-        points::LINE_6 => word_steps::step_6(bench, process, p, words),
-        points::LINE_7 => x_steps::step_7(bench, process, p),
-        points::LINE_7_COPY => word_steps::step_7_copy(bench, process, p, words),
-        points::LINE_8 => help_steps::step_8(bench, process, p),
-        points::LINE_9 => help_steps::step_9(bench, process, p),
-        points::LINE_10 => help_steps::step_10(bench, process, p),
-        points::LINE_11 => word_steps::step_11(bench, process, p, words),
-        points::LINE_12 => bank_steps::step_12(bench, process, p),
-        points::LINE_12_VALID => x_steps::step_12_valid(bench, process, p),
-        points::LINE_13 => bank_steps::step_13(bench, process, p),
-        points::LINE_14 => help_steps::step_14(bench, process, p),
-        points::LINE_14_VALID => x_steps::step_14_valid(bench, process, p),
-        points::LINE_15 => help_steps::step_15(bench, process, p),
-        points::LINE_17 => word_steps::step_17(bench, process, p, words),
-        points::LINE_18 => bank_steps::step_18(bench, process),
-        points::LINE_19 => x_steps::step_19(bench, process, p),
-        points::LINE_23 => x_steps::step_23(bench, process, p),
-        _ => Moved {
-            bench,
+        points::LINE_1 => taken::after_help(taken, on_help::do_line_1(taken.help, process)),
+        points::LINE_2 => taken::after_x(
+            taken,
+            on_x::do_line_2(points::LINE_3, p, taken.x, process),
+        ),
+        points::LINE_3 => taken::after_word(
+            taken,
+            word_steps::read_word(n, w, p, process.x.buf, points::LINE_4, process, words),
+        ),
+        points::LINE_4 => taken::after_help(taken, on_help::do_line_4(p, taken.help, process)),
+        points::LINE_5 => taken::after_x(
+            taken,
+            on_x::do_line_2(points::LINE_6, p, taken.x, process),
+        ),
+        points::LINE_6 => taken::after_word(
+            taken,
+            word_steps::read_word(n, w, p, process.x.buf, points::LINE_7, process, words),
+        ),
+        points::LINE_7 => taken::after_x(taken, on_x::do_line_7(p, taken.x, process)),
+        points::LINE_7_COPY => taken::after_word(
+            taken,
+            word_steps::read_word(n, w, p, process.b, points::LINE_8, process, words),
+        ),
+        points::LINE_8 => taken::after_help(taken, on_help::do_line_8(p, taken.help, process)),
+        points::LINE_9 => taken::after_help(taken, on_help::do_line_9(p, taken.help, process)),
+        points::LINE_10 => taken::after_help(taken, on_help::do_line_10(taken.help, process)),
+        points::LINE_11 => taken::after_word(taken, word_steps::step_11(n, w, p, process, words)),
+        points::LINE_12 => taken::after_bank(taken, on_bank::do_line_12(p, taken.bank, process)),
+        points::LINE_12_VALID => taken::after_x(taken, on_x::do_line_12_valid(p, taken.x, process)),
+        points::LINE_13 => taken::after_bank(taken, on_bank::do_line_13(p, taken.bank, process)),
+        points::LINE_14 => taken::after_help(taken, on_help::do_line_14(p, taken.help, process)),
+        points::LINE_14_VALID => taken::after_x(taken, on_x::do_line_14_valid(p, taken.x, process)),
+        points::LINE_15 => taken::after_help(taken, on_help::do_line_15(p, taken.help, process)),
+        points::LINE_17 => taken::after_word(taken, word_steps::step_17(n, w, p, process, words)),
+        points::LINE_18 => taken::after_bank(taken, on_bank::do_line_18(taken.bank, process)),
+        points::LINE_19 => taken::after_x(taken, on_x::do_line_19(n, p, taken.x, process)),
+        points::LINE_23 => taken::after_x(taken, on_x::do_line_23(p, taken.x, process)),
+        _ => Stepped {
+            taken,
             process,
             reply: Reply::Accepted,
         },
     }
+}
+
+// The places that the line could touch are taken out, the line works on its own, and all are put back.
+pub fn step(bench: Bench, process: Process, p: ProcessNumber, words: &mut [u64]) -> Moved
+    requires { ⌜ Ready (bench .n) (bench .w) process p (now words) ⌝ }
+    ensures { λ r. ⌜ (r, now (words .exit)) ≡ stepAt (pointOf (process .line)) p bench process (now (words .entry)) ⌝ }
+{
+    let n = bench.n;
+    let w = bench.w;
+    let i = taken::bank_index(n, process);
+    let j = taken::help_index(n, p, process);
+    let places = taken::take(bench, i, j);
+    let stepped = on_taken(n, w, p, process, places, words);
+    taken::put_back(bench, i, j, stepped)
 }

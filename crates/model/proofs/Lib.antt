@@ -1,3 +1,4 @@
+pub mod LinkLaws
 pub mod Schedules
 pub mod Runs
 pub mod TornReadings

@@ -1,8 +1,7 @@
 -- The shared places: X, each Bank[i] and each Help[i] is a single-word LL/SC object, a content and one link for each process (01, "Links").
-use Prim.Native.Nat.{ℕ}
-use mathlib.Core.List.{List, []}
-use mathlib.Core.Bool.{Bool, true, false, cond}
-use lib.ListN.{getD, set, replicate}
+use Prim.Native.Nat.{ℕ, _+_, _/_, _%_, _^_}
+use mathlib.Core.Bool.{Bool, cond}
+use lib.Dec.{eqb}
 use Rattle.model.specs.declared.BufferNumber.{BufferNumber}
 use Rattle.model.specs.declared.SequenceNumber.{SequenceNumber}
 use Rattle.model.specs.declared.ProcessNumber.{ProcessNumber}
@@ -12,17 +11,18 @@ use Rattle.model.specs.declared.XPlace.{XPlace}
 use Rattle.model.specs.declared.BankPlace.{BankPlace}
 use Rattle.model.specs.declared.HelpPlace.{HelpPlace}
 
+-- The links of a place are one number, whose bit p is the link of process p.
 -- no link is set
-abbrev pub noLinks : List Bool
-noLinks = replicate 16 false
+abbrev pub noLinks : ℕ
+noLinks = 0
 
 -- "VL tells whether the link is set."
-abbrev pub linked : List Bool → ProcessNumber → Bool
-linked links p = getD links (p .0) false
+abbrev pub linked : ℕ → ProcessNumber → Bool
+linked links p = eqb ((links / 2 ^ p .0) % 2) 1
 
 -- "LL by p .. sets p's link."
-abbrev pub link : List Bool → ProcessNumber → List Bool
-link links p = set links (p .0) true
+abbrev pub link : ℕ → ProcessNumber → ℕ
+link links p = cond (linked links p) links (links + 2 ^ p .0)
 
 -- LL of X by p: the content stays, p's link is set
 abbrev pub llX : XPlace → ProcessNumber → XPlace

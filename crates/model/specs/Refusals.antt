@@ -1,9 +1,9 @@
 -- The refusal table (01, "When the bench says no"): its rows, and the first that holds, for a command, a set-up and a view.
-use Prim.Native.Nat.{ℕ, _+_, _*_, _/_, _%_}
+use Prim.Native.Nat.{ℕ, _+_, _*_, _/_, _%_, _^_}
 use mathlib.Core.List.{List, [], _∷_, map}
 use mathlib.Core.Bool.{Bool, true, false, not, _&&_, _||_, cond}
 use lib.Dec.{eqb, ltb, leb}
-use lib.ListN.{length, take, drop}
+use lib.ListN.{length, take}
 use Rattle.model.specs.declared.BufferNumber.{BufferNumber}
 use Rattle.model.specs.declared.SequenceNumber.{SequenceNumber}
 use Rattle.model.specs.declared.XContent.{XContent}
@@ -63,9 +63,9 @@ sequenceOk n s = ltb (s .0) (2 * n)
 abbrev pub xOk : ℕ → XContent → Bool
 xOk n x = bufferOk n (x .buf) && sequenceOk n (x .seq)
 
--- "a link of a process not below N"
-abbrev pub linksOk : ℕ → List Bool → Bool
-linksOk n links = every not (drop n links)
+-- "a link of a process not below N": no bit from n on is set
+abbrev pub linksOk : ℕ → ℕ → Bool
+linksOk n links = ltb links (2 ^ n)
 
 -- X, a place of Bank, a place of Help ("a flag above 1")
 abbrev pub xPlaceOk : ℕ → XPlace → Bool

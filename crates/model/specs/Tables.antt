@@ -1,6 +1,5 @@
 -- The tables of the bench record, each reached by its own kind of number, and the arithmetic of sequence numbers.
 use Prim.Native.Nat.{ℕ, _+_, _*_, _%_}
-use mathlib.Core.List.{List, []}
 use lib.ListN.{getD, set}
 use Rattle.model.specs.declared.SequenceNumber.{SequenceNumber}
 use Rattle.model.specs.declared.ProcessNumber.{ProcessNumber}
@@ -11,10 +10,10 @@ use Rattle.model.specs.declared.Bench.{Bench}
 
 -- what stands past the end of a table
 abbrev pub noBank : BankPlace
-noBank = record { content = record { 0 = 0 }; links = [] }
+noBank = record { content = record { 0 = 0 }; links = 0 }
 
 abbrev pub noHelp : HelpPlace
-noHelp = record { content = record { flag = 0; buf = record { 0 = 0 } }; links = [] }
+noHelp = record { content = record { flag = 0; buf = record { 0 = 0 } }; links = 0 }
 
 -- Bank[i]
 abbrev pub bankAt : Bench → SequenceNumber → BankPlace

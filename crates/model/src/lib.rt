@@ -1,6 +1,5 @@
 // The declared types of the bench, and the values of them that a set-up writes.
 ghost use mathlib.Core.Path.{_≡_};
-ghost use Rattle.model.specs.Places.{noLinks};
 ghost use Rattle.model.specs.Refusals.{isStart};
 ghost use Rattle.model.specs.SetUp.{xAtSetUp, bankAtSetUp, helpAtSetUp, processAtSetUp, emptyBench};
 ghost use Rattle.model.specs.Replies.{numberOf};
@@ -26,22 +25,22 @@ pub struct HelpContent {
     pub buf: BufferNumber,
 }
 
-// X, with one link for each process.
+// X, with its links: bit p of the number is the link of process p.
 pub struct XPlace {
     pub content: XContent,
-    pub links: [bool; 16],
+    pub links: u16,
 }
 
-// A place of Bank, with one link for each process.
+// A place of Bank, with its links.
 pub struct BankPlace {
     pub content: BufferNumber,
-    pub links: [bool; 16],
+    pub links: u16,
 }
 
-// A place of Help, with one link for each process.
+// A place of Help, with its links.
 pub struct HelpPlace {
     pub content: HelpContent,
-    pub links: [bool; 16],
+    pub links: u16,
 }
 
 // The bench record: N, W, X, Bank (2N places), Help (N places) and their links.
@@ -117,13 +116,6 @@ pub struct Moved {
     pub reply: Reply,
 }
 
-// No process has a link.
-pub fn no_links() -> [bool; 16]
-    ensures { λ r. ⌜ r ≡ noLinks ⌝ }
-{
-    [false; 16]
-}
-
 // X at the set-up.
 pub fn x_at_set_up() -> XPlace
     ensures { λ r. ⌜ r ≡ xAtSetUp ⌝ }
@@ -133,7 +125,7 @@ pub fn x_at_set_up() -> XPlace
             buf: BufferNumber(0),
             seq: SequenceNumber(0),
         },
-        links: [false; 16],
+        links: 0,
     }
 }
 
@@ -143,7 +135,7 @@ pub fn bank_at_set_up(k: u8) -> BankPlace
 {
     BankPlace {
         content: BufferNumber(k),
-        links: [false; 16],
+        links: 0,
     }
 }
 
@@ -156,7 +148,7 @@ pub fn help_at_set_up() -> HelpPlace
             flag: 0,
             buf: BufferNumber(0),
         },
-        links: [false; 16],
+        links: 0,
     }
 }
 

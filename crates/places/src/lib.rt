@@ -1,7 +1,7 @@
 // LL, SC, VL and the plain write on the shared places: Figure 1's single-word object, for X, Bank and Help (01, "Links").
 ghost use mathlib.Core.Path.{_≡_};
 ghost use Prim.Native.Nat.{_<_};
-ghost use Rattle.model.specs.Places.{linked, llX, scX, llBank, scBank, llHelp, scHelp, writeHelp};
+ghost use Rattle.model.specs.Places.{linked, link, llX, scX, llBank, scBank, llHelp, scHelp, writeHelp};
 use model::BankPlace;
 use model::BufferNumber;
 use model::HelpContent;
@@ -11,12 +11,22 @@ use model::XContent;
 use model::XPlace;
 
 // VL: whether p's link is set.
-pub fn is_linked(links: [bool; 16], p: ProcessNumber) -> bool
+pub fn is_linked(links: u16, p: ProcessNumber) -> bool
     requires { ⌜ p .0 < 16 ⌝ }
     ensures { λ r. ⌜ r ≡ linked links p ⌝ }
 {
-    let i = p.0 as usize;
-    links[i]
+    (links >> p.0) % 2 == 1
+}
+
+// The links with p's set.
+pub fn with_link(links: u16, p: ProcessNumber) -> u16
+    requires { ⌜ p .0 < 16 ⌝ }
+    ensures { λ r. ⌜ r ≡ link links p ⌝ }
+{
+    if is_linked(links, p) {
+        return links;
+    }
+    links + (1u16 << p.0)
 }
 
 // LL of X by p.
@@ -24,9 +34,8 @@ pub fn ll_x(x: XPlace, p: ProcessNumber) -> XPlace
     requires { ⌜ p .0 < 16 ⌝ }
     ensures { λ r. ⌜ r ≡ llX x p ⌝ }
 {
-    let i = p.0 as usize;
     let mut next = x;
-    next.links[i] = true;
+    next.links = with_link(next.links, p);
     next
 }
 
@@ -37,10 +46,7 @@ pub fn sc_x(x: XPlace, p: ProcessNumber, content: XContent) -> XPlace
 {
     let links = x.links;
     if is_linked(links, p) {
-        return XPlace {
-            content,
-            links: [false; 16],
-        };
+        return XPlace { content, links: 0 };
     }
     x
 }
@@ -50,9 +56,8 @@ pub fn ll_bank(k: BankPlace, p: ProcessNumber) -> BankPlace
     requires { ⌜ p .0 < 16 ⌝ }
     ensures { λ r. ⌜ r ≡ llBank k p ⌝ }
 {
-    let i = p.0 as usize;
     let mut next = k;
-    next.links[i] = true;
+    next.links = with_link(next.links, p);
     next
 }
 
@@ -63,10 +68,7 @@ pub fn sc_bank(k: BankPlace, p: ProcessNumber, content: BufferNumber) -> BankPla
 {
     let links = k.links;
     if is_linked(links, p) {
-        return BankPlace {
-            content,
-            links: [false; 16],
-        };
+        return BankPlace { content, links: 0 };
     }
     k
 }
@@ -76,9 +78,8 @@ pub fn ll_help(h: HelpPlace, p: ProcessNumber) -> HelpPlace
     requires { ⌜ p .0 < 16 ⌝ }
     ensures { λ r. ⌜ r ≡ llHelp h p ⌝ }
 {
-    let i = p.0 as usize;
     let mut next = h;
-    next.links[i] = true;
+    next.links = with_link(next.links, p);
     next
 }
 
@@ -86,10 +87,7 @@ pub fn ll_help(h: HelpPlace, p: ProcessNumber) -> HelpPlace
 pub fn write_help(content: HelpContent) -> HelpPlace
     ensures { λ r. ⌜ r ≡ writeHelp content ⌝ }
 {
-    HelpPlace {
-        content,
-        links: [false; 16],
-    }
+    HelpPlace { content, links: 0 }
 }
 
 // SC of a place of Help by p.
@@ -99,10 +97,7 @@ pub fn sc_help(h: HelpPlace, p: ProcessNumber, content: HelpContent) -> HelpPlac
 {
     let links = h.links;
     if is_linked(links, p) {
-        return HelpPlace {
-            content,
-            links: [false; 16],
-        };
+        return HelpPlace { content, links: 0 };
     }
     h
 }

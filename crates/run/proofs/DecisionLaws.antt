@@ -25,7 +25,7 @@ use Rattle.notation.specs.Grammar.{largest}
 use Rattle.listing.proofs.Lengths.{ll-length, truth-length}
 use Rattle.run.specs.Held.{answerLine}
 use Rattle.run.proofs.WordLaws.{Below}
-use Rattle.run.proofs.ObeyLaws.{Plain, accepted, ll, sc, vl}
+use Rattle.run.proofs.ObeyLaws.{Plain, accepted, ll, sc, vl, plain-none}
 use Rattle.run.proofs.CommandLaws.{Decides, obeys, refuses}
 
 -- row 9: "a busy count above 4W+6"
@@ -70,6 +70,7 @@ module _ (b : Bench) (list : List Process) (len p : ℕ) (o : Order) (v ws : Lis
   -- what an obeyed command leaves
   pub record Done (x : Outcome × List ℕ) : Type 0 where
     pub place : x .0 .at ≡ p
+    pub among : p < b .n
     pub process : p < x .0 .bench .n
     pub n-most : x .0 .bench .n ≤ 16
     pub w-most : x .0 .bench .w ≤ 64
@@ -83,12 +84,6 @@ module _ (b : Bench) (list : List Process) (len p : ℕ) (o : Order) (v ws : Lis
   pub record Unchanged (x : Outcome × List ℕ) : Type 0 where
     pub words : x .1 ≡ ws
     pub few : numberOf (x .0 .reply) ≤ 15
-
-  plain-none : {k : ℕ} {r : Reply} → Plain k r → numberOf r ≡ 0
-  plain-none accepted = refl
-  plain-none ll = refl
-  plain-none sc = refl
-  plain-none vl = refl
 
   module _ (sixteen : length list ≡ 16) where
     own-count : Cleared b list len p o (length v) (length ws) → getD list p noProcess .count ≤ 4 * b .w + 6
@@ -110,6 +105,7 @@ module _ (b : Bench) (list : List Process) (len p : ℕ) (o : Order) (v ws : Lis
         let m : W ≤ 64 = omega (arith, c .w-most, f .w) in
         record {
           place = refl;
+          among = c .process;
           process = q;
           n-most = omega (arith, c .n-most, f .n);
           w-most = m;

@@ -8,13 +8,13 @@ use native.Mathlib.Nat.{not-suc-le-zero}
 use types.Run.{OneOf, miss}
 use denote.Enum.Declared.{tagOf}
 use lib.Dec.{eqb}
-use borrow.Author.Tests.{eq-eqb, ne-eqb}
+use borrow.Author.Tests.{eq-eqb, ne-eqb, eqb-true}
 use Rattle.model.specs.Records.{recordAt}
 use Rattle.model.specs.Refusals.{isIdle}
 use Rattle.notation.specs.declared.Entry.{Entry}
 use Rattle.notation.specs.declared.Entry.the-variants.{StartLl, StartVl, StartSc, Step, Finish}
 use Rattle.notation.proofs.Entry.{the-type}
-use Rattle.run.specs.TextRun.{Progress, single, unanswered, finish, carry}
+use Rattle.run.specs.TextRun.{Progress, stopped, single, unanswered, steps, carry}
 use Rattle.run.specs.Held.{Held, held, progress, stoppedRun, Sound, Kept, Becomes}
 use Rattle.run.proofs.SingleLaws.{stops, stays}
 
@@ -22,25 +22,25 @@ pub kept-then : {len : ℕ} {h h′ h″ : Held} → Kept len h h′ → Kept le
 kept-then p q = record { sound = q .sound; words = q .words ∙ p .words; listing = q .listing ∙ p .listing }
 
 -- `left` steps may follow
-pub record Finishing (len p total : ℕ) (h : Held) (left : ℕ) (h′ : Held) : Type 0 where
-  pub same : finish left p (progress len h′) ≡ finish total p (progress len h)
+pub record Finishing (k len p total : ℕ) (h : Held) (left : ℕ) (h′ : Held) : Type 0 where
+  pub same : steps k left p (progress len h′) ≡ steps k total p (progress len h)
   pub kept : Kept len h h′
 
-pub finish-start : {len : ℕ} {h : Held} (p total : ℕ) → Sound len h → Finishing len p total h total h
-finish-start p total s = record { same = refl; kept = stays s }
+pub finish-start : {len : ℕ} {h : Held} (k p total : ℕ) → Sound len h → Finishing k len p total h total h
+finish-start k p total s = record { same = refl; kept = stays s }
 
-opens : (left p : ℕ) (s s′ : Progress) → 0 < left → s′ ≡ single (Step p) s → finish left p s ≡ cond (unanswered p s′) (finish (left - 1) p s′) s′
-unfolding finish
-opens zero p s s′ l q = absurd (not-suc-le-zero l)
-opens (suc left) p s s′ l q = let one : left ≡ suc left - 1 = omega arith in rw q (ap (λ (x : ℕ). cond (unanswered p (single (Step p) s)) (finish x p (single (Step p) s)) (single (Step p) s)) one)
+opens : (k left p : ℕ) (s s′ : Progress) → 0 < left → s′ ≡ single (Step p) s → steps k left p s ≡ cond (unanswered p s′) (steps k (left - 1) p s′) s′
+unfolding steps
+opens k zero p s s′ l q = absurd (not-suc-le-zero l)
+opens k (suc left) p s s′ l q = let one : left ≡ suc left - 1 = omega arith in rw q (ap (λ (x : ℕ). cond (unanswered p (single (Step p) s)) (steps k x p (single (Step p) s)) (single (Step p) s)) one)
 
 and-false : (a : Bool) → (a && false) ≡ false
 and-false true = refl
 and-false false = refl
 
-module _ {len p total left : ℕ} {h h₁ h′ : Held} (f : Finishing len p total h left h₁) (l : 0 < left) (b : Becomes len (single (Step p)) h₁ h′) where
-  opened : finish total p (progress len h) ≡ cond (unanswered p (progress len h′)) (finish (left - 1) p (progress len h′)) (progress len h′)
-  opened = sym (f .same) ∙ opens left p (progress len h₁) (progress len h′) l (b .same)
+module _ {k len p total left : ℕ} {h h₁ h′ : Held} (f : Finishing k len p total h left h₁) (l : 0 < left) (b : Becomes len (single (Step p)) h₁ h′) where
+  opened : steps k total p (progress len h) ≡ cond (unanswered p (progress len h′)) (steps k (left - 1) p (progress len h′)) (progress len h′)
+  opened = sym (f .same) ∙ opens k left p (progress len h₁) (progress len h′) l (b .same)
 
   abbrev idle : Bool
   idle = isIdle (recordAt (progress len h′ .memory .records) (record { 0 = p }))
@@ -48,42 +48,74 @@ module _ {len p total left : ℕ} {h h₁ h′ : Held} (f : Finishing len p tota
   pub finish-kept : Kept len h h′
   finish-kept = kept-then (f .kept) (b .kept)
 
-  pub finish-stopped : (h′ .run .stop ≡ 0 → ⊥) → Becomes len (finish total p) h h′
+  pub finish-stopped : (h′ .run .stop ≡ 0 → ⊥) → Becomes len (steps k total p) h h′
   finish-stopped n = record { same = sym (opened ∙ simp (ne-eqb (h′ .run .stop) 0 n)); kept = finish-kept }
 
-  pub finish-answered : not idle ≡ false → Becomes len (finish total p) h h′
+  pub finish-answered : not idle ≡ false → Becomes len (steps k total p) h h′
   finish-answered a = record { same = sym (opened ∙ simp (a, and-false (eqb (h′ .run .stop) 0))); kept = finish-kept }
 
-  pub finish-on : h′ .run .stop ≡ 0 → not idle ≡ true → Finishing len p total h (left - 1) h′
+  pub finish-on : h′ .run .stop ≡ 0 → not idle ≡ true → Finishing k len p total h (left - 1) h′
   finish-on z a = record { same = sym (opened ∙ simp (eq-eqb (h′ .run .stop) 0 z, a)); kept = finish-kept }
 
--- row 13
-pub finish-none : {len p total left : ℕ} {h h′ : Held} → Finishing len p total h left h′ → left ≤ 0 → Becomes len (finish total p) h (held (stoppedRun (h′ .run) 13) (h′ .words) (h′ .listing))
-unfolding finish
-finish-none {len} {p} {total} {left} {h} {h′} f l =
-    let none : 0 ≡ left = omega arith in
-    record {
-      same = ap (λ (x : ℕ). finish x p (progress len h′)) none ∙ f .same;
-      kept = kept-then (f .kept) (stops 13 (λ y. omega arith) (omega arith) (f .kept .sound));
-    }
+-- a run that goes on, and stops with the number k or goes on where k is 0
+last-kept : {len : ℕ} {h : Held} (k : ℕ) → k ≤ 15 → h .run .stop ≡ 0 → Sound len h → Kept len h (held (stoppedRun (h .run) k) (h .words) (h .listing))
+last-kept zero m z s = record {
+  sound = record { few = s .few; filled = s .filled; entries = s .entries; stop = omega arith; room = s .room; going = λ y. s .going z };
+  words = refl;
+  listing = refl;
+}
+last-kept (suc k) m z s = stops (suc k) (λ y. omega (arith, y)) m s
 
--- an entry that is no `!`, and one that is
-pub carry-other : {len : ℕ} {h h′ : Held} (e : Entry) → OneOf (0 ∷ 1 ∷ 2 ∷ 3 ∷ []) (tagOf the-type e) → Becomes len (single e) h h′ → Becomes len (carry e) h h′
+-- none of the steps answered
+module _ {k len p total left : ℕ} {h h′ : Held} (f : Finishing k len p total h left h′) (l : left ≤ 0) where
+  ended-same : steps k total p (progress len h) ≡ progress len (held (stoppedRun (h′ .run) k) (h′ .words) (h′ .listing))
+  unfolding steps
+  ended-same = let none : left ≡ 0 = omega arith in sym (f .same) ∙ ap (λ (x : ℕ). steps k x p (progress len h′)) none
+
+  -- row 13
+  pub finish-refused : (k ≡ 0 → ⊥) → k ≤ 15 → Becomes len (steps k total p) h (held (stoppedRun (h′ .run) k) (h′ .words) (h′ .listing))
+  finish-refused n m = record { same = sym ended-same; kept = kept-then (f .kept) (stops k n m (f .kept .sound)) }
+
+  pub finish-none : h′ .run .stop ≡ 0 → k ≤ 15 → Becomes len (steps k total p) h (held (stoppedRun (h′ .run) k) (h′ .words) (h′ .listing))
+  finish-none z m = record { same = sym ended-same; kept = kept-then (f .kept) (last-kept k m z (f .kept .sound)) }
+
+-- an entry that is one command, and one that is a start
+pub carry-single : {len : ℕ} {h h′ : Held} (e : Entry) → OneOf (0 ∷ 1 ∷ 2 ∷ 3 ∷ []) (tagOf the-type e) → Becomes len (single e) h h′ → Becomes len (carry e) h h′
 unfolding carry
-carry-other (StartLl p) o b = record { same = b .same; kept = b .kept }
-carry-other (StartVl p) o b = record { same = b .same; kept = b .kept }
-carry-other (StartSc p k) o b = record { same = b .same; kept = b .kept }
-carry-other (Step p) o b = record { same = b .same; kept = b .kept }
-carry-other (Finish p) o b = absurd (miss (0 ∷ 1 ∷ 2 ∷ 3 ∷ []) 4 tt o)
+carry-single (StartLl p) o b = record { same = b .same; kept = b .kept }
+carry-single (StartVl p) o b = record { same = b .same; kept = b .kept }
+carry-single (StartSc p k) o b = record { same = b .same; kept = b .kept }
+carry-single (Step p) o b = record { same = b .same; kept = b .kept }
+carry-single (Finish p) o b = absurd (miss (0 ∷ 1 ∷ 2 ∷ 3 ∷ []) 4 tt o)
 
-module _ {len p : ℕ} {h : Held} (e : Entry) (q : e ≡ Finish p) where
-  pub carry-stopped : (h .run .stop ≡ 0 → ⊥) → Sound len h → Becomes len (carry e) h h
-  unfolding carry
-  carry-stopped n s = rw q (record { same = simp (ne-eqb (h .run .stop) 0 n); kept = stays s })
+pub carry-start : {len : ℕ} {h h′ : Held} (e : Entry) → OneOf (0 ∷ 1 ∷ 2 ∷ []) (tagOf the-type e) → Becomes len (single e) h h′ → Becomes len (carry e) h h′
+unfolding carry
+carry-start (StartLl p) o b = record { same = b .same; kept = b .kept }
+carry-start (StartVl p) o b = record { same = b .same; kept = b .kept }
+carry-start (StartSc p k) o b = record { same = b .same; kept = b .kept }
+carry-start (Step p) o b = absurd (miss (0 ∷ 1 ∷ 2 ∷ []) 3 tt o)
+carry-start (Finish p) o b = absurd (miss (0 ∷ 1 ∷ 2 ∷ []) 4 tt o)
 
-  pub carry-finish : {h′ : Held} → h .run .stop ≡ 0 → Becomes len (finish (4 * h .run .bench .w + 7) p) h h′ → Becomes len (carry e) h h′
-  unfolding carry
-  carry-finish z b = rw q (record { same = b .same ∙ simp (eq-eqb (h .run .stop) 0 z); kept = b .kept })
+-- `!` is steps until an answer, `.` is one
+pub carry-finish : {len p : ℕ} {h h′ : Held} (e : Entry) → e ≡ Finish p → h .run .stop ≡ 0 → Becomes len (steps 13 (4 * h .run .bench .w + 7) p) h h′ → Becomes len (carry e) h h′
+unfolding carry
+carry-finish {h = h} e q z b = rw q (record { same = b .same ∙ simp (eq-eqb (h .run .stop) 0 z); kept = b .kept })
+
+going-on : (s : Progress) → s .stop ≡ 0 → stopped 0 s ≡ s
+going-on s z = ap (λ (x : ℕ). stopped x s) (sym z)
+
+one-step : (p : ℕ) (s : Progress) → steps 0 1 p s ≡ single (Step p) s
+unfolding steps
+one-step p s = go (eqb (single (Step p) s .stop) 0) refl (not (isIdle (recordAt (single (Step p) s .memory .records) (record { 0 = p }))))
+  where
+    go : (x : Bool) → eqb (single (Step p) s .stop) 0 ≡ x → (y : Bool) → cond (x && y) (stopped 0 (single (Step p) s)) (single (Step p) s) ≡ single (Step p) s
+    go true e true = going-on (single (Step p) s) (eqb-true (single (Step p) s .stop) 0 e)
+    go true e false = refl
+    go false e y = refl
+
+pub carry-step : {len p : ℕ} {h h′ : Held} (e : Entry) → e ≡ Step p → Becomes len (steps 0 1 p) h h′ → Becomes len (carry e) h h′
+unfolding carry
+carry-step {len} {p} {h} e q b = rw q (record { same = b .same ∙ one-step p (progress len h); kept = b .kept })
 
 -- a run that has stopped carries nothing out
 single-stays : (e : Entry) (s : Progress) → (s .stop ≡ 0 → ⊥) → single e s ≡ s
@@ -97,3 +129,6 @@ carry-stays (StartVl p) s n = single-stays (StartVl p) s n
 carry-stays (StartSc p k) s n = single-stays (StartSc p k) s n
 carry-stays (Step p) s n = single-stays (Step p) s n
 carry-stays (Finish p) s n = simp (ne-eqb (s .stop) 0 n)
+
+pub carry-stopped : {len : ℕ} {h : Held} (e : Entry) → (h .run .stop ≡ 0 → ⊥) → Sound len h → Becomes len (carry e) h h
+carry-stopped {len} {h} e n s = record { same = sym (carry-stays e (progress len h) n); kept = stays s }

@@ -4,7 +4,12 @@ pub mod ObeyLaws
 pub mod CommandLaws
 pub mod DecisionLaws
 pub mod SingleLaws
+pub mod OrderLaws
+pub mod TraceLaws
+pub mod StepLaws
 pub mod FinishLaws
+pub mod StepRuns
+pub mod ReachedLaws
 pub mod ReadingLaws
 pub mod AnswerLaws
 pub mod LastLaws

@@ -16,6 +16,7 @@ use Rattle.model.specs.declared.Order.the-variants.{StartLl, StartSc, StartVl, 
 use Rattle.model.specs.declared.Moved.{Moved}
 use Rattle.model.specs.declared.Reply.{Reply}
 use Rattle.model.specs.declared.Reply.the-variants.{Accepted, LlAnswered, ScAnswered, VlAnswered}
+use Rattle.model.specs.Replies.{numberOf}
 use Rattle.model.specs.Words.{returnWord, offerWord, copied}
 use Rattle.model.specs.Points.{Point, pointOf, idle, line1, line2, line3, line4, line5, line6, line7, line7copy, line8, line9, line10, line11, line12, line12valid, line13, line14, line14valid, line15, line17, line18, line19, line23}
 use Rattle.model.specs.Machine.{stepAt, obey}
@@ -29,6 +30,12 @@ pub data Plain (k : ℕ) : Reply → Type 0 where
   ll : Plain k (LlAnswered k)
   sc : {t : Bool} → Plain k (ScAnswered t k)
   vl : {t : Bool} → Plain k (VlAnswered t k)
+
+pub plain-none : {k : ℕ} {r : Reply} → Plain k r → numberOf r ≡ 0
+plain-none accepted = refl
+plain-none ll = refl
+plain-none sc = refl
+plain-none vl = refl
 
 pub record Obeyed (b : Bench) (q : Process) (ws : List ℕ) (out : Moved × List ℕ) : Type 0 where
   pub n : out .0 .bench .n ≡ b .n
@@ -50,38 +57,40 @@ last-word : (t : Bool) (k : ℕ) → Plain k (cond t Accepted (LlAnswered k))
 last-word true k = accepted
 last-word false k = ll
 
-module _ {b : Bench} {q : Process} {p : ProcessNumber} {ws : List ℕ} (r : Ready b q p ws) where
-  buffer-in : (f : ℕ) → f < 3 * b .n → f * b .w + q .word < 5 * b .n * b .w
-  buffer-in f h = within {b = f} {c = 5 * b .n} (omega arith) (r .word)
+-- the words that a step copies are lent
+module _ {n w : ℕ} {q : Process} {p : ProcessNumber} {ws : List ℕ} (r : Ready n w q p ws) where
+  buffer-in : (f : ℕ) → f < 3 * n → f * w + q .word < 5 * n * w
+  buffer-in f h = within {b = f} {c = 5 * n} (omega arith) (r .word)
 
-  return-in : returnWord (b .n) (b .w) p (q .word) < 5 * b .n * b .w
-  return-in = let l = r .lent in within {b = 3 * b .n + p .0} {c = 5 * b .n} (omega (arith, l .process)) (r .word)
+  return-in : returnWord n w p (q .word) < 5 * n * w
+  return-in = let l = r .lent in within {b = 3 * n + p .0} {c = 5 * n} (omega (arith, l .process)) (r .word)
 
-  offer-in : offerWord (b .n) (b .w) p (q .word) < 5 * b .n * b .w
-  offer-in = let l = r .lent in within {b = 4 * b .n + p .0} {c = 5 * b .n} (omega (arith, l .process)) (r .word)
+  offer-in : offerWord n w p (q .word) < 5 * n * w
+  offer-in = let l = r .lent in within {b = 4 * n + p .0} {c = 5 * n} (omega (arith, l .process)) (r .word)
 
+module _ {b : Bench} {q : Process} {p : ProcessNumber} {ws : List ℕ} (r : Ready (b .n) (b .w) q p ws) where
   step-obeyed : (y : Point) → Obeyed b q ws (stepAt y p b q ws)
   unfolding stepAt
   step-obeyed idle = quiet _ refl refl accepted
   step-obeyed line1 = quiet _ refl refl accepted
   step-obeyed line2 = quiet _ refl refl accepted
-  step-obeyed line3 = moves _ _ _ refl refl (buffer-in (q .x .buf .0) (r .x-buf)) accepted
+  step-obeyed line3 = moves _ _ _ refl refl (buffer-in r (q .x .buf .0) (r .x-buf)) accepted
   step-obeyed line4 = quiet _ refl refl accepted
   step-obeyed line5 = quiet _ refl refl accepted
-  step-obeyed line6 = moves _ _ _ refl refl (buffer-in (q .x .buf .0) (r .x-buf)) accepted
+  step-obeyed line6 = moves _ _ _ refl refl (buffer-in r (q .x .buf .0) (r .x-buf)) accepted
   step-obeyed line7 = quiet _ refl refl accepted
-  step-obeyed line7copy = moves _ _ _ refl refl (buffer-in (q .b .0) (r .b-buf)) accepted
+  step-obeyed line7copy = moves _ _ _ refl refl (buffer-in r (q .b .0) (r .b-buf)) accepted
   step-obeyed line8 = quiet _ refl refl accepted
   step-obeyed line9 = quiet _ refl refl accepted
   step-obeyed line10 = quiet _ refl refl accepted
-  step-obeyed line11 = moves _ _ _ refl refl return-in (last-word (ltb (q .word + 1) (b .w)) (q .count + 1))
+  step-obeyed line11 = moves _ _ _ refl refl (return-in r) (last-word (ltb (q .word + 1) (b .w)) (q .count + 1))
   step-obeyed line12 = quiet _ refl refl accepted
   step-obeyed line12valid = quiet _ refl refl accepted
   step-obeyed line13 = quiet _ refl refl accepted
   step-obeyed line14 = quiet _ refl refl accepted
   step-obeyed line14valid = quiet _ refl refl accepted
   step-obeyed line15 = quiet _ refl refl accepted
-  step-obeyed line17 = moves _ _ _ refl refl offer-in accepted
+  step-obeyed line17 = moves _ _ _ refl refl (offer-in r) accepted
   step-obeyed line18 = quiet _ refl refl accepted
   step-obeyed line19 = quiet _ refl refl sc
   step-obeyed line23 = quiet _ refl refl vl

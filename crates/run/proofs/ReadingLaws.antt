@@ -12,11 +12,13 @@ use Rattle.notation.specs.Stretches.{Once, Begun}
 use Rattle.notation.specs.Groups.{ItemRead, ItemsEnded, ItemsClosed}
 use Rattle.notation.proofs.GroupLaws.{item-once, item-closed, times-snoc, times-add, closed-same, closed-not-ended, closed-not-broken, ended-same, ended-not-broken}
 use Rattle.notation.proofs.TurnLaws.{ran-none, ran-one, ran-then, ran-stopped}
+use Rattle.run.specs.declared.items.Done.{Done}
 use Rattle.run.specs.declared.items.Items.{Items}
 use Rattle.run.specs.declared.items.Items.the-variants.{Ended, Closed, Broken}
+use Rattle.run.specs.declared.state.Run.{Run}
 use Rattle.run.specs.TextRun.{Progress, carry, carryAll}
-use Rattle.run.specs.Held.{Held, progress, Sound, Kept, Becomes}
-use Rattle.run.specs.Reading.{Says, ItemsSay}
+use Rattle.run.specs.Held.{Held, held, progress, Sound, Kept, Becomes}
+use Rattle.run.specs.Reading.{Says, ItemSays, ItemsSay}
 use Rattle.run.proofs.SingleLaws.{stays}
 use Rattle.run.proofs.FinishLaws.{kept-then, carry-stays}
 
@@ -46,6 +48,10 @@ module _ {len : ℕ} where
   -- an entry
   pub says-once : {h h′ : Held} {s : List ℕ} {at next : ℕ} {e : Entry} (d : ℕ) → Once s at (between false) e next → Becomes len (carry e) h h′ → Says len h h′ (λ es. ItemRead s at d next es)
   says-once {h} {e = e} d o b = record { says = e ∷ []; read = item-once d o; ran = ran-one carry e (progress len h) (b .same); kept = b .kept }
+
+  -- what an item says, where the ways to it meet
+  pub item-by : {s : List ℕ} {at d : ℕ} {h : Held} {r r′ : Run} {words words′ list list′ : List ℕ} {o o′ : Done} → words ≡ words′ → list ≡ list′ → r ≡ r′ → o ≡ o′ → ItemSays s at d len h (held r′ words′ list′) o′ → ItemSays s at d len h (held r words list) o
+  item-by e₁ e₂ e₃ e₄ x = rw (e₁, e₂, e₃, e₄) x
 
   module _ {s : List ℕ} {body d next n : ℕ} where
     pub turned-first : {h h′ : Held} → 0 < n → Says len h h′ (λ es. ItemsClosed s body d next es) → Turned len s body d next n 1 h′ h′

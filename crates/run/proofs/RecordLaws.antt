@@ -5,7 +5,7 @@ use mathlib.Core.Bool.{Bool, true, false, cond}
 use Prim.Native.Nat.{ℕ, _<_, _≤_}
 use native.Mathlib.Omega.{arith}
 use lib.Dec.{ltb}
-use lib.ListN.{length, getD, set, take, length-set, length-take, List·getD-eq-default}
+use lib.ListN.{length, getD, set, take, replicate, length-set, length-take, List·getD-eq-default}
 use lib.Seq.{length-take-le, getD-set-other, getD-take, take-all, ext-getD}
 use borrow.Author.Tests.{ltb-true, ltb-false}
 use Rattle.model.specs.declared.Process.{Process}
@@ -45,6 +45,11 @@ module _ (len : ℕ) (all : Records) where
   filled-gathered f = ap (λ (l : List Process). record { list = l }) (ext-getD noProcess (all .list) (gathered lent noProcess 16 .list)
       (f .sixteen ∙ sym (gathered-length lent noProcess 16))
       (λ j h. let k : j < 16 = omega (arith, f .sixteen) in sym (gathered-at lent noProcess 16 j (omega arith) k ∙ same-at f j k (ltb j len) refl)))
+
+-- sixteen fillers, as a program hands them over
+pub fillers : (q : Process) (all : Records) → q ≡ noProcess → all ≡ record { list = replicate 16 q } → all ≡ gathered (take 16 (all .list)) noProcess 16
+unfolding gathered
+fillers q all e f = rw (f, e) refl
 
 -- how many records are lent
 pub lent-length : {len : ℕ} {list : List Process} → len ≤ 16 → Filled len list → length (take len list) ≡ len

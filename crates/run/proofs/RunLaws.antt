@@ -1,6 +1,6 @@
 -- The parts of a whole text run put together.
 use mathlib.Core.Path.{_≡_, sym, ap, subst, _∙_}
-use mathlib.Core.Bool.{cond}
+use mathlib.Core.Bool.{Bool, true, false, cond}
 use mathlib.Core.List.{List}
 use Prim.Native.Nat.{ℕ, _≤_, _<_}
 use native.Mathlib.Omega.{arith}
@@ -27,7 +27,7 @@ use Rattle.run.specs.declared.state.Run.{Run}
 use Rattle.run.specs.declared.items.Items.{Items}
 use Rattle.run.specs.declared.last_line.Whole.{Whole}
 use Rattle.run.specs.declared.text_run.First.{First}
-use Rattle.run.specs.TextRun.{Progress, Ended, ended, begun, carry, carryAll, started, carriedOut, roomNeeded, longestText, runText}
+use Rattle.run.specs.TextRun.{Progress, Ended, ended, begun, carry, carryAll, started, carriedOut, roomNeeded, longestText, runWith}
 use Rattle.run.specs.Held.{Held, held, progress, Filled, Sound, Kept}
 use Rattle.run.specs.Reading.{ItemsSay}
 use Rattle.run.specs.Whole.{freshRun, closed, Closable, memoryOf, fewOf, Answers, Lending, Right, refusedWith, saysAfter}
@@ -57,30 +57,30 @@ is-begun : (k : ℕ) (F : Memory → Ended) (x m : Memory) (e : Ended) → k ≡
 is-begun k F x m e z = simp (eq-eqb k 0 z)
 
 -- a text with a fault
-module _ (s : List ℕ) (f : First) (m : Memory) (list : List ℕ) where
-  pub broken-says : {k : ℕ} → ItemsBroken s (f .items) deepest k → refusedWith k m list ≡ saysAfter s f m list
+module _ (t : Bool) (s : List ℕ) (f : First) (m : Memory) (list : List ℕ) where
+  pub broken-says : {k : ℕ} → ItemsBroken s (f .items) deepest k → refusedWith k m list ≡ saysAfter t s f m list
   unfolding whole
-  broken-says i = sym (ap (λ v. carriedOut m list (whole (f .n) (f .w) (f .initial) v)) (i .same))
+  broken-says i = sym (ap (λ v. carriedOut t m list (whole (f .n) (f .w) (f .initial) v)) (i .same))
 
-  pub closed-says : {next : ℕ} {es : List Entry} → ItemsClosed s (f .items) deepest next es → refusedWith 10 m list ≡ saysAfter s f m list
+  pub closed-says : {next : ℕ} {es : List Entry} → ItemsClosed s (f .items) deepest next es → refusedWith 10 m list ≡ saysAfter t s f m list
   unfolding whole
-  closed-says i = sym (ap (λ v. carriedOut m list (whole (f .n) (f .w) (f .initial) v)) (i .same))
+  closed-says i = sym (ap (λ v. carriedOut t m list (whole (f .n) (f .w) (f .initial) v)) (i .same))
 
   -- a right text, by its set-up
-  right-says : {es : List Entry} → ItemsEnded s (f .items) deepest es → started m list (record { n = f .n; w = f .w; initial = f .initial; entries = es }) (setUp m (f .n) (f .w) (replicate (f .w) (f .initial))) ≡ saysAfter s f m list
+  right-says : {es : List Entry} → ItemsEnded s (f .items) deepest es → started t m list (record { n = f .n; w = f .w; initial = f .initial; entries = es }) (setUp m (f .n) (f .w) (replicate (f .w) (f .initial))) ≡ saysAfter t s f m list
   unfolding whole
-  right-says i = sym (ap (λ v. carriedOut m list (whole (f .n) (f .w) (f .initial) v)) (i .same))
+  right-says i = sym (ap (λ v. carriedOut t m list (whole (f .n) (f .w) (f .initial) v)) (i .same))
 
   abbrev number : ℕ
   number = setUpRefusal m (f .n) (f .w) (replicate (f .w) (f .initial))
 
-  refused-says : Right s f → (number ≡ 0 → ⊥) → refusedWith number m list ≡ saysAfter s f m list
+  refused-says : Right s f → (number ≡ 0 → ⊥) → refusedWith number m list ≡ saysAfter t s f m list
   unfolding setUp
-  refused-says r n = sym (not-begun number (λ x. ended (carryAll (r .says) (begun x list 0))) (atSetUp m (f .n) (f .w) (replicate (f .w) (f .initial))) m (refusedWith number m list) n) ∙ right-says (r .ended)
+  refused-says r n = sym (not-begun number (λ x. ended (carryAll (r .says) (begun t x list 0))) (atSetUp m (f .n) (f .w) (replicate (f .w) (f .initial))) m (refusedWith number m list) n) ∙ right-says (r .ended)
 
-  begun-says : (r : Right s f) → number ≡ 0 → ended (carryAll (r .says) (begun (atSetUp m (f .n) (f .w) (replicate (f .w) (f .initial))) list 0)) ≡ saysAfter s f m list
+  begun-says : (r : Right s f) → number ≡ 0 → ended (carryAll (r .says) (begun t (atSetUp m (f .n) (f .w) (replicate (f .w) (f .initial))) list 0)) ≡ saysAfter t s f m list
   unfolding setUp
-  begun-says r z = sym (is-begun number (λ x. ended (carryAll (r .says) (begun x list 0))) (atSetUp m (f .n) (f .w) (replicate (f .w) (f .initial))) m (refusedWith number m list) z) ∙ right-says (r .ended)
+  begun-says r z = sym (is-begun number (λ x. ended (carryAll (r .says) (begun t x list 0))) (atSetUp m (f .n) (f .w) (replicate (f .w) (f .initial))) m (refusedWith number m list) z) ∙ right-says (r .ended)
 
 -- what the second reading leaves
 pub record Carried (len : ℕ) (h h′ : Held) (e : Ended) : Type 0 where
@@ -88,27 +88,27 @@ pub record Carried (len : ℕ) (h h′ : Held) (e : Ended) : Type 0 where
   pub same : ended (progress len h′) ≡ e
 
 -- "then 1, 2, 3, then the set-up, then the entries"
-module _ {len : ℕ} {all : Records} {list : List ℕ} (s : List ℕ) (f : First) (b : Bench) (ws : List ℕ) (x : Lending len all list) (r : Right s f) {k : ℕ} (e : k ≡ setUpNumber (f .n) (f .w) len (length ws) (f .w)) where
+module _ {len : ℕ} {all : Records} {list : List ℕ} (t : Bool) (s : List ℕ) (f : First) (b : Bench) (ws : List ℕ) (x : Lending len all list) (r : Right s f) {k : ℕ} (e : k ≡ setUpNumber (f .n) (f .w) len (length ws) (f .w)) where
   abbrev lent : Memory
   lent = memoryOf b all len ws
 
   same-number : k ≡ setUpRefusal lent (f .n) (f .w) (replicate (f .w) (f .initial))
   same-number = e ∙ set-up-same b all len ws (f .n) (f .w) (f .initial) (x .few) (x .filled)
 
-  pub refused-start : (k ≡ 0 → ⊥) → refusedWith k lent list ≡ saysAfter s f lent list
-  refused-start n = ap (λ (j : ℕ). refusedWith j lent list) same-number ∙ refused-says s f lent list r (λ z. n (same-number ∙ z))
+  pub refused-start : (k ≡ 0 → ⊥) → refusedWith k lent list ≡ saysAfter t s f lent list
+  refused-start n = ap (λ (j : ℕ). refusedWith j lent list) same-number ∙ refused-says t s f lent list r (λ z. n (same-number ∙ z))
 
-  pub carried-start : {h h′ : Held} (small : f .initial ≤ largest) (z : k ≡ 0) (o : Items) → h ≡ first b ws x (f .n) (f .w) (f .initial) small (sym e ∙ z) → ItemsSay s (f .items) deepest len h h′ o → Carried len h h′ (saysAfter s f lent list)
+  pub carried-start : {h h′ : Held} (small : f .initial ≤ largest) (z : k ≡ 0) (o : Items) → h ≡ first t b ws x (f .n) (f .w) (f .initial) small (sym e ∙ z) → ItemsSay s (f .items) deepest len h h′ o → Carried len h h′ (saysAfter t s f lent list)
   carried-start {h} {h′} small z o q i =
       let y = all-ran o (r .ended) i in
       record {
         kept = y .kept;
         same = ap ended (y .ran .same ∙ ap (λ (fs : List Entry). carries carry fs (progress len h)) (y .read) ∙ carries-all (r .says) (progress len h) ∙ ap (λ (g : Held). carryAll (r .says) (progress len g)) q
-            ∙ ap (carryAll (r .says)) (begun-same b ws x (f .n) (f .w) (f .initial) small (sym e ∙ z))) ∙ begun-says s f lent list r (sym same-number ∙ z);
+            ∙ ap (carryAll (r .says)) (begun-same t b ws x (f .n) (f .w) (f .initial) small (sym e ∙ z))) ∙ begun-says t s f lent list r (sym same-number ∙ z);
       }
 
 -- the first reading leaves all as it was
-pub unread : {s : List ℕ} {at d len : ℕ} {b : Bench} {all : Records} {h h′ : Held} (o : Items) → h .run ≡ freshRun b all 10 → ItemsSay s at d len h h′ o → (h′ .words ≡ h .words) × (h′ .listing ≡ h .listing)
+pub unread : {s : List ℕ} {at d len : ℕ} {t : Bool} {b : Bench} {all : Records} {h h′ : Held} (o : Items) → h .run ≡ freshRun b all 10 t → ItemsSay s at d len h h′ o → (h′ .words ≡ h .words) × (h′ .listing ≡ h .listing)
 unread {h = h} o e i =
     let n : h .run .stop ≡ 0 → ⊥ = λ z. omega (arith, ap (λ (r : Run). r .stop) e, z) in
     let y = nothing-read o n i in
@@ -121,29 +121,34 @@ pub moved : (g : Memory → List ℕ → Ended) (b : Bench) (all : Records) (len
 moved g b all len e q = rw (e, q)
 
 -- the whole run
-pub lending-few : {k : ℕ} {all : Records} {list : List ℕ} (len : ℕ) → k ≡ fewOf len → all ≡ gathered (take len (all .list)) noProcess 16 → roomNeeded ≤ length list → Lending k all list
-lending-few {all = all} len e g l = rw e (record { few = few-small len; filled = filled-few (gathered-filled len all g); room = l })
+-- in both styles there is room for a listing
+room-most : (t : Bool) {k : ℕ} → roomNeeded t ≤ k → roomNeeded false ≤ k
+room-most true l = omega arith
+room-most false l = l
 
-module _ (m : Memory) (text list : List ℕ) where
-  pub run-14 : length list < roomNeeded → record { number = 14; entries = 0; written = 0; memory = m; listing = list } ≡ runText m text list
-  unfolding runText
-  run-14 l = simp (lt-ltb (length list) roomNeeded l)
+pub lending-few : {k : ℕ} {all : Records} {list : List ℕ} (t : Bool) (len : ℕ) → k ≡ fewOf len → all ≡ gathered (take len (all .list)) noProcess 16 → roomNeeded t ≤ length list → Lending k all list
+lending-few {all = all} t len e g l = rw e (record { few = few-small len; filled = filled-few (gathered-filled len all g); room = room-most t l })
 
-  module _ (l : roomNeeded ≤ length list) where
-    pub run-12 : longestText < length text → refusedWith 12 m list ≡ runText m text list
-    unfolding runText
-    run-12 h = simp (le-ltb (length list) roomNeeded l, lt-ltb longestText (length text) h)
+module _ (t : Bool) (m : Memory) (text list : List ℕ) where
+  pub run-14 : length list < roomNeeded t → record { number = 14; entries = 0; written = 0; memory = m; listing = list } ≡ runWith t m text list
+  unfolding runWith
+  run-14 l = simp (lt-ltb (length list) (roomNeeded t) l)
 
-    run-read : length text ≤ longestText → carriedOut m list (read text) ≡ runText m text list
-    unfolding runText
-    run-read h = simp (le-ltb (length list) roomNeeded l, le-ltb longestText (length text) h)
+  module _ (l : roomNeeded t ≤ length list) where
+    pub run-12 : longestText < length text → refusedWith 12 m list ≡ runWith t m text list
+    unfolding runWith
+    run-12 h = simp (le-ltb (length list) (roomNeeded t) l, lt-ltb longestText (length text) h)
 
-    pub run-not-headed : length text ≤ longestText → NotHeaded text → refusedWith 10 m list ≡ runText m text list
-    run-not-headed h n = sym (ap (carriedOut m list) (not-headed n)) ∙ run-read h
+    run-read : length text ≤ longestText → carriedOut t m list (read text) ≡ runWith t m text list
+    unfolding runWith
+    run-read h = simp (le-ltb (length list) (roomNeeded t) l, le-ltb longestText (length text) h)
 
-    pub run-headed : (f : First) → length text ≤ longestText → Headed text (f .n) (f .w) (f .initial) (f .items) → saysAfter text f m list ≡ runText m text list
+    pub run-not-headed : length text ≤ longestText → NotHeaded text → refusedWith 10 m list ≡ runWith t m text list
+    run-not-headed h n = sym (ap (carriedOut t m list) (not-headed n)) ∙ run-read h
+
+    pub run-headed : (f : First) → length text ≤ longestText → Headed text (f .n) (f .w) (f .initial) (f .items) → saysAfter t text f m list ≡ runWith t m text list
     unfolding read
-    run-headed f h x = sym (ap (carriedOut m list) (headed-reads x deepest)) ∙ run-read h
+    run-headed f h x = sym (ap (carriedOut t m list) (headed-reads x deepest)) ∙ run-read h
 
 -- over all lent records
 pub answered : {k : ℕ} {out : Whole} {ws′ list′ : List ℕ} (len : ℕ) (b : Bench) (all : Records) (ws : List ℕ) (g : Memory → Ended) → k ≡ fewOf len → all ≡ gathered (take len (all .list)) noProcess 16

@@ -1,9 +1,8 @@
--- The bench runs A to J of 01, as texts and listings: one list, and one theorem that runs through it.
+-- The bench runs A to J of 01, as texts and listings: one list, and one theorem that runs through it. And traces, in the same way.
 use mathlib.Core.Path.{_≡_, refl}
 use mathlib.Core.List.{List, [], _∷_, _++_, map}
-use mathlib.Core.Bool.{true}
+use mathlib.Core.Bool.{Bool, true, false}
 use Prim.Native.Nat.{ℕ, _-_}
-use Prim.Native.Char.{code}
 use Prim.Native.String.{String}
 use lib.ListN.{length, replicate}
 use Rattle.model.specs.declared.XPlace.{XPlace}
@@ -20,27 +19,24 @@ use Rattle.notation.specs.Scan.{onDigit, more, move, said, atEnd, go, scan}
 use Rattle.notation.specs.FirstLine.{starting, inside, step, whole, proceed, readFrom, read}
 use Rattle.listing.specs.Decimal.{digits, decimal}
 use Rattle.listing.specs.Lines.{answerHead, wordsOf, llLine, truthLine, endLine, refusedLine}
-use Rattle.run.specs.TextRun.{single, finish, carry, carryAll, runText}
+use Rattle.access.specs.Accesses.{accessOf}
+use Rattle.access.specs.TraceLines.{quoted, spaced, bracketed, headText, itemText, valuesText, truthText, storedText, writtenText, actText, endText, stepLine, broughtText, startLine}
+use Rattle.run.specs.TextRun.{single, steps, carry, carryAll, runWith}
 
--- the bytes of a text of plain characters
-quoted : String → List ℕ
-quoted String.[] = []
-quoted (String._∷_ c s) = code c ∷ quoted s
-
--- a text, and the listing that 01 gives for it
+-- a text, and what a run of it writes
 pub record Run : Type 0 where
   pub text : String
   pub shows : String
 
 -- What is lent is full of dirt: more records and words than are needed, and none of its numbers in its range.
 dirtyX : XPlace
-dirtyX = record { content = record { buf = record { 0 = 201 }; seq = record { 0 = 202 } }; links = replicate 16 true }
+dirtyX = record { content = record { buf = record { 0 = 201 }; seq = record { 0 = 202 } }; links = 65535 }
 
 dirtyBank : BankPlace
-dirtyBank = record { content = record { 0 = 203 }; links = replicate 16 true }
+dirtyBank = record { content = record { 0 = 203 }; links = 65535 }
 
 dirtyHelp : HelpPlace
-dirtyHelp = record { content = record { flag = 204; buf = record { 0 = 205 } }; links = replicate 16 true }
+dirtyHelp = record { content = record { flag = 204; buf = record { 0 = 205 } }; links = 65535 }
 
 dirtyProcess : Process
 dirtyProcess = record {
@@ -63,7 +59,6 @@ lent = record {
   words = replicate 12 18446744073709551615;
 }
 
--- 800 bytes for the listing
 dirtyBytes : ℕ → List ℕ
 dirtyBytes k = replicate k 218
 
@@ -71,13 +66,13 @@ pub record Outcome : Type 0 where
   pub written : ℕ
   pub listing : List ℕ
 
--- what a run writes, with the bytes behind it
-pub runs-to : Run → Outcome
-runs-to r = let e = runText lent (quoted (r .text)) (dirtyBytes 800) in record { written = e .written; listing = e .listing }
+-- what a run writes, with the bytes behind it: its style, and the bytes that are lent for it
+pub runs-to : Bool → ℕ → Run → Outcome
+runs-to traced room r = let e = runWith traced lent (quoted (r .text)) (dirtyBytes room) in record { written = e .written; listing = e .listing }
 
--- what 01 says that it writes; "Bytes after the last line stay."
-pub should : Run → Outcome
-should r = let bs = quoted (r .shows) in record { written = length bs; listing = bs ++ dirtyBytes (800 - length bs) }
+-- what it should write; "Bytes after the last line stay."
+pub should : ℕ → Run → Outcome
+should room r = let bs = quoted (r .shows) in record { written = length bs; listing = bs ++ dirtyBytes (room - length bs) }
 
 pub runs : List Run
 runs =
@@ -103,6 +98,19 @@ runs =
     record { text = "2 1 5\n2l\n"; shows = "refused 4 0\n" } ∷
     []
 
-pub runs-as-in-01 : map runs-to runs ≡ map should runs
-unfolding quoted dirtyX dirtyBank dirtyHelp dirtyProcess lent dirtyBytes runs-to should runs runText read readFrom proceed step starting inside whole scan go move said more onDigit atEnd kindOf times carryAll carry finish single command refusal obey stepAt inRange setUp setUpRefusal llLine truthLine endLine refusedLine answerHead wordsOf decimal digits
+pub runs-as-in-01 : map (runs-to false 800) runs ≡ map (should 800) runs
+unfolding dirtyX dirtyBank dirtyHelp dirtyProcess lent dirtyBytes runs-to should runs runWith read readFrom proceed step starting inside whole scan go move said more onDigit atEnd kindOf times carryAll carry steps single command refusal obey stepAt inRange setUp setUpRefusal llLine truthLine endLine refusedLine answerHead wordsOf decimal digits
 runs-as-in-01 = refl
+
+pub traces : List Run
+traces =
+    record { text = "2 1 5\n0l 2(0.)\n"; shows = "1 0 start L\n2 0 1 Help[0] write 1 4 links cleared\n3 0 2 X LL 0 0 link set\nend 3\n" } ∷
+    -- a refused entry has no line
+    record { text = "2 1 5\n0l 0l\n"; shows = "1 0 start L\nrefused 5 1\n" } ∷
+    -- A
+    record { text = "2 1 5\n0l 0! 0s7 0! 1l 1! 0v 0!\n"; shows = "1 0 start L\n2 0 1 Help[0] write 1 4 links cleared\n3 0 2 X LL 0 0 link set\n4 0 3 BUF[0][0] read 5\n5 0 4 Help[0] LL 1 4 link set\n6 0 8 Help[0] LL 1 4 link set\n7 0 9 Help[0] SC 0 4 true links cleared\n8 0 10 Help[0] read 0 4\n9 0 11 BUF[4][0] write 5 answers 0 L 8 5\n10 0 start S 7\n11 0 12 Bank[0] LL 0 link set\n12 0 14 Help[0] LL 0 4 link set\n13 0 17 BUF[4][0] write 7\n14 0 18 Bank[1] read 1\n15 0 19 X SC 4 1 true links cleared answers 0 S 5 1\n16 1 start L\n17 1 1 Help[1] write 1 5 links cleared\n18 1 2 X LL 4 1 link set\n19 1 3 BUF[4][0] read 7\n20 1 4 Help[1] LL 1 5 link set\n21 1 8 Help[1] LL 1 5 link set\n22 1 9 Help[1] SC 0 5 true links cleared\n23 1 10 Help[1] read 0 5\n24 1 11 BUF[5][0] write 7 answers 1 L 8 7\n25 0 start V\n26 0 23 X VL false answers 0 V 1 0\nend 26\n" } ∷
+    []
+
+pub traces-line-by-line : map (runs-to true 2000) traces ≡ map (should 2000) traces
+unfolding dirtyX dirtyBank dirtyHelp dirtyProcess lent dirtyBytes runs-to should traces runWith read readFrom proceed step starting inside whole scan go move said more onDigit atEnd kindOf times carryAll carry steps single command refusal obey stepAt inRange setUp setUpRefusal llLine truthLine endLine refusedLine answerHead wordsOf decimal digits accessOf spaced bracketed headText itemText valuesText truthText storedText writtenText actText endText stepLine broughtText startLine
+traces-line-by-line = refl

@@ -1,9 +1,10 @@
 -- An entry that is one command, on a run that the code holds.
 use mathlib.Core.Path.{_≡_, refl, sym, ap, subst, _∙_}
-use mathlib.Core.List.{List}
+use mathlib.Core.Bool.{cond}
+use mathlib.Core.List.{List, [], _++_}
 use Prim.Native.Nat.{ℕ, _+_, _-_, _*_, _≤_, _<_}
 use native.Mathlib.Omega.{arith}
-use lib.ListN.{length, set, take, replicate}
+use lib.ListN.{length, set, take, replicate, length-append}
 use lib.Seq.{take-set-lt}
 use borrow.Author.Tests.{eq-eqb, ne-eqb, le-leb, lt-leb, lt-ltb, le-ltb}
 use Rattle.model.specs.Replies.{numberOf}
@@ -19,14 +20,18 @@ use Rattle.machine.specs.Decision.{decided}
 use Rattle.machine.specs.Gathered.{storedBack}
 use Rattle.notation.specs.declared.Entry.{Entry}
 use Rattle.notation.specs.declared.Entry.the-variants.{StartLl, StartVl, StartSc, Step, Finish}
-use Rattle.listing.specs.Writing.{Wrote}
-use Rattle.listing.proofs.WritingLaws.{kept}
-use Rattle.run.specs.TextRun.{mostEntries, roomNeeded, lineOf, counted, replied, processOf, orderOf, valueOf, commanded, single}
-use Rattle.run.specs.Held.{Held, held, progress, stoppedRun, Sound, Ready, Kept, Becomes, Small, offeredBy, givenBy, answerLine, Listable}
+use Rattle.listing.specs.Writing.{Room, Wrote}
+use Rattle.listing.proofs.WritingLaws.{kept, same, room-same}
+use Rattle.access.specs.declared.Access.{Access}
+use Rattle.run.specs.Reached.{Reached}
+use Rattle.run.specs.TextRun.{Progress, mostEntries, roomNeeded, lineOf, traceLine, linesOf, counted, replied, processOf, orderOf, valueOf, commanded, single}
+use Rattle.run.specs.Held.{Held, held, progress, stoppedRun, Sound, Ready, Kept, Becomes, Small, offeredBy, givenBy, answerLine, Listable, Foreseen, shownLine}
 use Rattle.run.proofs.WordLaws.{Below, Every, every-replicate, every-none, take-replicate}
 use Rattle.run.proofs.RecordLaws.{filled-set}
+use Rattle.run.proofs.ReachedLaws.{reached-command}
 use Rattle.run.proofs.CommandLaws.{Decides, decides, decided-command}
 use Rattle.run.proofs.DecisionLaws.{Done, done, unchanged}
+use Rattle.run.proofs.TraceLaws.{heldMemory, shown-same, shown-fits}
 
 -- the value that the code lends is the entry's
 pub given-small : (e : Entry) (w : ℕ) → w ≤ 64 → givenBy w e ≤ 64
@@ -96,7 +101,7 @@ module _ {len : ℕ} {h : Held} (e : Entry) (out : Outcome) (ws : List ℕ) (sma
   refused-becomes n =
       let u = unchanged (h .run .bench) (h .run .all .list) len (processOf e) (orderOf e) v (h .words) (s .filled .sixteen) cases n in
       rw (u .words) (record {
-        same = sym (ap (replied (progress len h) (processOf e)) (sym stored) ∙ simp (ne-eqb (numberOf (out .reply)) 0 n));
+        same = sym (ap (replied (progress len h) e) (sym stored) ∙ simp (ne-eqb (numberOf (out .reply)) 0 n));
         kept = stops (numberOf (out .reply)) n (u .few) s;
       })
 
@@ -110,22 +115,40 @@ module _ {len : ℕ} {h : Held} (e : Entry) (out : Outcome) (ws : List ℕ) (sma
     pub place-small : out .at < 16
     place-small = let x = did in omega (arith, x .place, x .process, x .n-most)
 
+    -- the trace's line, and then the line of the answer
+    abbrev shown : List ℕ
+    shown = cond (h .run .traced) (traceLine (h .run .entries + 1) m e (out .reply)) []
+
+    shown-small : length shown ≤ cond (h .run .traced) 128 0
+    shown-small = let x = did in shown-fits s (r .goes) e (out .reply) (x .among) (h .run .traced) (h .run .entries + 1) (omega (arith, r .entries)) small
+
+    -- the code shows it with the access that it has foreseen
+    module _ {p : ℕ} {a : Access} (ep : p ≡ processOf e) (f : Foreseen (h .run .traced) (heldMemory h) p a) where
+      foreseen : shownLine (h .run .traced) (h .run .entries + 1) a e (out .reply) ≡ shown
+      foreseen = let x = did in shown-same s (r .goes) e (out .reply) (x .among) (h .run .entries + 1) (subst (λ (j : ℕ). Foreseen (h .run .traced) (heldMemory h) j a) ep f)
+
+      pub shown-room : Room (h .listing) (h .run .written) (shownLine (h .run .traced) (h .run .entries + 1) a e (out .reply))
+      shown-room = room-same (sym foreseen) (record { fits = omega (arith, shown-small, r .room) })
+
+      pub shown-wrote : {list : List ℕ} {at : ℕ} → Wrote (h .listing) (h .run .written) (shownLine (h .run .traced) (h .run .entries + 1) a e (out .reply)) list at → Wrote (h .listing) (h .run .written) shown list at
+      shown-wrote w = same (sym foreseen) w
+
     abbrev line : List ℕ
     line = answerLine (out .bench .n) (out .bench .w) ws (processOf e) (out .reply)
 
-    pub listable : Listable (out .reply) (processOf e) (out .bench .n) (out .bench .w) ws (h .listing) (h .run .written)
-    listable = let x = did in record {
+    pub listable : {list : List ℕ} {at : ℕ} → Wrote (h .listing) (h .run .written) shown list at → Listable (out .reply) (processOf e) (out .bench .n) (out .bench .w) ws list at
+    listable w = let x = did in record {
       process = x .process;
       n-most = x .n-most;
       w-most = x .w-most;
       lent = x .lent;
-      room = record { fits = omega (arith, x .line below, r .room) };
+      room = record { fits = omega (arith, x .line below, shown-small, w .place, kept w, r .room) };
     }
 
-    -- obeyed: one entry more, with its line
-    module _ (list : List ℕ) (next : ℕ) (w : Wrote (h .listing) (h .run .written) line list next) where
+    -- obeyed: one entry more, with its lines
+    module _ (list : List ℕ) (next : ℕ) (w : Wrote (h .listing) (h .run .written) (shown ++ line) list next) where
       abbrev after : Held
-      after = held (record { bench = out .bench; all = record { list = set (h .run .all .list) (out .at) (out .process) }; written = next; entries = h .run .entries + 1; stop = 0 }) ws list
+      after = held (record { bench = out .bench; all = record { list = set (h .run .all .list) (out .at) (out .process) }; written = next; entries = h .run .entries + 1; stop = 0; traced = h .run .traced }) ws list
 
       lent-place : out .at < len
       lent-place = let x = did in omega (arith, x .place, x .process, x .records)
@@ -133,7 +156,7 @@ module _ {len : ℕ} {h : Held} (e : Entry) (out : Outcome) (ws : List ℕ) (sma
       abbrev left : Memory
       left = record { bench = out .bench; records = set (take len (h .run .all .list)) (out .at) (out .process); words = ws }
 
-      after-same : progress len after ≡ counted (progress len h) left (lineOf left (processOf e) (out .reply))
+      after-same : progress len after ≡ counted (progress len h) left (linesOf (progress len h) e (out .reply, left))
       after-same =
           let t : take len (set (h .run .all .list) (out .at) (out .process)) ≡ set (take len (h .run .all .list)) (out .at) (out .process) = take-set-lt len (h .run .all .list) (out .at) (out .process) lent-place in
           let l : line ≡ lineOf left (processOf e) (out .reply) = line-same left (processOf e) (out .reply) in
@@ -141,17 +164,20 @@ module _ {len : ℕ} {h : Held} (e : Entry) (out : Outcome) (ws : List ℕ) (sma
           let q = w .list in
           rw (t, p, q, l)
 
+      after-reached : Reached (progress len after .memory)
+      after-reached = subst Reached (sym (ap (λ (o : Reply × Memory). o .1) stored) ∙ sym (ap (λ (y : Progress). y .memory) after-same)) (reached-command (s .going (r .goes) .reached) (processOf e) (orderOf e) v)
+
       pub answered-becomes : Becomes len (commanded e) h after
       answered-becomes = let x = did in record {
-        same = after-same ∙ sym (ap (replied (progress len h) (processOf e)) (sym stored) ∙ simp (eq-eqb (numberOf (out .reply)) 0 z));
+        same = after-same ∙ sym (ap (replied (progress len h) e) (sym stored) ∙ simp (eq-eqb (numberOf (out .reply)) 0 z));
         kept = record {
           sound = record {
             few = s .few;
             filled = filled-set (out .at) (out .process) lent-place (s .filled);
             entries = omega (arith, r .entries);
             stop = omega arith;
-            room = omega (arith, w .place, x .line below, r .room, kept w);
-            going = λ y. record { width = x .w-most; small = x .small below .at };
+            room = omega (arith, w .place, length-append shown line, x .line below, shown-small, r .room, kept w);
+            going = λ y. record { reached = after-reached; width = x .w-most; small = x .small below .at };
           };
           words = x .words;
           listing = kept w;
@@ -169,19 +195,19 @@ module _ {len : ℕ} {h : Held} (e : Entry) (s : Sound len h) where
   single-12 z m = record { same = simp (eq-eqb (h .run .stop) 0 z, le-leb mostEntries (h .run .entries) m); kept = stops 12 (λ y. omega arith) (omega arith) s }
 
   module _ (z : h .run .stop ≡ 0) (m : h .run .entries < mostEntries) where
-    pub single-14 : length (h .listing) - h .run .written < roomNeeded → Becomes len (single e) h (held (stoppedRun (h .run) 14) (h .words) (h .listing))
+    pub single-14 : length (h .listing) - h .run .written < roomNeeded (h .run .traced) → Becomes len (single e) h (held (stoppedRun (h .run) 14) (h .words) (h .listing))
     unfolding single
     single-14 l = record {
-      same = simp (eq-eqb (h .run .stop) 0 z, lt-leb mostEntries (h .run .entries) m, lt-ltb (length (h .listing) - h .run .written) roomNeeded l);
+      same = simp (eq-eqb (h .run .stop) 0 z, lt-leb mostEntries (h .run .entries) m, lt-ltb (length (h .listing) - h .run .written) (roomNeeded (h .run .traced)) l);
       kept = stops 14 (λ y. omega arith) (omega arith) s;
     }
 
-    pub single-ready : roomNeeded ≤ length (h .listing) - h .run .written → Ready h
+    pub single-ready : roomNeeded (h .run .traced) ≤ length (h .listing) - h .run .written → Ready h
     single-ready l = record { goes = z; entries = m; room = omega (arith, s .room) }
 
-    pub single-commanded : {h′ : Held} → roomNeeded ≤ length (h .listing) - h .run .written → Becomes len (commanded e) h h′ → Becomes len (single e) h h′
+    pub single-commanded : {h′ : Held} → roomNeeded (h .run .traced) ≤ length (h .listing) - h .run .written → Becomes len (commanded e) h h′ → Becomes len (single e) h h′
     unfolding single
     single-commanded l b = record {
-      same = b .same ∙ simp (eq-eqb (h .run .stop) 0 z, lt-leb mostEntries (h .run .entries) m, le-ltb (length (h .listing) - h .run .written) roomNeeded l);
+      same = b .same ∙ simp (eq-eqb (h .run .stop) 0 z, lt-leb mostEntries (h .run .entries) m, le-ltb (length (h .listing) - h .run .written) (roomNeeded (h .run .traced)) l);
       kept = b .kept;
     }

@@ -1,6 +1,6 @@
 -- The set-up of a text run: refused by its number, or done, with a sound run before its first entry.
-use mathlib.Core.Path.{_≡_, refl, sym, ap, _∙_}
-use mathlib.Core.Bool.{cond}
+use mathlib.Core.Path.{_≡_, refl, sym, ap, subst, _∙_}
+use mathlib.Core.Bool.{Bool, cond}
 use mathlib.Core.List.{List, [], _∷_, _++_, map}
 use Prim.Native.Nat.{ℕ, zero, suc, _+_, _-_, _*_, _≤_, _<_}
 use native.Mathlib.Omega.{arith}
@@ -11,7 +11,8 @@ use borrow.Author.Tests.{ltb-false}
 use Rattle.model.specs.declared.Bench.{Bench}
 use Rattle.model.specs.declared.Process.{Process}
 use Rattle.model.specs.Refusals.{row1, row2}
-use Rattle.model.specs.SetUp.{numbers, processAtSetUp, recordsAtSetUp, wordsAtSetUp, benchAtSetUp, atSetUp, setUpRefusal}
+use Rattle.model.specs.SetUp.{numbers, processAtSetUp, recordsAtSetUp, wordsAtSetUp, benchAtSetUp, atSetUp, setUpRefusal, setUp}
+use Rattle.model.specs.Machine.{Memory, Shaped}
 use Rattle.machine.specs.declared.records.Records.{Records}
 use Rattle.machine.specs.Lengths.{row3Lent, row8Always, setUpNumber, set-up-number}
 use Rattle.machine.specs.SetUpByValue.{Accepted}
@@ -19,11 +20,13 @@ use Rattle.machine.proofs.RowLaws.{cleared, neither}
 use Rattle.machine.proofs.SetUpLaws.{first-row, set-up-fits}
 use Rattle.notation.specs.Grammar.{largest}
 use Rattle.run.specs.Held.{Held, held, progress, Filled, Sound}
-use Rattle.run.specs.TextRun.{begun}
+use Rattle.run.specs.Reached.{Reached}
+use Rattle.run.specs.TextRun.{Progress, begun}
 use Rattle.run.specs.Whole.{freshRun, memoryOf, Lending}
 use Rattle.run.specs.declared.state.Run.{Run}
 use Rattle.run.proofs.WordLaws.{Every, every-replicate, take-replicate}
 use Rattle.run.proofs.RecordLaws.{filled-set, lent-length}
+use Rattle.run.proofs.ReachedLaws.{reached-set-up}
 use Rattle.run.proofs.CommandLaws.{first-small}
 use Rattle.run.proofs.SetUpLaws.{mapped-length}
 
@@ -77,9 +80,9 @@ words-small ws n w k a h i l =
     let m : length u ≡ 5 * n * w = length-append (replicate w k) rest ∙ omega (arith, length-replicate w k, length-replicate {A = ℕ} (5 * n * w - w) 0) in
     rw (sets-eq u ws 0 (omega (arith, a .words-lent)), List·getD-append u (drop (0 + length u) ws) 0 i (omega arith)) (every-append (replicate w k) rest (every-replicate w k h) (every-replicate (5 * n * w - w) 0 (omega arith)) .at i)
 
-module _ {len : ℕ} {all : Records} {list : List ℕ} (b : Bench) (ws : List ℕ) (x : Lending len all list) where
+module _ {len : ℕ} {all : Records} {list : List ℕ} (t : Bool) (b : Bench) (ws : List ℕ) (x : Lending len all list) where
   -- a run that is stopped before it begins is sound
-  pub stopped-sound : (k : ℕ) → (k ≡ 0 → ⊥) → k ≤ 15 → Sound len (held (freshRun b all k) ws list)
+  pub stopped-sound : (k : ℕ) → (k ≡ 0 → ⊥) → k ≤ 15 → Sound len (held (freshRun b all k t) ws list)
   stopped-sound k n l = record { few = x .few; filled = x .filled; entries = omega arith; stop = l; room = omega (arith, x .room); going = λ z. absurd (n z) }
 
   module _ (n w k : ℕ) (small : k ≤ largest) (z : setUpNumber n w len (length ws) w ≡ 0) where
@@ -93,24 +96,34 @@ module _ {len : ℕ} {all : Records} {list : List ℕ} (b : Bench) (ws : List �
     in-lent = omega (arith, mapped-length (2 * n) n, records-lent n w len (length ws) w z)
 
     abbrev pub first : Held
-    first = held (freshRun (benchAtSetUp b n w) (record { list = recordsAtSetUp (all .list) n }) 0) (wordsAtSetUp ws n w (replicate w k)) list
+    first = held (freshRun (benchAtSetUp b n w) (record { list = recordsAtSetUp (all .list) n }) 0 t) (wordsAtSetUp ws n w (replicate w k)) list
+
+    pub begun-same : progress len first ≡ begun t (atSetUp (memoryOf b all len ws) n w (replicate w k)) list 0
+    begun-same = ap (λ (l : List Process). begun t (record { bench = benchAtSetUp b n w; records = l; words = wordsAtSetUp ws n w (replicate w k) }) list 0) (take-sets len (all .list) 0 newRecords in-lent)
+
+    set-up-done : setUp (memoryOf b all len ws) n w (replicate w k) ≡ (0, atSetUp (memoryOf b all len ws) n w (replicate w k))
+    unfolding setUp
+    set-up-done = let e : setUpRefusal (memoryOf b all len ws) n w (replicate w k) ≡ 0 = sym (set-up-same b all len ws n w k (x .few) (x .filled)) ∙ z in rw e
+
+    begun-reached : Shaped (memoryOf b all len ws) → Reached (progress len first .memory)
+    begun-reached shaped =
+        let m = memoryOf b all len ws in
+        let r : Reached (setUp m n w (replicate w k) .1) = reached-set-up m shaped n w (replicate w k) (ap (λ (o : ℕ × Memory). o .0) set-up-done) in
+        subst Reached (ap (λ (o : ℕ × Memory). o .1) set-up-done ∙ sym (ap (λ (s : Progress). s .memory) begun-same)) r
 
     -- and so is one after its set-up
-    pub begun-sound : Sound len first
-    begun-sound = record {
+    pub begun-sound : Shaped (memoryOf b all len ws) → Sound len first
+    begun-sound shaped = record {
       few = x .few;
       filled = filled-sets (all .list) 0 newRecords in-lent (x .filled);
       entries = omega arith;
       stop = omega arith;
       room = omega (arith, x .room);
-      going = λ y. record { width = accepted .w-most; small = words-small ws n w k accepted small };
+      going = λ y. record { reached = begun-reached shaped; width = accepted .w-most; small = words-small ws n w k accepted small };
     }
 
-    pub begun-same : progress len first ≡ begun (atSetUp (memoryOf b all len ws) n w (replicate w k)) list 0
-    begun-same = ap (λ (l : List Process). begun (record { bench = benchAtSetUp b n w; records = l; words = wordsAtSetUp ws n w (replicate w k) }) list 0) (take-sets len (all .list) 0 newRecords in-lent)
-
     -- what the code holds after its set-up
-    pub first-held : {r : Run} {b′ : Bench} {all′ : Records} {ws′ value : List ℕ} → r ≡ freshRun b′ all′ 0 → b′ ≡ benchAtSetUp b n w → all′ ≡ record { list = recordsAtSetUp (all .list) n }
+    pub first-held : {r : Run} {b′ : Bench} {all′ : Records} {ws′ value : List ℕ} → r ≡ freshRun b′ all′ 0 t → b′ ≡ benchAtSetUp b n w → all′ ≡ record { list = recordsAtSetUp (all .list) n }
         → ws′ ≡ wordsAtSetUp ws n w (take w value) → value ≡ replicate 64 k → held r ws′ list ≡ first
     first-held {value = value} er eb ea ew ev =
         let v : take w value ≡ replicate w k = ap (take w) ev ∙ take-replicate w 64 k (accepted .w-most) in

@@ -2,21 +2,26 @@
 use mathlib.Core.Path.{_≡_}
 use Prim.Native.Nat.{ℕ, _+_, _*_, _≤_, _<_}
 use mathlib.Core.List.{List, []}
+use mathlib.Core.Bool.{Bool, true, false, cond}
+use lib.Dec.{ltb, leb}
 use lib.ListN.{length, getD, take}
 use Rattle.model.specs.declared.Process.{Process}
 use Rattle.model.specs.declared.Reply.{Reply}
 use Rattle.model.specs.declared.Reply.the-variants.{Refused, Accepted, LlAnswered, ScAnswered, VlAnswered}
 use Rattle.model.specs.Words.{returnArea}
-use Rattle.model.specs.Records.{noProcess}
+use Rattle.model.specs.Records.{noProcess, recordAt}
 use Rattle.model.specs.Machine.{Memory}
+use Rattle.machine.specs.Ranges as R
 use Rattle.notation.specs.declared.Entry.{Entry}
 use Rattle.notation.specs.declared.Entry.the-variants.{StartLl, StartVl, StartSc, Step, Finish}
 use Rattle.notation.specs.Grammar.{largest}
 use Rattle.notation.specs.Stretches as S
 use Rattle.listing.specs.Lines.{llLine, truthLine}
 use Rattle.listing.specs.Writing.{Room}
+use Rattle.access.specs.declared.Access.{Access}
 use Rattle.run.specs.declared.state.Run.{Run}
-use Rattle.run.specs.TextRun.{Progress, mostEntries, roomNeeded}
+use Rattle.run.specs.TextRun.{Progress, mostEntries, roomNeeded, accessNow, entryLine}
+use Rattle.run.specs.Reached.{Reached}
 
 -- the run, the lent words and the listing
 pub record Held : Type 0 where
@@ -35,18 +40,20 @@ progress len h = record {
   written = h .run .written;
   entries = h .run .entries;
   stop = h .run .stop;
+  traced = h .run .traced;
 }
 
 abbrev pub stoppedRun : Run → ℕ → Run
-stoppedRun r k = record { bench = r .bench; all = r .all; written = r .written; entries = r .entries; stop = k }
+stoppedRun r k = record { bench = r .bench; all = r .all; written = r .written; entries = r .entries; stop = k; traced = r .traced }
 
 -- sixteen records, with the filler from `len` on
 pub record Filled (len : ℕ) (list : List Process) : Type 0 where
   pub sixteen : length list ≡ 16
   pub rest : (j : ℕ) → len ≤ j → getD list j noProcess ≡ noProcess
 
--- W fits, and no word of the 5N rows has more than ten digits
+-- a set-up and commands made the memory, W fits, and no word of the 5N rows has more than ten digits
 pub record Fit (m : Memory) : Type 0 where
+  pub reached : Reached m
   pub width : m .bench .w ≤ 64
   pub small : (i : ℕ) → i < 5 * m .bench .n * m .bench .w → getD (m .words) i 0 ≤ largest
 
@@ -67,7 +74,7 @@ pub record Sound (len : ℕ) (h : Held) : Type 0 where
 pub record Ready (h : Held) : Type 0 where
   pub goes : h .run .stop ≡ 0
   pub entries : h .run .entries < mostEntries
-  pub room : h .run .written + roomNeeded ≤ length (h .listing)
+  pub room : h .run .written + roomNeeded (h .run .traced) ≤ length (h .listing)
 
 -- the run stays sound, and as much is lent as before
 pub record Kept (len : ℕ) (h h′ : Held) : Type 0 where
@@ -79,6 +86,10 @@ pub record Kept (len : ℕ) (h h′ : Held) : Type 0 where
 pub record Becomes (len : ℕ) (f : Progress → Progress) (h h′ : Held) : Type 0 where
   pub same : progress len h′ ≡ f (progress len h)
   pub kept : Kept len h h′
+
+-- what hinders a step of process p before its record is looked at, in a run that is not traced; 0 for nothing
+abbrev pub hindranceOf : ℕ → ℕ → ℕ → ℕ → ℕ
+hindranceOf entries room n p = cond (leb mostEntries entries) 12 (cond (ltb room (roomNeeded false)) 14 (cond (leb n p) 4 0))
 
 -- the numbers of an entry are those that a text may have
 abbrev pub Small : Entry → Type 0
@@ -102,6 +113,14 @@ givenBy w (StartSc p k) = w
 givenBy w (Step p) = 0
 givenBy w (Finish p) = 0
 
+-- steps of process p can be made in place: the run goes on and is not traced, and `last` is the number of a refusal or 0
+pub record Stepable (len p last : ℕ) (h : Held) : Type 0 where
+  pub process : smallProcess p
+  pub sound : Sound len h
+  pub goes : h .run .stop ≡ 0
+  pub plain : h .run .traced ≡ false
+  pub number : last ≤ 15
+
 -- `lineOf` over the parts of the memory that it reads
 abbrev pub answerLine : ℕ → ℕ → List ℕ → ℕ → Reply → List ℕ
 answerLine n w ws p (Refused c) = []
@@ -117,3 +136,15 @@ pub record Listable (r : Reply) (p n w : ℕ) (ws list : List ℕ) (at : ℕ) : 
   pub w-most : w ≤ 64
   pub lent : 5 * n * w ≤ length ws
   pub room : Room list at (answerLine n w ws p r)
+
+-- a step of p, if p is one of N, keeps to the lent memory
+pub record Steppable (m : Memory) (p : ℕ) : Type 0 where
+  pub ready : p < m .bench .n → R.Ready (m .bench .n) (m .bench .w) (recordAt (m .records) (record { 0 = p })) (record { 0 = p }) (m .words)
+
+-- the access that a step of p would make, where a trace needs it
+pub record Foreseen (t : Bool) (m : Memory) (p : ℕ) (a : Access) : Type 0 where
+  pub is : t ≡ true → p < m .bench .n → a ≡ accessNow m p
+
+-- the trace's line of an accepted entry, none in a run that is not traced
+abbrev pub shownLine : Bool → ℕ → Access → Entry → Reply → List ℕ
+shownLine t k a e r = cond t (entryLine k a e r) []

@@ -3,6 +3,7 @@ use Prim.Native.Nat.{ℕ}
 use mathlib.Core.List.{List}
 use Rattle.notation.specs.declared.Entry.{Entry}
 use Rattle.notation.specs.Carrying.{Ran}
+use Rattle.notation.specs.Stretches.{Begun}
 use Rattle.notation.specs.Groups.{ItemRead, ItemBroken, ItemsEnded, ItemsClosed, ItemsBroken}
 use Rattle.run.specs.declared.items.Done.{Done}
 use Rattle.run.specs.declared.items.Done.the-variants.{At, Failed}
@@ -24,6 +25,15 @@ ItemIs s at d len h h′ (Failed k) = Says len h h′ (λ es. ItemBroken s at d 
 
 pub record ItemSays (s : List ℕ) (at d len : ℕ) (h h′ : Held) (o : Done) : Type 0 where
   pub is : ItemIs s at d len h h′ o
+
+-- a group of n turns, whose items begin at `body`, stands in the text
+pub record Opened (s : List ℕ) (n body : ℕ) : Type 0 where
+  pub at : ℕ
+  pub begun : Begun s at n body
+
+-- read from its body on, it is the item that begins with its count
+pub record GroupSays (s : List ℕ) (n body d len : ℕ) (h h′ : Held) (o : Done) : Type 0 where
+  pub is : (at : ℕ) → Begun s at n body → ItemSays s at d len h h′ o
 
 abbrev pub ItemsAre : List ℕ → ℕ → ℕ → ℕ → Held → Held → Items → Type 0
 ItemsAre s at d len h h′ Ended = Says len h h′ (λ es. ItemsEnded s at d es)

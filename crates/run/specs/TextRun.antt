@@ -1,7 +1,8 @@
--- The meaning of a text run (01, "When the bench says no" and "Schedule text and listing").
+-- The meaning of a text run (01, "When the bench says no" and "Schedule text and listing"), in two styles: the listing, and the trace, which
+-- has a line for each accepted command.
 use Prim.Native.Nat.{ℕ, zero, suc, _+_, _-_, _*_}
-use mathlib.Core.List.{List, [], _∷_}
-use mathlib.Core.Bool.{Bool, not, _&&_, cond}
+use mathlib.Core.List.{List, [], _∷_, _++_}
+use mathlib.Core.Bool.{Bool, true, false, not, _&&_, cond}
 use lib.Dec.{eqb, ltb, leb}
 use lib.ListN.{length, replicate}
 use lib.Seq.{sets}
@@ -11,6 +12,7 @@ use Rattle.model.specs.declared.Reply.{Reply}
 use Rattle.model.specs.declared.Reply.the-variants.{Refused, Accepted, LlAnswered, ScAnswered, VlAnswered}
 use Rattle.model.specs.Words.{returnArea}
 use Rattle.model.specs.Records.{recordAt}
+use Rattle.model.specs.Points.{pointOf}
 use Rattle.model.specs.Machine.{Memory}
 use Rattle.model.specs.Refusals.{isIdle}
 use Rattle.model.specs.Command.{command}
@@ -21,25 +23,30 @@ use Rattle.notation.specs.declared.Entry.the-variants.{StartLl, StartVl, StartS
 use Rattle.notation.specs.Grammar.{Said}
 use Rattle.notation.specs.FirstLine.{Reading, right, wrong, read}
 use Rattle.listing.specs.Lines.{llLine, truthLine, endLine, refusedLine}
+use Rattle.access.specs.declared.Access.{Access}
+use Rattle.access.specs.Accesses.{accessOf}
+use Rattle.access.specs.TraceLines.{stepLine, startLine}
 
--- A run in progress: the lent memory, the listing, how many of its bytes are written, the entries done, and the number of the refusal that
--- stopped it, 0 while it goes on.
+-- A run in progress: the lent memory, the listing, how many of its bytes are written, the entries done, the number of the refusal that
+-- stopped it, 0 while it goes on, and whether it writes a trace.
 pub record Progress : Type 0 where
   pub memory : Memory
   pub listing : List ℕ
   pub written : ℕ
   pub entries : ℕ
   pub stop : ℕ
+  pub traced : Bool
 
 abbrev pub stopped : ℕ → Progress → Progress
-stopped k s = record { memory = s .memory; listing = s .listing; written = s .written; entries = s .entries; stop = k }
+stopped k s = record { memory = s .memory; listing = s .listing; written = s .written; entries = s .entries; stop = k; traced = s .traced }
 
 -- "60,000 entries already done", "listing room left under 744 bytes", "text over 16,384 bytes"
 abbrev pub mostEntries : ℕ
 mostEntries = 60000
 
-abbrev pub roomNeeded : ℕ
-roomNeeded = 744
+-- a trace needs 128 bytes more
+abbrev pub roomNeeded : Bool → ℕ
+roomNeeded t = cond t 128 0 + 744
 
 abbrev pub longestText : ℕ
 longestText = 16384
@@ -51,13 +58,6 @@ lineOf m p Accepted = []
 lineOf m p (LlAnswered k) = llLine p k (returnArea (m .bench .n) (m .bench .w) (record { 0 = p }) (m .words))
 lineOf m p (ScAnswered t k) = truthLine p 83 k t
 lineOf m p (VlAnswered t k) = truthLine p 86 k t
-
--- what a reply makes of the run: "After a refused entry nothing more runs."; else one entry more, with its line
-abbrev pub counted : Progress → Memory → List ℕ → Progress
-counted s m line = record { memory = m; listing = sets (s .listing) (s .written) line; written = s .written + length line; entries = s .entries + 1; stop = 0 }
-
-abbrev pub replied : Progress → ℕ → Reply × Memory → Progress
-replied s p out = cond (eqb (numberOf (out .0)) 0) (counted s (out .1) (lineOf (out .1) p (out .0))) (stopped (numberOf (out .0)) s)
 
 -- an entry that is one command: its process, its order, and its value ("The value k has k in all W words.")
 abbrev pub processOf : Entry → ℕ
@@ -81,15 +81,50 @@ valueOf w (StartSc p k) = replicate w k
 valueOf w (Step p) = []
 valueOf w (Finish p) = []
 
+-- whether a reply answers the call
+abbrev pub answers : Reply → Bool
+answers (Refused c) = false
+answers Accepted = false
+answers (LlAnswered k) = true
+answers (ScAnswered t k) = true
+answers (VlAnswered t k) = true
+
+-- the access that a step of process p makes on this memory
+abbrev pub accessNow : Memory → ℕ → Access
+accessNow m p = accessOf (pointOf (recordAt (m .records) (record { 0 = p }) .line)) (record { 0 = p }) (m .bench) (recordAt (m .records) (record { 0 = p })) (m .words)
+
+-- the trace's line for entry k: a start with its letter, or a step with its access
+abbrev pub entryLine : ℕ → Access → Entry → Reply → List ℕ
+entryLine k a (StartLl p) r = startLine k p 76 0
+entryLine k a (StartVl p) r = startLine k p 86 0
+entryLine k a (StartSc p v) r = startLine k p 83 v
+entryLine k a (Step p) r = stepLine k p a (answers r)
+entryLine k a (Finish p) r = stepLine k p a (answers r)
+
+-- the same from the memory before the command
+abbrev pub traceLine : ℕ → Memory → Entry → Reply → List ℕ
+traceLine k m e r = entryLine k (accessNow m (processOf e)) e r
+
+-- what an accepted command adds: in a trace its line, and in both styles the line of its answer
+abbrev pub linesOf : Progress → Entry → Reply × Memory → List ℕ
+linesOf s e out = cond (s .traced) (traceLine (s .entries + 1) (s .memory) e (out .0)) [] ++ lineOf (out .1) (processOf e) (out .0)
+
+-- what a reply makes of the run: "After a refused entry nothing more runs."; else one entry more, with its lines
+abbrev pub counted : Progress → Memory → List ℕ → Progress
+counted s m lines = record { memory = m; listing = sets (s .listing) (s .written) lines; written = s .written + length lines; entries = s .entries + 1; stop = 0; traced = s .traced }
+
+abbrev pub replied : Progress → Entry → Reply × Memory → Progress
+replied s e out = cond (eqb (numberOf (out .0)) 0) (counted s (out .1) (linesOf s e out)) (stopped (numberOf (out .0)) s)
+
 abbrev pub commanded : Entry → Progress → Progress
-commanded e s = replied s (processOf e) (command (s .memory) (processOf e) (orderOf e) (valueOf (s .memory .bench .w) e))
+commanded e s = replied s e (command (s .memory) (processOf e) (orderOf e) (valueOf (s .memory .bench .w) e))
 
 -- "before each entry 12, then 14"
 unfoldable pub single : Entry → Progress → Progress
 single e s =
     cond (eqb (s .stop) 0)
     (cond (leb mostEntries (s .entries)) (stopped 12 s)
-    (cond (ltb (length (s .listing) - s .written) roomNeeded) (stopped 14 s)
+    (cond (ltb (length (s .listing) - s .written) (roomNeeded (s .traced))) (stopped 14 s)
     (commanded e s)))
     s
 
@@ -97,10 +132,14 @@ single e s =
 abbrev pub unanswered : ℕ → Progress → Bool
 unanswered p s = eqb (s .stop) 0 && not (isIdle (recordAt (s .memory .records) (record { 0 = p })))
 
--- row 13: "`!` unanswered after 4W+7 steps"; `left` is how many may follow
-unfoldable pub finish : ℕ → ℕ → Progress → Progress
-finish zero p s = stopped 13 s
-finish (suc left) p s = cond (unanswered p (single (Step p) s)) (finish left p (single (Step p) s)) (single (Step p) s)
+-- steps of p until its call answers; `left` is how many may follow, k the number of the refusal where none of them answers, 0 for none
+unfoldable pub steps : ℕ → ℕ → ℕ → Progress → Progress
+steps k zero p s = stopped k s
+steps k (suc left) p s = cond (unanswered p (single (Step p) s)) (steps k left p (single (Step p) s)) (single (Step p) s)
+
+-- row 13: "`!` unanswered after 4W+7 steps"
+abbrev pub finish : ℕ → ℕ → Progress → Progress
+finish left p s = steps 13 left p s
 
 -- "An entry is one command; `!` is an entry for each of its steps."
 unfoldable pub carry : Entry → Progress → Progress
@@ -130,20 +169,27 @@ abbrev pub ended : Progress → Ended
 ended s = record { number = s .stop; entries = s .entries; written = s .written + length (lastLine s); memory = s .memory; listing = sets (s .listing) (s .written) (lastLine s) }
 
 -- a run before its first entry; one that is refused before the set-up has its number at once
-abbrev pub begun : Memory → List ℕ → ℕ → Progress
-begun m listing stop = record { memory = m; listing = listing; written = 0; entries = 0; stop = stop }
+abbrev pub begun : Bool → Memory → List ℕ → ℕ → Progress
+begun t m listing stop = record { memory = m; listing = listing; written = 0; entries = 0; stop = stop; traced = t }
 
 -- "then 1, 2, 3, then the set-up, then the entries"
-abbrev pub started : Memory → List ℕ → Said → ℕ × Memory → Ended
-started m listing t prepared = cond (eqb (prepared .0) 0) (ended (carryAll (t .entries) (begun (prepared .1) listing 0))) (ended (begun m listing (prepared .0)))
+abbrev pub started : Bool → Memory → List ℕ → Said → ℕ × Memory → Ended
+started t m listing a prepared = cond (eqb (prepared .0) 0) (ended (carryAll (a .entries) (begun t (prepared .1) listing 0))) (ended (begun t m listing (prepared .0)))
 
-abbrev pub carriedOut : Memory → List ℕ → Reading → Ended
-carriedOut m listing (right t) = started m listing t (setUp m (t .n) (t .w) (replicate (t .w) (t .initial)))
-carriedOut m listing (wrong k) = ended (begun m listing k)
+abbrev pub carriedOut : Bool → Memory → List ℕ → Reading → Ended
+carriedOut t m listing (right a) = started t m listing a (setUp m (a .n) (a .w) (replicate (a .w) (a .initial)))
+carriedOut t m listing (wrong k) = ended (begun t m listing k)
 
 -- "A text run takes 14 at its start, then 12 for length, then 10 and 11 over the whole text"; "A refusal 14 at the start writes nothing."
-unfoldable pub runText : Memory → List ℕ → List ℕ → Ended
-runText m text listing =
-    cond (ltb (length listing) roomNeeded) (record { number = 14; entries = 0; written = 0; memory = m; listing = listing })
-    (cond (ltb longestText (length text)) (ended (begun m listing 12))
-    (carriedOut m listing (read text)))
+unfoldable pub runWith : Bool → Memory → List ℕ → List ℕ → Ended
+runWith t m text listing =
+    cond (ltb (length listing) (roomNeeded t)) (record { number = 14; entries = 0; written = 0; memory = m; listing = listing })
+    (cond (ltb longestText (length text)) (ended (begun t m listing 12))
+    (carriedOut t m listing (read text)))
+
+-- the text run that writes the listing, and the one that writes the trace
+abbrev pub runText : Memory → List ℕ → List ℕ → Ended
+runText m text listing = runWith false m text listing
+
+abbrev pub traceText : Memory → List ℕ → List ℕ → Ended
+traceText m text listing = runWith true m text listing

@@ -1,6 +1,6 @@
 -- The whole text run as the code holds it: what its parts are given and what they answer.
 use mathlib.Core.Path.{_≡_}
-use mathlib.Core.Bool.{false, cond}
+use mathlib.Core.Bool.{Bool, false, cond}
 use Prim.Native.Nat.{ℕ, _+_, _≤_}
 use mathlib.Core.List.{List, []}
 use lib.Dec.{eqb, ltb}
@@ -21,8 +21,8 @@ use Rattle.run.specs.declared.text_run.First.{First}
 use Rattle.run.specs.TextRun.{Ended, ended, begun, carriedOut, mostEntries, roomNeeded}
 use Rattle.run.specs.Held.{Filled, lastRoom}
 
-abbrev pub freshRun : Bench → Records → ℕ → Run
-freshRun b all k = record { bench = b; all = all; written = 0; entries = 0; stop = k }
+abbrev pub freshRun : Bench → Records → ℕ → Bool → Run
+freshRun b all k t = record { bench = b; all = all; written = 0; entries = 0; stop = k; traced = t }
 
 abbrev pub wholeOf : Run → ℕ → Whole
 wholeOf r written = record { bench = r .bench; all = r .all; number = r .stop; entries = r .entries; written = written }
@@ -58,7 +58,7 @@ pub record Answers (len : ℕ) (r : Whole) (ws list : List ℕ) (e : Ended) : Ty
 pub record Lending (len : ℕ) (all : Records) (list : List ℕ) : Type 0 where
   pub few : len ≤ 16
   pub filled : Filled len (all .list)
-  pub room : roomNeeded ≤ length list
+  pub room : roomNeeded false ≤ length list
 
 -- the first line is read
 pub record Headed (s : List ℕ) (f : First) : Type 0 where
@@ -70,10 +70,10 @@ pub record Right (s : List ℕ) (f : First) : Type 0 where
   pub says : List Entry
   pub ended : ItemsEnded s (f .items) deepest says
 
--- a run that is refused before its set-up
+-- a run that is refused before its set-up: it comes to the same in both styles
 abbrev pub refusedWith : ℕ → Memory → List ℕ → Ended
-refusedWith k m list = ended (begun m list k)
+refusedWith k m list = ended (begun false m list k)
 
 -- what is left of a text run once the first line is read
-abbrev pub saysAfter : List ℕ → First → Memory → List ℕ → Ended
-saysAfter s f m list = carriedOut m list (whole (f .n) (f .w) (f .initial) (scan (drop (f .items) s) (between false) [] [] deepest))
+abbrev pub saysAfter : Bool → List ℕ → First → Memory → List ℕ → Ended
+saysAfter t s f m list = carriedOut t m list (whole (f .n) (f .w) (f .initial) (scan (drop (f .items) s) (between false) [] [] deepest))

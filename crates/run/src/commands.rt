@@ -5,6 +5,7 @@ use crate::answers;
 use crate::entries;
 use crate::state;
 use crate::state::Run;
+use crate::traces;
 use machine::decision;
 use machine::records;
 use notation::Entry;
@@ -18,7 +19,8 @@ fn commanded(run: Run, len: usize, e: Entry, words: &mut [u64], list: &mut [u8])
     let value = entries::repeated(entries::offered(e));
     let given = entries::given(e, run.bench.w);
     let order = entries::order_of(e);
-    let out = decision::decide(
+    let access = traces::access_before(run.traced, run.bench, run.all, p, words);
+    let out = decision::decide_in_order(
         run.bench,
         run.all,
         len,
@@ -34,13 +36,16 @@ fn commanded(run: Run, len: usize, e: Entry, words: &mut [u64], list: &mut [u8])
     }
     let bench = out.bench;
     let all = records::with_record(run.all, out.at, out.process);
-    let written = answers::answer_line(reply, p, bench.n, bench.w, words, list, run.written);
+    let entries = run.entries + 1;
+    let shown = traces::trace_line(run.traced, entries, access, e, reply, list, run.written);
+    let written = answers::answer_line(reply, p, bench.n, bench.w, words, list, shown);
     Run {
         bench,
         all,
         written,
-        entries: run.entries + 1,
+        entries,
         stop: 0,
+        traced: run.traced,
     }
 }
 
@@ -55,7 +60,7 @@ pub fn single(run: Run, len: usize, e: Entry, words: &mut [u64], list: &mut [u8]
     if 60000 <= run.entries {
         return state::stopped(run, 12);
     }
-    if list.len() - run.written < 744 {
+    if list.len() - run.written < state::room_needed(run.traced) {
         return state::stopped(run, 14);
     }
     commanded(run, len, e, words, list)

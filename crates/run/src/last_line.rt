@@ -15,8 +15,8 @@ pub struct Whole {
 }
 
 // A run before its first entry, or one that a refusal keeps from it.
-pub fn fresh(bench: Bench, all: Records, number: u8) -> Run
-    ensures { λ r. ⌜ r ≡ freshRun bench all number ⌝ }
+pub fn fresh(bench: Bench, all: Records, number: u8, traced: bool) -> Run
+    ensures { λ r. ⌜ r ≡ freshRun bench all number traced ⌝ }
 {
     Run {
         bench,
@@ -24,6 +24,7 @@ pub fn fresh(bench: Bench, all: Records, number: u8) -> Run
         written: 0,
         entries: 0,
         stop: number,
+        traced,
     }
 }
 

@@ -1,5 +1,5 @@
-// The text run by value (01, "When the bench says no" and "Schedule text and listing"). The one entry is text_run::run_by_value;
-// every other pub function is inner.
+// The text run by value (01, "When the bench says no" and "Schedule text and listing"). The entries are text_run::run_by_value and
+// text_run::trace_by_value; every other pub function is inner.
 pub mod answers;
 pub mod commands;
 pub mod entries;
@@ -9,3 +9,4 @@ pub mod set_up;
 pub mod state;
 pub mod steps;
 pub mod text_run;
+pub mod traces;

@@ -5,20 +5,22 @@ ghost use Prim.Native.Nat.{_≤_};
 ghost use lib.ListN.{take};
 ghost use Rattle.model.specs.Records.{recordAt};
 ghost use Rattle.model.specs.Refusals.{isIdle};
-ghost use Rattle.run.specs.Held.{stoppedRun};
+ghost use Rattle.run.specs.TextRun.{roomNeeded};
+ghost use Rattle.run.specs.Held.{stoppedRun, hindranceOf};
 use machine::records;
 use machine::records::Records;
 use model::Bench;
 use model::ProcessNumber;
 
-// The bench and the records, the bytes of the listing that are written, the entries done, and the number of the refusal that stopped the run,
-// 0 while it goes on.
+// The bench and the records, the bytes of the listing that are written, the entries done, the number of the refusal that stopped the run,
+// 0 while it goes on, and whether it writes a trace.
 pub struct Run {
     pub bench: Bench,
     pub all: Records,
     pub written: usize,
     pub entries: usize,
     pub stop: u8,
+    pub traced: bool,
 }
 
 // The run, stopped by a refusal.
@@ -28,6 +30,16 @@ pub fn stopped(run: Run, number: u8) -> Run
     let mut next = run;
     next.stop = number;
     next
+}
+
+// "listing room left under 744 bytes"; a trace needs 128 bytes more.
+pub fn room_needed(traced: bool) -> usize
+    ensures { λ r. ⌜ r ≡ roomNeeded traced ⌝ }
+{
+    if traced {
+        return 872;
+    }
+    744
 }
 
 // Whether process p, one of the `len` lent records, has a call that is not yet answered.
@@ -40,4 +52,21 @@ pub fn busy(all: Records, len: usize, p: u64) -> bool
     }
     let process = records::record_at(all, ProcessNumber(p as u8));
     process.line != 0
+}
+
+// What hinders a step of process p before its record is looked at, in a run that is not traced: "before each entry 12, then 14", then row 4;
+// 0 for nothing.
+pub fn hindrance(entries: usize, room: usize, n: usize, p: u64) -> u8
+    ensures { λ r. ⌜ r ≡ hindranceOf entries room n p ⌝ }
+{
+    if 60000 <= entries {
+        return 12;
+    }
+    if room < 744 {
+        return 14;
+    }
+    if n as u64 <= p {
+        return 4;
+    }
+    0
 }

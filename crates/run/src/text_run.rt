@@ -5,7 +5,7 @@ ghost use Prim.Native.Nat.{_≤_};
 ghost use lib.ListN.{take};
 ghost use Rattle.model.specs.Records.{noProcess};
 ghost use Rattle.machine.specs.Gathered.{gathered};
-ghost use Rattle.run.specs.TextRun.{runText};
+ghost use Rattle.run.specs.TextRun.{runWith, runText, traceText};
 ghost use Rattle.run.specs.Whole.{memoryOf, fewOf, Answers, Lending, Headed, Right, saysAfter, refusedWith};
 use crate::entries;
 use crate::items;
@@ -13,6 +13,7 @@ use crate::items::Items;
 use crate::last_line;
 use crate::last_line::Whole;
 use crate::set_up;
+use crate::state;
 use machine::records::Records;
 use model::Bench;
 use notation::Header;
@@ -25,7 +26,7 @@ pub struct First {
     pub items: usize,
 }
 
-// A run that is refused before its set-up.
+// A run that is refused before its set-up, in either style.
 fn refused(
     bench: Bench,
     all: Records,
@@ -37,7 +38,7 @@ fn refused(
     requires { ⌜ (Lending len all (now list)) × (number ≤ 15) ⌝ }
     ensures { λ r. ⌜ Answers len r (now (words .exit)) (now (list .exit)) (refusedWith number (memoryOf bench all len (now (words .entry))) (now (list .entry))) ⌝ }
 {
-    let run = last_line::fresh(bench, all, number);
+    let run = last_line::fresh(bench, all, number, false);
     last_line::ended(run, list)
 }
 
@@ -46,13 +47,14 @@ fn started(
     bench: Bench,
     all: Records,
     len: usize,
+    traced: bool,
     first: First,
     words: &mut [u64],
     text: &[u8],
     list: &mut [u8],
 ) -> Whole
     requires { ⌜ (Lending len all (now list)) × (Headed (now text) first) × (Right (now text) first) ⌝ }
-    ensures { λ r. ⌜ Answers len r (now (words .exit)) (now (list .exit)) (saysAfter (now (text .entry)) first (memoryOf bench all len (now (words .entry))) (now (list .entry))) ⌝ }
+    ensures { λ r. ⌜ Answers len r (now (words .exit)) (now (list .exit)) (saysAfter traced (now (text .entry)) first (memoryOf bench all len (now (words .entry))) (now (list .entry))) ⌝ }
 {
     let n = first.n as usize;
     let w = first.w as usize;
@@ -64,8 +66,8 @@ fn started(
     machine::set_up::words_at_set_up(words, n, w, &value[..w]);
     let begun = machine::set_up::bench_at_set_up(bench, n, w);
     let records = set_up::records_at_set_up(all, n);
-    let run = last_line::fresh(begun, records, 0);
-    let read = items::group(text, first.items, 8, run, len, words, list);
+    let run = last_line::fresh(begun, records, 0, traced);
+    let read = items::read_items(text, first.items, 8, run, len, words, list);
     let done = read.run;
     last_line::ended(done, list)
 }
@@ -75,21 +77,22 @@ fn checked(
     bench: Bench,
     all: Records,
     len: usize,
+    traced: bool,
     first: First,
     words: &mut [u64],
     text: &[u8],
     list: &mut [u8],
 ) -> Whole
     requires { ⌜ (Lending len all (now list)) × (Headed (now text) first) ⌝ }
-    ensures { λ r. ⌜ Answers len r (now (words .exit)) (now (list .exit)) (saysAfter (now (text .entry)) first (memoryOf bench all len (now (words .entry))) (now (list .entry))) ⌝ }
+    ensures { λ r. ⌜ Answers len r (now (words .exit)) (now (list .exit)) (saysAfter traced (now (text .entry)) first (memoryOf bench all len (now (words .entry))) (now (list .entry))) ⌝ }
 {
-    let run = last_line::fresh(bench, all, 10);
-    let reading = items::group(text, first.items, 8, run, len, words, list);
+    let run = last_line::fresh(bench, all, 10, traced);
+    let reading = items::read_items(text, first.items, 8, run, len, words, list);
     let out = reading.out;
     match out {
         Items::Broken(k) => refused(bench, all, len, k, words, list),
         Items::Closed(_) => refused(bench, all, len, 10, words, list),
-        Items::Ended => started(bench, all, len, first, words, text, list),
+        Items::Ended => started(bench, all, len, traced, first, words, text, list),
     }
 }
 
@@ -103,21 +106,21 @@ fn few(len: usize) -> usize
     len
 }
 
-// The text run: the number of its refusal, 0 at `end`, the entries done, the listing bytes written, and all memory after it.
-// `all` holds the first sixteen of `len` lent records, with a filler where there are fewer.
-pub fn run_by_value(
+// A text run in one of the two styles.
+fn run_in_style(
     bench: Bench,
     all: Records,
     len: usize,
+    traced: bool,
     words: &mut [u64],
     text: &[u8],
     list: &mut [u8],
 ) -> Whole
     requires { ⌜ all ≡ gathered (take len (all .list)) noProcess 16 ⌝ }
-    ensures { λ r. ⌜ (record { number = r .number; entries = r .entries; written = r .written; memory = record { bench = r .bench; records = take len (r .all .list); words = now (words .exit) }; listing = now (list .exit) } ≡ runText (record { bench = bench; records = take len (all .list); words = now (words .entry) }) (now (text .entry)) (now (list .entry))) × (r .all ≡ gathered (take len (r .all .list)) noProcess 16) ⌝ }
+    ensures { λ r. ⌜ (record { number = r .number; entries = r .entries; written = r .written; memory = memoryOf (r .bench) (r .all) len (now (words .exit)); listing = now (list .exit) } ≡ runWith traced (memoryOf bench all len (now (words .entry))) (now (text .entry)) (now (list .entry))) × (r .all ≡ gathered (take len (r .all .list)) noProcess 16) ⌝ }
 {
     let lent = few(len);
-    if list.len() < 744 {
+    if list.len() < state::room_needed(traced) {
         return Whole {
             bench,
             all,
@@ -139,7 +142,38 @@ pub fn run_by_value(
                 initial,
                 items,
             };
-            checked(bench, all, lent, first, words, text, list)
+            checked(bench, all, lent, traced, first, words, text, list)
         }
     }
+}
+
+// The text run: the number of its refusal, 0 at `end`, the entries done, the listing bytes written, and all memory after it.
+// `all` holds the first sixteen of `len` lent records, with a filler where there are fewer.
+pub fn run_by_value(
+    bench: Bench,
+    all: Records,
+    len: usize,
+    words: &mut [u64],
+    text: &[u8],
+    list: &mut [u8],
+) -> Whole
+    requires { ⌜ all ≡ gathered (take len (all .list)) noProcess 16 ⌝ }
+    ensures { λ r. ⌜ (record { number = r .number; entries = r .entries; written = r .written; memory = record { bench = r .bench; records = take len (r .all .list); words = now (words .exit) }; listing = now (list .exit) } ≡ runText (record { bench = bench; records = take len (all .list); words = now (words .entry) }) (now (text .entry)) (now (list .entry))) × (r .all ≡ gathered (take len (r .all .list)) noProcess 16) ⌝ }
+{
+    run_in_style(bench, all, len, false, words, text, list)
+}
+
+// The same run, with the trace in place of the listing.
+pub fn trace_by_value(
+    bench: Bench,
+    all: Records,
+    len: usize,
+    words: &mut [u64],
+    text: &[u8],
+    list: &mut [u8],
+) -> Whole
+    requires { ⌜ all ≡ gathered (take len (all .list)) noProcess 16 ⌝ }
+    ensures { λ r. ⌜ (record { number = r .number; entries = r .entries; written = r .written; memory = memoryOf (r .bench) (r .all) len (now (words .exit)); listing = now (list .exit) } ≡ traceText (memoryOf bench all len (now (words .entry))) (now (text .entry)) (now (list .entry))) × (r .all ≡ gathered (take len (r .all .list)) noProcess 16) ⌝ }
+{
+    run_in_style(bench, all, len, true, words, text, list)
 }

@@ -4,9 +4,11 @@ use witness::commands;
 
 const USAGE: &str = "usage:
   witness run
+  witness trace
   witness generate SEED COUNT DIR
   witness cover DIR
   witness compare PROGRAM DIR
+  witness compare-trace PROGRAM DIR
   witness history SEED COUNT
   witness bench-text KIND N W";
 

@@ -2,7 +2,7 @@
 
 mod common;
 use common::listing;
-use witness::schedule::run_text;
+use witness::schedule::{run_text, LISTING};
 use witness::texts::repeat;
 
 fn last_line(text: &str) -> String {
@@ -91,7 +91,7 @@ fn entries_before_room() {
 /// Number, entries done and bytes written, with this much listing lent.
 fn run(room: usize, text: &str) -> (u8, u64, usize) {
     let mut lent = vec![b'#'; room];
-    let (outcome, _) = run_text(text.as_bytes(), &mut lent, None);
+    let (outcome, _) = run_text(text.as_bytes(), &LISTING, &mut lent, None);
     let rest = &lent[outcome.written..];
     assert!(
         rest.iter().all(|byte| *byte == b'#'),

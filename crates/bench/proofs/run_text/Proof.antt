@@ -303,14 +303,14 @@ module _ {M : Type 1} (𝓤 : URA M) (H : Heap 𝓤) (A : Atoms 𝓤) (W : Given
           assigns ! (addr ! (from ! (fld ! refl (hop ! (look-in ! 37 (sub ! 0 refl (whole !))) (stop !))))) (from ! (stop !)) (init ! 5 refl (tt, tt)) $
           assigns ! (agg ! (and-then ! (load ! (from ! (stop !)) (look ! 5 refl)) (and-then ! (load ! (from ! (fld ! refl (stop !))) (look-in ! 37 (sub ! 1 refl (whole !)))) (no-more !)))) (from ! (stop !)) (init ! 3 refl (tt, (tt, (record { fits = room₁ .0 }, tt)))) $
           move ! (43 ∷ 44 ∷ 45 ∷ []) $ use3 W (raw (StoreC 𝓤 H A at-mem run .pre (to-store r))) (goes-store r gL) $
-          calls-at ! fm (StoreC 𝓤 H A at-mem run) known-store (to-store r) (and-then ! (load ! (from ! (stop !)) (look ! 4 refl)) (and-then ! (load ! (from ! (fld ! {d = 872} refl (stop !))) (look-in ! 22 (sub ! 1 {d = 872} refl (whole !)))) (and-then ! (lit ! tt) (no-more !)))) (λ w.
+          calls-at ! fm (StoreC 𝓤 H A at-mem run) known-store (to-store r) (and-then ! (load ! (from ! (stop !)) (look ! 4 refl)) (and-then ! (load ! (from ! (fld ! {d = 216} refl (stop !))) (look-in ! 22 (sub ! 1 {d = 216} refl (whole !)))) (and-then ! (lit ! tt) (no-more !)))) (λ w.
           use1 W (later (some (λ (u : Unit {0}). ((‵ (flft κ₁ q₁) ⊛ ‵ ftrue) ⊛ ‵ (unit .own u (w ∷ []))) ⊛ raw (ensured 𝓤 H A store-back.ended (store-back.clauses 𝓤 H A at-mem run) (κ₁, tt) (rref γ₁, (r .all, (16, tt))) tt u)))) (id⊢ 𝓤 _) $ await ! tt $ pick ! (λ u.
           split ! $ move ! (1 ∷ []) $ use1 W (some (λ (zs : List Process × (Unit {0} × (Unit {0} × Unit {0}))). ‵ (lasts store-back.ended (κ₁, tt) (rref γ₁, (r .all, (16, tt))) zs) ⊛ raw (fact 𝓤 (zs .0 ≡ recordsStored ys (r .all .list) 16)))) (id⊢ 𝓤 _) $ pick ! (λ zs.
           split ! $ move ! (1 ∷ []) $ heard ! (zs .0 ≡ recordsStored ys (r .all .list) 16) (λ e₁. fsplit ! $ fsplit ! $ move ! (1 ∷ []) $ feqL ! (λ l₁.
           move ! (2 ∷ []) $ split ! $ move ! (1 ∷ []) $ feqL ! (λ is-unit.
           -- [the token of κ₁; the last records; true; obs₀; bor₀; κ₀; locals at 6; κ₂; the last words; κ₃; the text; κ₄; the last listing]
           land ! (from ! (stop !)) (init ! 10 refl (subst (λ (z : Val). Holds (hasTy tyUnit z) × WT z) (sym (ap only is-unit)) (tt, tt))) $
-          assigns ! (agg ! (and-then ! (load ! (from ! (fld ! {d = 1384} refl (stop !))) (look-in ! 24 (sub ! 2 {d = 1384} refl (whole !)))) (and-then ! (load ! (from ! (fld ! {d = 1392} refl (stop !))) (look-in ! 24 (sub ! 3 {d = 1392} refl (whole !)))) (and-then ! (load ! (from ! (fld ! {d = 1400} refl (stop !))) (look-in ! 24 (sub ! 4 {d = 1400} refl (whole !)))) (no-more !))))) (from ! (stop !)) (init ! 44 refl (typedT (told r) (isT r small))) $
+          assigns ! (agg ! (and-then ! (load ! (from ! (fld ! {d = 728} refl (stop !))) (look-in ! 24 (sub ! 2 {d = 728} refl (whole !)))) (and-then ! (load ! (from ! (fld ! {d = 736} refl (stop !))) (look-in ! 24 (sub ! 3 {d = 736} refl (whole !)))) (and-then ! (load ! (from ! (fld ! {d = 744} refl (stop !))) (look-in ! 24 (sub ! 4 {d = 744} refl (whole !)))) (no-more !))))) (from ! (stop !)) (init ! 44 refl (typedT (told r) (isT r small))) $
           returns ! (look ! 44 refl) $ forget ! 6 refl $ forget ! 8 refl $ forget ! 10 refl $ forget ! 24 refl $ forget ! 26 refl $ forget ! 28 refl $ forget ! 30 refl $ forget ! 32 refl $ forget ! 34 refl $ forget ! 36 refl $ forget ! 38 refl $ forget ! 40 refl $ forget ! 42 refl $ forget ! 44 refl $
           move ! (44 ∷ 45 ∷ []) $ free1 ! $ move ! (42 ∷ 43 ∷ []) $ free1 ! $ move ! (40 ∷ 41 ∷ []) $ free1 ! $ move ! (38 ∷ 39 ∷ []) $ free1 ! $ move ! (36 ∷ 37 ∷ []) $ free1 ! $ move ! (34 ∷ 35 ∷ []) $ free1 ! $ move ! (32 ∷ 33 ∷ []) $ free1 ! $ move ! (30 ∷ 31 ∷ []) $ free1 ! $ move ! (28 ∷ 29 ∷ []) $ free1 ! $ move ! (26 ∷ 27 ∷ []) $ free1 ! $ move ! (24 ∷ 25 ∷ []) $ free1 ! $ move ! (22 ∷ 23 ∷ []) $ free1 ! $ move ! (20 ∷ 21 ∷ []) $ free1 ! $ move ! (18 ∷ 19 ∷ []) $ free1 ! $ move ! (16 ∷ 17 ∷ []) $ free1 ! $ move ! (14 ∷ 15 ∷ []) $ free1 ! $ move ! (12 ∷ 13 ∷ []) $ free1 ! $ move ! (10 ∷ 11 ∷ []) $ free1 ! $ move ! (8 ∷ 9 ∷ []) $ free1 ! $ move ! (6 ∷ 7 ∷ []) $ free1 ! $ free0 ! $
           keep ! (3 ∷ 4 ∷ 5 ∷ 0 ∷ 1 ∷ 6 ∷ 7 ∷ 8 ∷ 9 ∷ 10 ∷ 11 ∷ []) $ by ! (exits r (zs .0) vs ls e e₁ l₁ l₂ l₄ small))))))))

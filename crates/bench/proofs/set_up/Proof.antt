@@ -201,7 +201,7 @@ module _ {M : Type 1} (𝓤 : URA M) (H : Heap 𝓤) (A : Atoms 𝓤) (W : Given
           assigns ! (addr ! (from ! (fld ! refl (hop ! (look-in ! 27 (sub ! 0 refl (whole !))) (stop !))))) (from ! (stop !)) (init ! 5 refl (tt, tt)) $
           assigns ! (agg ! (and-then ! (load ! (from ! (stop !)) (look ! 5 refl)) (and-then ! (load ! (from ! (fld ! refl (stop !))) (look-in ! 27 (sub ! 1 refl (whole !)))) (no-more !)))) (from ! (stop !)) (init ! 3 refl (tt, (tt, (record { fits = room₁ .0 }, tt)))) $
           move ! (33 ∷ 34 ∷ 35 ∷ []) $ use3 W (raw (SetRecordsC 𝓤 H A at-mem run .pre (to-set r))) (goes-set r count-fits) $
-          calls-at ! fm (SetRecordsC 𝓤 H A at-mem run) known-set (to-set r) (and-then ! (load ! (from ! (stop !)) (look ! 4 refl)) (and-then ! (load ! (from ! (stop !)) (look ! 24 refl)) (and-then ! (load ! (from ! (fld ! {d = 880} refl (stop !))) (look-in ! 14 (sub ! 2 {d = 880} refl (whole !)))) (no-more !)))) (λ w′.
+          calls-at ! fm (SetRecordsC 𝓤 H A at-mem run) known-set (to-set r) (and-then ! (load ! (from ! (stop !)) (look ! 4 refl)) (and-then ! (load ! (from ! (stop !)) (look ! 24 refl)) (and-then ! (load ! (from ! (fld ! {d = 224} refl (stop !))) (look-in ! 14 (sub ! 2 {d = 224} refl (whole !)))) (no-more !)))) (λ w′.
           use1 W (later (some (λ (u : Unit {0}). ((‵ (flft κ₁ q₁) ⊛ ‵ ftrue) ⊛ ‵ (unit .own u (w′ ∷ []))) ⊛ raw (ensured 𝓤 H A set-records.ended (set-records.clauses 𝓤 H A at-mem run) (κ₁, tt) (rref, (n, (r .count, tt))) tt u)))) (id⊢ 𝓤 _) $ await ! tt $ pick ! (λ u.
           split ! $ move ! (1 ∷ []) $ use1 W (some (λ (zs : List Process × (Unit {0} × (Unit {0} × Unit {0}))). ‵ (lasts set-records.ended (κ₁, tt) (rref, (n, (r .count, tt))) zs) ⊛ raw (fact 𝓤 (zs .0 ≡ recordsWritten ys n (r .count))))) (id⊢ 𝓤 _) $ pick ! (λ zs.
           split ! $ move ! (1 ∷ []) $ heard ! (zs .0 ≡ recordsWritten ys n (r .count)) (λ e₁. fsplit ! $ fsplit ! $ move ! (1 ∷ []) $ feqL ! (λ l₁.

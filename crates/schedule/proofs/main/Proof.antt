@@ -1,12 +1,7 @@
 -- `schedule::main` meets its contract, which only says that it is safe and ends: the records that it hands over are fillers.
 -- Assumes nothing but io's contracts.
-use mathlib.Core.Path.{_≡_, refl}
-use lib.ListN.{take, replicate}
-use Rattle.model.specs.declared.Process.{Process}
-use Rattle.model.specs.Records.{noProcess}
-use Rattle.machine.specs.declared.records.Records.{Records}
-use Rattle.machine.specs.Gathered.{gathered}
 use borrow.Author.Needs.{needs}
+use Rattle.run.proofs.RecordLaws.{fillers}
 use Rattle.schedule.proofs.main.Statement.{statement}
 use Rattle.schedule.proofs.main.Tie as tie
 
@@ -39,11 +34,6 @@ slice-aggregate-run-by-value-2 c = search needs
 
 slice-aggregate-run-by-value-3 : tie.Need-slice-aggregate-run-by-value-3
 slice-aggregate-run-by-value-3 c = search needs
-
--- sixteen fillers are what gathering sixteen fillers gives
-fillers : (q : Process) (all : Records) → q ≡ noProcess → all ≡ record { list = replicate 16 q } → all ≡ gathered (take 16 (all .list)) noProcess 16
-unfolding gathered
-fillers q all e f = rw (f, e) refl
 
 run-by-value-requires : tie.Need-run-by-value-requires
 run-by-value-requires c κs =

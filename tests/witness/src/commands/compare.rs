@@ -1,4 +1,5 @@
-//! `witness compare PROGRAM DIR`: another program against the simulator.
+//! `witness compare PROGRAM DIR` and `witness compare-trace PROGRAM DIR`:
+//! another program against the simulator.
 
 use std::fs::{self, File};
 use std::path::Path;
@@ -6,12 +7,27 @@ use std::process::{Command, Stdio};
 
 use super::files::{read_text, texts_in};
 use super::run::print;
-use crate::schedule::listing_of;
+use crate::schedule::{listing_of, trace_of};
 
+/// Listings.
 pub fn compare(program: &str, dir: &str) -> Result<u8, String> {
+    against(program, dir, "listings", |text| listing_of(text, None).0)
+}
+
+/// Traces.
+pub fn compare_trace(program: &str, dir: &str) -> Result<u8, String> {
+    against(program, dir, "traces", |text| trace_of(text, None))
+}
+
+fn against(
+    program: &str,
+    dir: &str,
+    what: &str,
+    simulated: impl Fn(&[u8]) -> Vec<u8>,
+) -> Result<u8, String> {
     let paths = texts_in(dir)?;
     for path in &paths {
-        let (expected, _, _) = listing_of(&read_text(path)?, None);
+        let expected = simulated(&read_text(path)?);
         let printed = output_of(program, path)?;
         if printed != expected {
             print(report(path, &expected, &printed).as_bytes())?;
@@ -20,7 +36,7 @@ pub fn compare(program: &str, dir: &str) -> Result<u8, String> {
             return Ok(1);
         }
     }
-    print(format!("compared {} texts, 0 differ\n", paths.len()).as_bytes())
+    print(format!("compared the {what} of {} texts, 0 differ\n", paths.len()).as_bytes())
 }
 
 /// The file itself is the standard input, so that a program which stops

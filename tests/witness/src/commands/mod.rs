@@ -18,9 +18,11 @@ pub fn dispatch(words: &[String]) -> Result<u8, String> {
     let words: Vec<&str> = words.iter().map(String::as_str).collect();
     match words.as_slice() {
         ["run"] => run::run(wrong),
+        ["trace"] => run::trace(wrong),
         ["generate", seed, count, dir] => generate::generate(number(seed)?, number(count)?, dir),
         ["cover", dir] => cover::cover(dir),
         ["compare", program, dir] => compare::compare(program, dir),
+        ["compare-trace", program, dir] => compare::compare_trace(program, dir),
         ["history", seed, count] => history::history(number(seed)?, number(count)?, wrong),
         ["bench-text", kind, n, w] => {
             let text = bench_text(kind, number(n)?, number(w)?)?;

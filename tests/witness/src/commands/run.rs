@@ -1,17 +1,26 @@
-//! `witness run`: the program `schedule` of document 01.
+//! `witness run` is the program `schedule` of document 01, `witness trace`
+//! the program `trace`.
 
 use std::io::{stdin, stdout, Read, Write};
 
 use crate::machine::Wrong;
-use crate::schedule::{listing_of, TEXT_LIMIT};
+use crate::schedule::{listing_of, trace_of, TEXT_LIMIT};
 
 pub fn run(wrong: Option<Wrong>) -> Result<u8, String> {
+    let (listing, _, _) = listing_of(&text_given()?, wrong);
+    print(&listing)
+}
+
+pub fn trace(wrong: Option<Wrong>) -> Result<u8, String> {
+    print(&trace_of(&text_given()?, wrong))
+}
+
+fn text_given() -> Result<Vec<u8>, String> {
     let mut text = Vec::new();
     // One byte over the limit is enough to see that a text is too long.
     let taken = stdin().take(TEXT_LIMIT as u64 + 1).read_to_end(&mut text);
     taken.map_err(|error| error.to_string())?;
-    let (listing, _, _) = listing_of(&text, wrong);
-    print(&listing)
+    Ok(text)
 }
 
 pub fn print(bytes: &[u8]) -> Result<u8, String> {

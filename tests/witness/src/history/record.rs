@@ -89,7 +89,7 @@ impl Recorder {
         self.place += 1;
         if !self.bench.is_idle(p) {
             self.script.push_str(&format!(" {p}."));
-            let answer = self.bench.command(p as u64, Order::Step);
+            let answer = self.bench.command(p as u64, &Order::Step);
             return self.note(answer.expect("a busy process takes a step"));
         }
         let kind = self.choose(p, rng);
@@ -99,7 +99,7 @@ impl Recorder {
             Kind::Validate => Order::Validate,
         };
         self.bench
-            .command(p as u64, order)
+            .command(p as u64, &order)
             .expect("an idle process takes a start");
         self.open[p] = Some((kind, self.place));
         false
@@ -120,7 +120,7 @@ impl Recorder {
         } else {
             Order::Load
         };
-        assert!(self.bench.command(p as u64, order).is_err());
+        assert!(self.bench.command(p as u64, &order).is_err());
     }
 
     /// Every offered value is new, so that no order is right by chance.

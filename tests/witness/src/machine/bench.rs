@@ -1,5 +1,7 @@
 //! The state of the bench, and its set-up.
 
+use super::access::{Place, Seen};
+use super::buffers::Buffers;
 use super::linked::Linked;
 use super::process::{Line, Process, Request, Tag};
 use super::tally::Tally;
@@ -11,10 +13,11 @@ pub struct Bench {
     pub(super) x: Linked<Tag>,
     pub(super) bank: Vec<Linked<usize>>,
     pub(super) help: Vec<Linked<Request>>,
-    pub(super) buf: Vec<Vec<u64>>,
+    pub(super) buf: Buffers,
     pub(super) processes: Vec<Process>,
     pub(super) wrong: Option<Wrong>,
     pub(super) tally: Tally,
+    pub(super) seen: Seen,
 }
 
 impl Bench {
@@ -30,8 +33,10 @@ impl Bench {
         if value.len() != w {
             return Err(8);
         }
-        let mut buf = vec![vec![0; w]; 3 * n];
-        buf[0].copy_from_slice(value);
+        let first = Tag {
+            buffer: 0,
+            sequence: 0,
+        };
         let nobody_asks = Request {
             helpme: false,
             buffer: 0,
@@ -39,19 +44,18 @@ impl Bench {
         Ok(Bench {
             n,
             w,
-            x: Linked::new(
-                Tag {
-                    buffer: 0,
-                    sequence: 0,
-                },
-                n,
-            ),
-            bank: (0..2 * n).map(|k| Linked::new(k, n)).collect(),
-            help: (0..n).map(|_| Linked::new(nobody_asks, n)).collect(),
-            buf,
+            x: Linked::new(Place::X, first, n),
+            bank: (0..2 * n)
+                .map(|k| Linked::new(Place::Bank(k), k, n))
+                .collect(),
+            help: (0..n)
+                .map(|p| Linked::new(Place::Help(p), nobody_asks, n))
+                .collect(),
+            buf: Buffers::new(3 * n, value),
             processes: (0..n).map(|p| Process::new(2 * n + p, w)).collect(),
             wrong,
             tally: Tally::default(),
+            seen: Seen::nothing_yet(Line::Idle),
         })
     }
 
@@ -66,6 +70,10 @@ impl Bench {
     /// Whether an LL of p was ever answered.
     pub fn has_linked(&self, p: usize) -> bool {
         self.processes[p].linked
+    }
+
+    pub fn seen(&self) -> &Seen {
+        &self.seen
     }
 
     pub fn tally(&self) -> &Tally {

@@ -1,5 +1,6 @@
 //! Commands: a process and an order, and the refusals 4 to 8.
 
+use super::access::Seen;
 use super::bench::Bench;
 use super::process::Line;
 
@@ -29,7 +30,7 @@ pub struct Answer {
 impl Bench {
     /// One command: refused with a number, or carried out, perhaps with an
     /// answer.
-    pub fn command(&mut self, process: u64, order: Order) -> Result<Option<Answer>, u8> {
+    pub fn command(&mut self, process: u64, order: &Order) -> Result<Option<Answer>, u8> {
         if process >= self.n as u64 {
             return Err(4);
         }
@@ -41,24 +42,25 @@ impl Bench {
         }
     }
 
-    fn start(&mut self, p: usize, order: Order) -> Result<(), u8> {
+    fn start(&mut self, p: usize, order: &Order) -> Result<(), u8> {
         if !self.is_idle(p) {
             return Err(5);
         }
-        if order != Order::Load && !self.processes[p].linked {
+        if *order != Order::Load && !self.processes[p].linked {
             return Err(7);
         }
         let me = &mut self.processes[p];
         me.line = match order {
             Order::Store(words) if words.len() != self.w => return Err(8),
             Order::Store(words) => {
-                me.offer_area = words;
+                me.offer_area.copy_from_slice(words);
                 Line::L12
             }
             Order::Validate => Line::L23,
             _ => Line::L1,
         };
         me.count = 0;
+        self.seen = Seen::nothing_yet(Line::Idle);
         Ok(())
     }
 }

@@ -10,15 +10,16 @@ use super::wrong::Wrong;
 impl Bench {
     pub(super) fn line1(&mut self, p: usize) -> After {
         let buffer = self.processes[p].mybuf;
-        self.help[p].write(Request {
+        let request = Request {
             helpme: true,
             buffer,
-        });
+        };
+        self.help[p].write(request, &mut self.seen);
         After::At(Line::L2)
     }
 
     pub(super) fn line2(&mut self, p: usize) -> After {
-        self.processes[p].x = self.x.ll(p);
+        self.processes[p].x = self.x.ll(p, &mut self.seen);
         After::At(Line::L3)
     }
 
@@ -28,7 +29,7 @@ impl Bench {
     }
 
     pub(super) fn line4(&mut self, p: usize) -> After {
-        let request = self.help[p].ll(p);
+        let request = self.help[p].ll(p, &mut self.seen);
         if request.helpme {
             return After::At(Line::L8);
         }
@@ -37,7 +38,7 @@ impl Bench {
     }
 
     pub(super) fn line5(&mut self, p: usize) -> After {
-        self.processes[p].x = self.x.ll(p);
+        self.processes[p].x = self.x.ll(p, &mut self.seen);
         if self.reads(Wrong::Skip6And7) {
             return After::At(Line::L7Copy);
         }
@@ -50,7 +51,8 @@ impl Bench {
     }
 
     pub(super) fn line7_validate(&mut self, p: usize) -> After {
-        let valid = note(&mut self.tally.line7, self.x.vl(p));
+        let valid = self.x.vl(p, &mut self.seen);
+        note(&mut self.tally.line7, valid);
         After::either(valid, Line::L8, Line::L7Copy)
     }
 
@@ -60,7 +62,7 @@ impl Bench {
     }
 
     pub(super) fn line8(&mut self, p: usize) -> After {
-        let request = self.help[p].ll(p);
+        let request = self.help[p].ll(p, &mut self.seen);
         if !request.helpme {
             return After::At(Line::L10);
         }
@@ -74,15 +76,16 @@ impl Bench {
             buffer: self.processes[p].c,
         };
         if self.reads(Wrong::Line9Plain) {
-            self.help[p].write(withdrawn);
+            self.help[p].write(withdrawn, &mut self.seen);
         } else {
-            note(&mut self.tally.line9, self.help[p].sc(p, withdrawn));
+            let success = self.help[p].sc(p, withdrawn, &mut self.seen);
+            note(&mut self.tally.line9, success);
         }
         After::At(Line::L10)
     }
 
     pub(super) fn line10(&mut self, p: usize) -> After {
-        let request = self.help[p].read();
+        let request = self.help[p].read(&mut self.seen);
         if !self.reads(Wrong::Line10Keeps) {
             self.processes[p].mybuf = request.buffer;
         }
@@ -91,7 +94,8 @@ impl Bench {
 
     pub(super) fn line11(&mut self, p: usize) -> After {
         let me = &self.processes[p];
-        self.buf[me.mybuf][me.word] = me.return_area[me.word];
+        let word = me.return_area[me.word];
+        self.buf.write(me.mybuf, me.word, word, &mut self.seen);
         if !self.was_last_word(p) {
             return After::At(Line::L11);
         }
@@ -102,7 +106,7 @@ impl Bench {
     /// One word of a buffer into the return area.
     fn read_word(&mut self, p: usize, from: usize, same: Line, next: Line) -> After {
         let me = &mut self.processes[p];
-        me.return_area[me.word] = self.buf[from][me.word];
+        me.return_area[me.word] = self.buf.read(from, me.word, &mut self.seen);
         After::either(self.was_last_word(p), next, same)
     }
 }

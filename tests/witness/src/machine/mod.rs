@@ -1,7 +1,9 @@
 //! The machine of document 01: shared places with links, process records,
 //! and Figure 2 carried out one access at a time.
 
+mod access;
 mod bench;
+mod buffers;
 mod command;
 mod linked;
 mod load;
@@ -11,9 +13,9 @@ mod store;
 mod tally;
 mod wrong;
 
+pub use access::{Access, Act, Links, Place, Seen, Values};
 pub use bench::Bench;
 pub use command::{Answer, Order, Reply};
-pub use linked::Linked;
-pub use process::{Line, Process};
+pub use process::{Line, Process, Request, Tag};
 pub use tally::Tally;
 pub use wrong::Wrong;

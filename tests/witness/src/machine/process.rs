@@ -28,6 +28,34 @@ pub enum Line {
     L23,
 }
 
+impl Line {
+    /// Its number in Figure 2; 0 for idle.
+    pub fn number(self) -> u8 {
+        match self {
+            Line::Idle => 0,
+            Line::L1 => 1,
+            Line::L2 => 2,
+            Line::L3 => 3,
+            Line::L4 => 4,
+            Line::L5 => 5,
+            Line::L6 => 6,
+            Line::L7Validate | Line::L7Copy => 7,
+            Line::L8 => 8,
+            Line::L9 => 9,
+            Line::L10 => 10,
+            Line::L11 => 11,
+            Line::L12 | Line::L12Validate => 12,
+            Line::L13 => 13,
+            Line::L14 | Line::L14Validate => 14,
+            Line::L15 => 15,
+            Line::L17 => 17,
+            Line::L18 => 18,
+            Line::L19 => 19,
+            Line::L23 => 23,
+        }
+    }
+}
+
 /// The content of X.
 #[derive(Clone, Copy, PartialEq, Eq, Debug)]
 pub struct Tag {

@@ -1,6 +1,7 @@
 //! A step: one access, and where it leaves its process. The lines are in
 //! `load` and `store`; line 23 is so short that it stands here.
 
+use super::access::Seen;
 use super::bench::Bench;
 use super::command::{Answer, Reply};
 use super::process::Line;
@@ -21,7 +22,10 @@ impl After {
 impl Bench {
     pub(super) fn step(&mut self, p: usize) -> Option<Answer> {
         self.processes[p].count += 1;
-        match self.access(p) {
+        self.seen = Seen::nothing_yet(self.processes[p].line);
+        let after = self.access(p);
+        assert!(self.seen.access.is_some(), "a step makes an access");
+        match after {
             After::At(line) => {
                 self.processes[p].line = line;
                 None
@@ -67,8 +71,13 @@ impl Bench {
             Line::L17 => self.line17(p),
             Line::L18 => self.line18(p),
             Line::L19 => self.line19(p),
-            Line::L23 => After::Answer(Reply::Validated(self.x.vl(p))),
+            Line::L23 => self.line23(p),
         }
+    }
+
+    fn line23(&mut self, p: usize) -> After {
+        let valid = self.x.vl(p, &mut self.seen);
+        After::Answer(Reply::Validated(valid))
     }
 
     /// Moves the word place on after a word; tells whether it was the last.

@@ -10,27 +10,26 @@ use super::wrong::Wrong;
 impl Bench {
     pub(super) fn line12(&mut self, p: usize) -> After {
         let x = self.processes[p].x;
-        let differs = self.bank[x.sequence].ll(p) != x.buffer;
+        let differs = self.bank[x.sequence].ll(p, &mut self.seen) != x.buffer;
         After::either(differs, Line::L12Validate, Line::L14)
     }
 
     pub(super) fn line12_validate(&mut self, p: usize) -> After {
-        let valid = note(&mut self.tally.line12_validate, self.x.vl(p));
+        let valid = self.x.vl(p, &mut self.seen);
+        note(&mut self.tally.line12_validate, valid);
         After::either(valid, Line::L13, Line::L14)
     }
 
     pub(super) fn line13(&mut self, p: usize) -> After {
         let x = self.processes[p].x;
-        note(
-            &mut self.tally.line13,
-            self.bank[x.sequence].sc(p, x.buffer),
-        );
+        let success = self.bank[x.sequence].sc(p, x.buffer, &mut self.seen);
+        note(&mut self.tally.line13, success);
         After::At(Line::L14)
     }
 
     pub(super) fn line14(&mut self, p: usize) -> After {
         let reader = self.process_to_help(p);
-        let request = self.help[reader].ll(p);
+        let request = self.help[reader].ll(p, &mut self.seen);
         if !request.helpme {
             return After::At(Line::L17);
         }
@@ -42,7 +41,8 @@ impl Bench {
     }
 
     pub(super) fn line14_validate(&mut self, p: usize) -> After {
-        let valid = note(&mut self.tally.line14_validate, self.x.vl(p));
+        let valid = self.x.vl(p, &mut self.seen);
+        note(&mut self.tally.line14_validate, valid);
         After::either(valid, Line::L15, Line::L17)
     }
 
@@ -54,7 +54,8 @@ impl Bench {
             helpme: false,
             buffer: self.processes[p].mybuf,
         };
-        if note(&mut self.tally.line15, self.help[reader].sc(p, handed_over)) {
+        let success = self.help[reader].sc(p, handed_over, &mut self.seen);
+        if note(&mut self.tally.line15, success) {
             self.processes[p].mybuf = self.processes[p].d;
         }
         After::At(Line::L17)
@@ -62,13 +63,14 @@ impl Bench {
 
     pub(super) fn line17(&mut self, p: usize) -> After {
         let me = &self.processes[p];
-        self.buf[me.mybuf][me.word] = me.offer_area[me.word];
+        let word = me.offer_area[me.word];
+        self.buf.write(me.mybuf, me.word, word, &mut self.seen);
         After::either(self.was_last_word(p), Line::L18, Line::L17)
     }
 
     pub(super) fn line18(&mut self, p: usize) -> After {
         let next = self.next_sequence(p);
-        self.processes[p].e = self.bank[next].read();
+        self.processes[p].e = self.bank[next].read(&mut self.seen);
         After::At(Line::L19)
     }
 
@@ -78,7 +80,7 @@ impl Bench {
             buffer: self.processes[p].mybuf,
             sequence: self.next_sequence(p),
         };
-        let success = self.x.sc(p, new);
+        let success = self.x.sc(p, new, &mut self.seen);
         if success {
             self.processes[p].mybuf = self.processes[p].e;
         }

@@ -1,11 +1,15 @@
-//! The schedule text, the listing, and a text run from one to the other.
+//! The schedule text, the listing and the trace, and a text run from the
+//! one to the others.
 
+mod form;
+mod lines;
 mod listing;
 mod parse;
 mod run;
+mod trace;
 mod tree;
 
-pub use listing::{Listing, LISTING_BYTES, ROOM};
+pub use form::{Form, LISTING, TRACE};
 pub use parse::{parse, Fault};
 pub use run::{run_text, Outcome, ENTRY_LIMIT, TEXT_LIMIT};
 pub use tree::{Item, Schedule};
@@ -14,8 +18,17 @@ use crate::machine::{Tally, Wrong};
 
 /// A text run as the program `schedule` makes it: the bytes it prints.
 pub fn listing_of(text: &[u8], wrong: Option<Wrong>) -> (Vec<u8>, Outcome, Tally) {
-    let mut lent = vec![0; LISTING_BYTES];
-    let (outcome, tally) = run_text(text, &mut lent, wrong);
+    written(text, &LISTING, wrong)
+}
+
+/// A text run as the program `trace` makes it: the bytes it prints.
+pub fn trace_of(text: &[u8], wrong: Option<Wrong>) -> Vec<u8> {
+    written(text, &TRACE, wrong).0
+}
+
+fn written(text: &[u8], form: &Form, wrong: Option<Wrong>) -> (Vec<u8>, Outcome, Tally) {
+    let mut lent = vec![0; form.lent];
+    let (outcome, tally) = run_text(text, form, &mut lent, wrong);
     lent.truncate(outcome.written);
     (lent, outcome, tally)
 }

@@ -1,6 +1,7 @@
 //! A text run: the checks in 01's order, the set-up, then the entries.
 
-use super::listing::{Listing, ROOM};
+use super::form::{last_line, Entry, Form};
+use super::lines::Lines;
 use super::parse::parse;
 use super::tree::{Item, Schedule};
 use crate::machine::{Bench, Order, Tally, Wrong};
@@ -16,8 +17,13 @@ pub struct Outcome {
     pub written: usize,
 }
 
-pub fn run_text(text: &[u8], lent: &mut [u8], wrong: Option<Wrong>) -> (Outcome, Tally) {
-    if lent.len() < ROOM {
+pub fn run_text(
+    text: &[u8],
+    form: &Form,
+    lent: &mut [u8],
+    wrong: Option<Wrong>,
+) -> (Outcome, Tally) {
+    if lent.len() < form.room {
         let nothing = Outcome {
             number: 14,
             entries: 0,
@@ -25,17 +31,17 @@ pub fn run_text(text: &[u8], lent: &mut [u8], wrong: Option<Wrong>) -> (Outcome,
         };
         return (nothing, Tally::default());
     }
-    let mut listing = Listing::over(lent);
+    let mut lines = Lines::over(lent);
     let (number, entries, tally) = match prepare(text, wrong) {
         Err(number) => (number, 0, Tally::default()),
-        Ok((bench, schedule)) => carry_out(bench, &schedule, &mut listing),
+        Ok((bench, schedule)) => carry_out(bench, &schedule, form, &mut lines),
     };
-    listing.last(number, entries);
+    lines.line(&last_line(number, entries));
     (
         Outcome {
             number,
             entries,
-            written: listing.written(),
+            written: lines.written(),
         },
         tally,
     )
@@ -54,10 +60,16 @@ fn prepare(text: &[u8], wrong: Option<Wrong>) -> Result<(Bench, Schedule), u8> {
     Ok((bench, schedule))
 }
 
-fn carry_out(bench: Bench, schedule: &Schedule, listing: &mut Listing) -> (u8, u64, Tally) {
+fn carry_out(
+    bench: Bench,
+    schedule: &Schedule,
+    form: &Form,
+    lines: &mut Lines,
+) -> (u8, u64, Tally) {
     let mut run = Run {
         bench,
-        listing,
+        form,
+        lines,
         entries: 0,
         words: schedule.w as usize,
     };
@@ -67,7 +79,8 @@ fn carry_out(bench: Bench, schedule: &Schedule, listing: &mut Listing) -> (u8, u
 
 struct Run<'a, 'b> {
     bench: Bench,
-    listing: &'a mut Listing<'b>,
+    form: &'a Form,
+    lines: &'a mut Lines<'b>,
     entries: u64,
     words: usize,
 }
@@ -103,13 +116,20 @@ impl Run<'_, '_> {
         if self.entries == ENTRY_LIMIT {
             return Err(12);
         }
-        if !self.listing.has_room() {
+        if self.lines.left() < self.form.room {
             return Err(14);
         }
-        let answer = self.bench.command(p, order)?;
+        let answer = self.bench.command(p, &order)?;
         self.entries += 1;
-        if let Some(answer) = &answer {
-            self.listing.answer(answer);
+        let entry = Entry {
+            number: self.entries,
+            process: p,
+            order: &order,
+            seen: self.bench.seen(),
+            answer: answer.as_ref(),
+        };
+        if let Some(line) = (self.form.line)(&entry) {
+            self.lines.line(&line);
         }
         Ok(answer.is_some())
     }

@@ -60,7 +60,7 @@ impl<'a> Author<'a> {
 
     fn start(&mut self, p: usize, order: Order, item: String) {
         self.bench
-            .command(p as u64, order)
+            .command(p as u64, &order)
             .expect("the process is idle");
         self.item(&item);
     }
@@ -90,7 +90,7 @@ impl<'a> Author<'a> {
 
     fn step(&mut self, p: usize) {
         self.bench
-            .command(p as u64, Order::Step)
+            .command(p as u64, &Order::Step)
             .expect("the process is busy");
     }
 

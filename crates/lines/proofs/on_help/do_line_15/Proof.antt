@@ -15,7 +15,7 @@ with-mybuf-requires : tie.Need-with-mybuf-requires
 with-mybuf-requires c κs = search needs
 
 to-requires : tie.Need-to-requires
-to-requires c κs = simp (c .with-mybuf .ensures) (c .before .before .before .before .before .before .before .pre .count)
+to-requires c κs = simp (c .with-mybuf .ensures) (c .before .before .before .before .before .before .pre .count)
 
 returns : tie.Need-returns
 returns c = simp (c .to .ensures, c .before .with-mybuf .ensures, c .before .before .before .before .before .sc-help .ensures, sym (c .before .before .before .before .is-linked .ensures) ∙ c .before .before .before .if1 .taken)

@@ -2,10 +2,9 @@
 -- Assumes nothing.
 use mathlib.Core.Path.{sym, ap, _∙_}
 use mathlib.Core.Bool.{not}
-use native.Mathlib.Omega.{arith}
 use borrow.Author.Needs.{needs}
-use Rattle.machine.specs.Decision.{decisionNumber}
-use Rattle.machine.proofs.RowLaws.{over, here, n-in, w-in, p-in}
+use Rattle.machine.specs.Decision.{decisionNumber, lateNumber}
+use Rattle.machine.proofs.RowLaws.{over, here, n-in, w-in}
 use Rattle.machine.proofs.decision.refusal.Statement.{statement}
 use Rattle.machine.proofs.decision.refusal.Tie as tie
 
@@ -37,25 +36,12 @@ returns-4 : tie.Need-returns-4
 unfolding decisionNumber
 returns-4 c = over _ 1 (sym (c .before .before .before .before .before .before .before .n-out-of-range .ensures) ∙ c .before .before .before .before .before .before .if1 .left) (over _ 2 (sym (c .before .before .before .before .before .w-out-of-range .ensures) ∙ c .before .before .before .before .if2 .left) (over _ 3 (sym (c .before .before .before .too-little-lent .ensures) ∙ c .before .before .if3 .left) (here _ 9 _ (ap not (sym (c .before .in-range .ensures)) ∙ c .if4 .taken))))
 
-no-such-process-requires : tie.Need-no-such-process-requires
-no-such-process-requires c κs = search needs
+late-refusal-requires : tie.Need-late-refusal-requires
+late-refusal-requires c κs = n-in _ (sym (c .before .before .before .before .before .before .before .n-out-of-range .ensures) ∙ c .before .before .before .before .before .before .if1 .left) .1
 
 returns-5 : tie.Need-returns-5
-unfolding decisionNumber
-returns-5 c = over _ 1 (sym (c .before .before .before .before .before .before .before .before .before .n-out-of-range .ensures) ∙ c .before .before .before .before .before .before .before .before .if1 .left) (over _ 2 (sym (c .before .before .before .before .before .before .before .w-out-of-range .ensures) ∙ c .before .before .before .before .before .before .if2 .left) (over _ 3 (sym (c .before .before .before .before .before .too-little-lent .ensures) ∙ c .before .before .before .before .if3 .left) (over _ 9 (ap not (sym (c .before .before .before .in-range .ensures)) ∙ c .before .before .if4 .left) (here _ 4 _ (sym (c .before .no-such-process .ensures) ∙ c .if5 .taken)))))
-
-cast-t15 : tie.Need-cast-t15
-cast-t15 c = omega (arith, p-in (c .before .before .before .before .before .before .before .before .before .before .args .bench .n) (c .before .before .before .before .before .before .before .before .before .before .args .p) (sym (c .before .before .before .before .before .before .before .before .before .n-out-of-range .ensures) ∙ c .before .before .before .before .before .before .before .before .if1 .left) (sym (c .before .no-such-process .ensures) ∙ c .if5 .left))
-
-record-at-requires : tie.Need-record-at-requires
-record-at-requires c κs = p-in (c .before .before .before .before .before .before .before .before .before .before .args .bench .n) (c .before .before .before .before .before .before .before .before .before .before .args .p) (sym (c .before .before .before .before .before .before .before .before .before .n-out-of-range .ensures) ∙ c .before .before .before .before .before .before .before .before .if1 .left) (sym (c .before .no-such-process .ensures) ∙ c .if5 .left)
-
-call-refusal-requires : tie.Need-call-refusal-requires
-call-refusal-requires c κs = search needs
-
-returns-6 : tie.Need-returns-6
-unfolding decisionNumber
-returns-6 c = over _ 1 (sym (c .before .before .before .before .before .before .before .before .before .before .before .n-out-of-range .ensures) ∙ c .before .before .before .before .before .before .before .before .before .before .if1 .left) (over _ 2 (sym (c .before .before .before .before .before .before .before .before .before .w-out-of-range .ensures) ∙ c .before .before .before .before .before .before .before .before .if2 .left) (over _ 3 (sym (c .before .before .before .before .before .before .before .too-little-lent .ensures) ∙ c .before .before .before .before .before .before .if3 .left) (over _ 9 (ap not (sym (c .before .before .before .before .before .in-range .ensures)) ∙ c .before .before .before .before .if4 .left) (over _ 4 (sym (c .before .before .before .no-such-process .ensures) ∙ c .before .before .if5 .left) (c .call-refusal .ensures ∙ simp (c .before .record-at .ensures))))))
+unfolding decisionNumber lateNumber
+returns-5 c = over _ 1 (sym (c .before .before .before .before .before .before .before .before .n-out-of-range .ensures) ∙ c .before .before .before .before .before .before .before .if1 .left) (over _ 2 (sym (c .before .before .before .before .before .before .w-out-of-range .ensures) ∙ c .before .before .before .before .before .if2 .left) (over _ 3 (sym (c .before .before .before .before .too-little-lent .ensures) ∙ c .before .before .before .if3 .left) (over _ 9 (ap not (sym (c .before .before .in-range .ensures)) ∙ c .before .if4 .left) (c .late-refusal .ensures))))
 
 pub refusal-spec : {M : Type 1} → statement M
 refusal-spec =
@@ -69,9 +55,5 @@ refusal-spec =
     returns-3
     in-range-requires
     returns-4
-    no-such-process-requires
-    returns-5
-    cast-t15
-    record-at-requires
-    call-refusal-requires
-    returns-6)
+    late-refusal-requires
+    returns-5)

@@ -13,15 +13,24 @@ return-word-requires : tie.Need-return-word-requires
 return-word-requires c κs = search needs
 
 copy-word-requires : tie.Need-copy-word-requires
-copy-word-requires c κs = let h = c .before .before .before .before .pre .0 in (simp (c .before .before .buffer-word .ensures) (lies (c .before .before .before .before .args .bench .n) (omega arith) (h .word) (h .lent .words)), simp (c .before .return-word .ensures) (lies (c .before .before .before .before .args .bench .n) (omega arith) (h .word) (h .lent .words)))
+copy-word-requires c κs = let h = c .before .before .before .before .pre .0 in let a = c .before .before .before .before .args in (simp (c .before .before .buffer-word .ensures) (lies (a .n) (omega arith) (h .word) (h .lent .words)), simp (c .before .return-word .ensures) (lies (a .n) (omega arith) (h .word) (h .lent .words)))
+
+do-word-requires : tie.Need-do-word-requires
+do-word-requires c κs = search needs
 
 same-length : tie.Need-same-length
 same-length c = search needs
 
 returns : tie.Need-returns
-returns c = simp (c .before .before .before .copy-word .ensures, c .before .before .before .before .before .before .buffer-word .ensures, c .before .before .before .before .before .return-word .ensures)
+returns c = simp (c .do-word .ensures, c .before .before .before .copy-word .ensures, c .before .before .before .before .before .before .buffer-word .ensures, c .before .before .before .before .before .return-word .ensures)
 
 pub read-word-spec : {M : Type 1} → statement M
 read-word-spec =
     tie.close
-    (tie.spec buffer-word-requires return-word-requires copy-word-requires same-length returns)
+    (tie.spec
+    buffer-word-requires
+    return-word-requires
+    copy-word-requires
+    do-word-requires
+    same-length
+    returns)

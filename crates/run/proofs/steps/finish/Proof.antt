@@ -5,12 +5,12 @@ use native.Mathlib.Omega.{arith}
 use borrow.Author.Needs.{needs}
 use borrow.Author.Tests.{not-true, not-false}
 use Rattle.run.specs.Held.{held}
-use Rattle.run.proofs.FinishLaws.{Finishing, finish-start, finish-stopped, finish-answered, finish-on, finish-none, finish-kept}
+use Rattle.run.proofs.FinishLaws.{Finishing, finish-start, finish-stopped, finish-answered, finish-on, finish-refused, finish-kept}
 use Rattle.run.proofs.steps.finish.Statement.{statement}
 use Rattle.run.proofs.steps.finish.Tie as tie
 
 abbrev Inv-loop : tie.InvT-loop
-Inv-loop len p words₀ list₀ r₀ left₀ words list r left = Finishing len p (4 * r₀ .bench .w + 7) (held r₀ words₀ list₀) left (held r words list)
+Inv-loop len p words₀ list₀ r₀ left₀ words list r left = Finishing 13 len p (4 * r₀ .bench .w + 7) (held r₀ words₀ list₀) left (held r words list)
 
 abbrev μ-loop : tie.MeasureT-loop
 μ-loop len p words₀ list₀ r₀ left₀ words list r left = left
@@ -22,7 +22,7 @@ add-left : tie.Need-add-left Inv-loop μ-loop
 add-left c = omega (arith, c .before .before .before .pre .1 .going (c .before .before .before .pre .2) .width)
 
 loop-holds : tie.Need-loop-holds Inv-loop μ-loop
-loop-holds c = finish-start _ _ (c .before .before .before .pre .1)
+loop-holds c = finish-start 13 _ _ (c .before .before .before .pre .1)
 
 single-requires : tie.Need-single-requires Inv-loop μ-loop
 single-requires c κs = (c .before .before .before .before .before .before .before .pre .0, (c .before .before .before .loop .inv) .kept .sound)
@@ -81,7 +81,7 @@ same-length-6 : tie.Need-same-length-6 Inv-loop μ-loop
 same-length-6 c = (c .before .before .loop .inv) .kept .listing
 
 returns-3 : tie.Need-returns-3 Inv-loop μ-loop
-returns-3 c = rw (c .stopped .ensures) (finish-none (c .before .before .loop .inv) (c .before .loop-test .left))
+returns-3 c = rw (c .stopped .ensures) (finish-refused (c .before .before .loop .inv) (c .before .loop-test .left) (λ y. omega arith) (omega arith))
 
 pub finish-spec : {M : Type 1} → statement M
 finish-spec =

@@ -1,27 +1,12 @@
--- `run::text_run::run_by_value`: 14, 12, the first line, and the rest.
-use mathlib.Core.Path.{subst}
-use native.Mathlib.Omega.{arith}
+-- `run::text_run::run_by_value`: the run in the style of the listing.
 use borrow.Author.Needs.{needs}
-use denote.Ref.{now}
-use Rattle.notation.specs.Readers.{HeaderSays}
-use Rattle.notation.proofs.HeaderLaws.{headed-within, headed-small}
-use Rattle.run.specs.Whole.{memoryOf, refusedWith, saysAfter}
-use Rattle.run.proofs.RunLaws.{lending-few, run-14, run-12, run-not-headed, run-headed, answered, ended-as}
 use Rattle.run.proofs.text_run.run_by_value.Statement.{statement}
 use Rattle.run.proofs.text_run.run_by_value.Tie as tie
 
-few-requires : tie.Need-few-requires
-few-requires c κs = search needs
-
-returns : tie.Need-returns
-returns c =
+run-in-style-requires : tie.Need-run-in-style-requires
+run-in-style-requires c κs =
     let c5 = c .before .before .before .before .before in
-    (run-14 (memoryOf (c5 .args .bench) (c5 .args .all) (c5 .args .len) (now (c5 .args .words))) (now (c5 .args .text)) (now (c5 .args .list)) (c .if1 .taken), c5 .pre)
-
-refused-requires : tie.Need-refused-requires
-refused-requires c κs =
-    let c3 = c .before .before .before in let c4 = c3 .before in let c8 = c4 .before .before .before .before in
-    ((lending-few (c8 .args .len) (c4 .few .ensures) (c8 .pre) (c3 .if1 .left)), omega arith)
+    c5 .pre
 
 same-length : tie.Need-same-length
 same-length c = search needs
@@ -29,70 +14,10 @@ same-length c = search needs
 same-length-2 : tie.Need-same-length-2
 same-length-2 c = search needs
 
-returns-2 : tie.Need-returns-2
-returns-2 c =
-    let c4 = c .before .before .before .before in let c7 = c4 .before .before .before in let c8 = c7 .before in let c9 = c8 .before in let c13 = c9 .before .before .before .before in
-    ended-as (answered (c13 .args .len) (c13 .args .bench) (c13 .args .all) (now (c13 .args .words)) (λ m. refusedWith 12 m (now (c13 .args .list))) (c9 .few .ensures) (c13 .pre) (c4 .refused .ensures)) (run-12 (memoryOf (c13 .args .bench) (c13 .args .all) (c13 .args .len) (now (c13 .args .words))) (now (c13 .args .text)) (now (c13 .args .list)) (c8 .if1 .left) (c7 .if2 .taken))
-
-first-line-requires : tie.Need-first-line-requires
-first-line-requires c κs = search needs
-
-enum-told : tie.Need-enum-told
-enum-told c = search needs
-
-refused-requires-2 : tie.Need-refused-requires-2
-refused-requires-2 c κs =
-    let c6 = c .before .before .before .before .before .before in let c7 = c6 .before in let c11 = c7 .before .before .before .before in
-    ((lending-few (c11 .args .len) (c7 .few .ensures) (c11 .pre) (c6 .if1 .left)), omega arith)
-
-enum-known-header : tie.Need-enum-known-header
-enum-known-header c = search needs
-
-checked-requires : tie.Need-checked-requires
-checked-requires c κs =
-    let c3 = c .before .before .before in let c5 = c3 .before .before in let c7 = c5 .before .before in let c8 = c7 .before in let c12 = c8 .before .before .before .before in
-    ((lending-few (c12 .args .len) (c8 .few .ensures) (c12 .pre) (c7 .if1 .left)), record { within = headed-within (subst (HeaderSays _) (c3 .header .given .1) (c5 .first-line .ensures)); initial = headed-small (subst (HeaderSays _) (c3 .header .given .1) (c5 .first-line .ensures)) .2 })
-
-same-length-3 : tie.Need-same-length-3
-same-length-3 c = search needs
-
-same-length-4 : tie.Need-same-length-4
-same-length-4 c = search needs
-
-returns-3 : tie.Need-returns-3
-returns-3 c =
-    let c4 = c .before .before .before .before in let c7 = c4 .before .before .before in let c9 = c7 .before .before in let c10 = c9 .before in let c11 = c10 .before in let c12 = c11 .before in let c16 = c12 .before .before .before .before in
-    ended-as (answered (c16 .args .len) (c16 .args .bench) (c16 .args .all) (now (c16 .args .words)) (λ m. refusedWith 10 m (now (c16 .args .list))) (c12 .few .ensures) (c16 .pre) (c4 .refused2 .ensures)) (run-not-headed (memoryOf (c16 .args .bench) (c16 .args .all) (c16 .args .len) (now (c16 .args .words))) (now (c16 .args .text)) (now (c16 .args .list)) (c11 .if1 .left) (c10 .if2 .left) (subst (HeaderSays _) (c7 .enum-told .given .1) (c9 .first-line .ensures)))
-
-same-length-5 : tie.Need-same-length-5
-same-length-5 c = search needs
-
-same-length-6 : tie.Need-same-length-6
-same-length-6 c = search needs
-
-returns-4 : tie.Need-returns-4
-returns-4 c =
-    let c4 = c .before .before .before .before in let c8 = c4 .before .before .before .before in let c10 = c8 .before .before in let c11 = c10 .before in let c12 = c11 .before in let c13 = c12 .before in let c17 = c13 .before .before .before .before in
-    ended-as (answered (c17 .args .len) (c17 .args .bench) (c17 .args .all) (now (c17 .args .words)) (λ m. saysAfter (now (c17 .args .text)) (record { n = c8 .header .given .0 .0; w = c8 .header .given .0 .1 .0; initial = c8 .header .given .0 .1 .1 .0; items = c8 .header .given .0 .1 .1 .1 .0 }) m (now (c17 .args .list))) (c13 .few .ensures) (c17 .pre) (c4 .checked .ensures)) (run-headed (memoryOf (c17 .args .bench) (c17 .args .all) (c17 .args .len) (now (c17 .args .words))) (now (c17 .args .text)) (now (c17 .args .list)) (c12 .if1 .left) (record { n = c8 .header .given .0 .0; w = c8 .header .given .0 .1 .0; initial = c8 .header .given .0 .1 .1 .0; items = c8 .header .given .0 .1 .1 .1 .0 }) (c11 .if2 .left) (subst (HeaderSays _) (c8 .header .given .1) (c10 .first-line .ensures)))
+returns : tie.Need-returns
+returns c =
+    let c4 = c .before .before .before .before in
+    c4 .run-in-style .ensures
 
 pub run-by-value-spec : {M : Type 1} → statement M
-run-by-value-spec =
-    tie.close
-    (tie.spec
-    few-requires
-    returns
-    refused-requires
-    same-length
-    same-length-2
-    returns-2
-    first-line-requires
-    enum-told
-    refused-requires-2
-    enum-known-header
-    checked-requires
-    same-length-3
-    same-length-4
-    returns-3
-    same-length-5
-    same-length-6
-    returns-4)
+run-by-value-spec = tie.close (tie.spec run-in-style-requires same-length same-length-2 returns)

@@ -1,0 +1,115 @@
+-- How long the lines of a trace are: at most the 128 bytes that a trace keeps beside the listing's line.
+use Prim.Native.Nat.{ℕ, _+_, _≤_}
+use mathlib.Core.List.{[], _∷_, _++_}
+use mathlib.Core.Bool.{Bool, true, false, cond}
+use native.Mathlib.Omega.{arith}
+use lib.Dec.{eqb}
+use lib.ListN.{length}
+use Rattle.listing.specs.Decimal.{decimal}
+use Rattle.listing.specs.Lines.{letterS}
+use Rattle.listing.proofs.Lengths.{count-digits, word-digits, entries-digits, joined}
+use Rattle.access.specs.declared.Item.{Item}
+use Rattle.access.specs.declared.Item.the-variants.{X, Bank, Help, Word}
+use Rattle.access.specs.declared.Act.{Act}
+use Rattle.access.specs.declared.Act.the-variants.{Read, Write, Ll, Sc, Vl}
+use Rattle.access.specs.declared.Access.{Access}
+use Rattle.access.specs.Items.{index, wordPlace}
+use Rattle.access.specs.TraceLines.{quoted, spaced, bracketed, headText, itemText, valuesText, truthText, storedText, writtenText, actText, endText, stepLine, broughtText, startLine}
+
+-- no number of an access has more than ten digits, nor its line more than three
+pub record SmallAccess (a : Access) : Type 0 where
+  pub line : a .line ≤ 255
+  pub index : index (a .item) ≤ 4294967295
+  pub word : wordPlace (a .item) ≤ 4294967295
+  pub first : a .first ≤ 4294967295
+  pub second : a .second ≤ 4294967295
+
+spaced-length : (n k : ℕ) → length (decimal n) ≤ k → length (spaced n) ≤ k + 1
+unfolding spaced
+spaced-length n k h = omega arith
+
+number-length : (n : ℕ) → n ≤ 4294967295 → length (spaced n) ≤ 11
+number-length n h = spaced-length n 10 (word-digits n h)
+
+bracketed-length : (n : ℕ) → n ≤ 4294967295 → length (bracketed n) ≤ 12
+unfolding bracketed
+bracketed-length n h = omega (arith, joined (decimal n) (quoted "]") 10 1 (word-digits n h) (omega arith))
+
+head-length : (entry p : ℕ) → entry ≤ 60000 → p ≤ 4294967295 → length (headText entry p) ≤ 16
+unfolding headText
+head-length entry p h k = joined (decimal entry) (spaced p) 5 11 (entries-digits entry h) (number-length p k)
+
+item-length : (i : Item) → index i ≤ 4294967295 → wordPlace i ≤ 4294967295 → length (itemText i) ≤ 28
+unfolding itemText
+item-length X h k = omega arith
+item-length (Bank i) h k = omega (arith, bracketed-length (i .0) h)
+item-length (Help i) h k = omega (arith, bracketed-length (i .0) h)
+item-length (Word f j) h k = omega (arith, joined (bracketed (f .0)) (bracketed j) 12 12 (bracketed-length (f .0) h) (bracketed-length j k))
+
+written-length : (i : Item) → length (writtenText i) ≤ 14
+unfolding writtenText
+written-length X = omega arith
+written-length (Bank i) = omega arith
+written-length (Help i) = omega arith
+written-length (Word f k) = omega arith
+
+truth-length : (t : Bool) → length (truthText t) ≤ 6
+unfolding truthText
+truth-length true = omega arith
+truth-length false = omega arith
+
+stored-length : (t : Bool) → length (storedText t) ≤ 19
+unfolding storedText
+stored-length true = omega arith
+stored-length false = omega arith
+
+module _ (v u : ℕ) (h : v ≤ 4294967295) (k : u ≤ 4294967295) where
+  both-length : length (spaced v ++ spaced u) ≤ 22
+  both-length = joined (spaced v) (spaced u) 11 11 (number-length v h) (number-length u k)
+
+  values-length : (i : Item) → length (valuesText i v u) ≤ 22
+  unfolding valuesText
+  values-length X = both-length
+  values-length (Bank i) = omega (arith, number-length v h)
+  values-length (Help i) = both-length
+  values-length (Word f j) = omega (arith, number-length v h)
+
+  act-length : (a : Act) (i : Item) → length (actText a i v u) ≤ 47
+  unfolding actText
+  act-length Read i = omega (arith, values-length i)
+  act-length Write i = omega (arith, joined (valuesText i v u) (writtenText i) 22 14 (values-length i) (written-length i))
+  act-length Ll i = omega (arith, joined (valuesText i v u) (quoted " link set") 22 9 (values-length i) (omega arith))
+  act-length (Sc t) i = omega (arith, joined (valuesText i v u) (storedText t) 22 19 (values-length i) (stored-length t))
+  act-length (Vl t) i = omega (arith, truth-length t)
+
+end-length : (t : Bool) → length (endText t) ≤ 9
+unfolding endText
+end-length true = omega arith
+end-length false = omega arith
+
+-- a step's line, up to the listing's line where it answers
+pub step-length : (entry p : ℕ) (a : Access) (t : Bool) → entry ≤ 60000 → p ≤ 4294967295 → SmallAccess a → length (stepLine entry p a t) ≤ 128
+unfolding stepLine
+step-length entry p a t h k s =
+    let line = spaced (a .line) in
+    let item = itemText (a .item) in
+    let act = actText (a .act) (a .item) (a .first) (a .second) in
+    let e = end-length t in
+    let d = joined act (endText t) 47 9 (act-length (a .first) (a .second) (s .first) (s .second) (a .act) (a .item)) e in
+    let c = joined item (act ++ endText t) 28 56 (item-length (a .item) (s .index) (s .word)) d in
+    let b = joined line (item ++ (act ++ endText t)) 4 84 (spaced-length (a .line) 3 (count-digits (a .line) (omega (arith, s .line)))) c in
+    omega (arith, joined (headText entry p) (line ++ (item ++ (act ++ endText t))) 16 88 (head-length entry p h k) b)
+
+brought-length : (letter value : ℕ) → value ≤ 4294967295 → length (broughtText letter value) ≤ 11
+unfolding broughtText
+brought-length letter value h = by (eqb letter letterS)
+  where
+    by : (t : Bool) → length (cond t (spaced value) []) ≤ 11
+    by true = number-length value h
+    by false = omega arith
+
+pub start-length : (entry p letter value : ℕ) → entry ≤ 60000 → p ≤ 4294967295 → value ≤ 4294967295 → length (startLine entry p letter value) ≤ 128
+unfolding startLine
+start-length entry p letter value h k l =
+    let c = joined (broughtText letter value) (quoted "\n") 11 1 (brought-length letter value l) (omega arith) in
+    omega (arith, joined (headText entry p) (quoted " start " ++ ((letter ∷ []) ++ (broughtText letter value ++ quoted "\n"))) 16 20 (head-length entry p h k) (omega (arith, c)))

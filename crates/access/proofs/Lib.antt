@@ -1,0 +1,7 @@
+pub mod PlaceLaws
+pub mod TextLaws
+pub mod Lengths
+pub mod SmallLaws
+pub mod Examples
+pub mod TruthLaws
+pub mod Theorems

@@ -1,0 +1,29 @@
+-- `access::texts::bracketed`: the number between two brackets.
+use Rattle.listing.proofs.WritingLaws.{then, room-first, room-then}
+use Rattle.access.specs.TraceLines.{bracketed}
+use borrow.Author.Needs.{needs}
+use Rattle.access.proofs.texts.bracketed.Statement.{statement}
+use Rattle.access.proofs.texts.bracketed.Tie as tie
+
+put-requires : tie.Need-put-requires
+unfolding bracketed
+put-requires c κs = room-first _ _ (c .before .before .pre)
+
+number-requires : tie.Need-number-requires
+unfolding bracketed
+number-requires c κs = room-first _ _ (room-then _ (c .before .before .before .before .before .before .pre) (c .before .before .before .put .ensures))
+
+put-requires-2 : tie.Need-put-requires-2
+unfolding bracketed
+put-requires-2 c κs = room-then _ (room-then _ (c .before .before .before .before .before .before .before .before .before .before .pre) (c .before .before .before .before .before .before .before .put .ensures)) (c .before .before .before .number .ensures)
+
+same-length : tie.Need-same-length
+same-length c = search needs
+
+returns : tie.Need-returns
+unfolding bracketed
+returns c = then (c .before .before .before .before .before .before .before .before .before .before .put .ensures) (then (c .before .before .before .before .before .before .number .ensures) (c .before .before .put2 .ensures))
+
+pub bracketed-spec : {M : Type 1} → statement M
+bracketed-spec =
+    tie.close (tie.spec put-requires number-requires put-requires-2 same-length returns)

@@ -1,0 +1,28 @@
+-- `access::texts::brought`: only an SC brings a value.
+use mathlib.Core.Path.{ap}
+use mathlib.Core.List.{[]}
+use mathlib.Core.Bool.{Bool, cond}
+use borrow.Author.Tests.{eq-eqb, ne-eqb}
+use Rattle.listing.proofs.WritingLaws.{same, none, room-same}
+use Rattle.access.specs.TraceLines.{spaced, broughtText}
+use borrow.Author.Needs.{needs}
+use Rattle.access.proofs.texts.brought.Statement.{statement}
+use Rattle.access.proofs.texts.brought.Tie as tie
+
+spaced-requires : tie.Need-spaced-requires
+unfolding broughtText
+spaced-requires c κs = room-same (ap (λ (t : Bool). cond t (spaced (c .before .before .before .args .value)) []) (eq-eqb _ _ (c .before .if1 .taken))) (c .before .before .before .pre)
+
+same-length : tie.Need-same-length
+same-length c = search needs
+
+returns : tie.Need-returns
+unfolding broughtText
+returns c = same (ap (λ (t : Bool). cond t (spaced (c .before .before .before .before .before .before .args .value)) []) (eq-eqb _ _ (c .before .before .before .before .if1 .taken))) (c .before .before .spaced .ensures)
+
+returns-2 : tie.Need-returns-2
+unfolding broughtText
+returns-2 c = same (ap (λ (t : Bool). cond t (spaced (c .before .before .args .value)) []) (ne-eqb _ _ (c .if1 .left))) (none _ _)
+
+pub brought-spec : {M : Type 1} → statement M
+brought-spec = tie.close (tie.spec spaced-requires same-length returns returns-2)

@@ -1,0 +1,132 @@
+-- `access::texts::item`: the text of each kind of item.
+use mathlib.Core.Path.{ap}
+use Rattle.listing.proofs.WritingLaws.{then, same, room-same, room-first, room-then}
+use Rattle.access.specs.TraceLines.{itemText}
+use borrow.Author.Needs.{needs}
+use Rattle.access.proofs.texts.item.Statement.{statement}
+use Rattle.access.proofs.texts.item.Tie as tie
+
+enum-told : tie.Need-enum-told
+enum-told c = search needs
+
+slice-aggregate-plain : tie.Need-slice-aggregate-plain
+slice-aggregate-plain c = search needs
+
+plain-requires : tie.Need-plain-requires
+unfolding itemText
+plain-requires c κs = room-same (ap itemText (c .before .before .enum-told .given .1)) (c .before .before .before .before .before .pre)
+
+enum-known-item : tie.Need-enum-known-item
+enum-known-item c = search needs
+
+slice-aggregate-plain-2 : tie.Need-slice-aggregate-plain-2
+slice-aggregate-plain-2 c = search needs
+
+plain-requires-2 : tie.Need-plain-requires-2
+unfolding itemText
+plain-requires-2 c κs = room-first _ _ (room-same (ap itemText (c .before .before .before .item .given .1)) (c .before .before .before .before .before .before .pre))
+
+cast-bracketed : tie.Need-cast-bracketed
+cast-bracketed c = search needs
+
+bracketed-requires : tie.Need-bracketed-requires
+unfolding itemText
+bracketed-requires c κs = room-then _ (room-same (ap itemText (c .before .before .before .before .before .before .before .before .item .given .1)) (c .before .before .before .before .before .before .before .before .before .before .before .pre)) (c .before .before .before .before .plain2 .ensures)
+
+enum-known-item-2 : tie.Need-enum-known-item-2
+enum-known-item-2 c = search needs
+
+slice-aggregate-plain-3 : tie.Need-slice-aggregate-plain-3
+slice-aggregate-plain-3 c = search needs
+
+plain-requires-3 : tie.Need-plain-requires-3
+unfolding itemText
+plain-requires-3 c κs = room-first _ _ (room-same (ap itemText (c .before .before .before .item2 .given .1)) (c .before .before .before .before .before .before .pre))
+
+cast-bracketed-2 : tie.Need-cast-bracketed-2
+cast-bracketed-2 c = search needs
+
+bracketed-requires-2 : tie.Need-bracketed-requires-2
+unfolding itemText
+bracketed-requires-2 c κs = room-then _ (room-same (ap itemText (c .before .before .before .before .before .before .before .before .item2 .given .1)) (c .before .before .before .before .before .before .before .before .before .before .before .pre)) (c .before .before .before .before .plain3 .ensures)
+
+enum-known-item-3 : tie.Need-enum-known-item-3
+enum-known-item-3 c = search needs
+
+slice-aggregate-plain-4 : tie.Need-slice-aggregate-plain-4
+slice-aggregate-plain-4 c = search needs
+
+plain-requires-4 : tie.Need-plain-requires-4
+unfolding itemText
+plain-requires-4 c κs = room-first _ _ (room-same (ap itemText (c .before .before .before .item3 .given .1)) (c .before .before .before .before .before .before .pre))
+
+cast-bracketed-3 : tie.Need-cast-bracketed-3
+cast-bracketed-3 c = search needs
+
+bracketed-requires-3 : tie.Need-bracketed-requires-3
+unfolding itemText
+bracketed-requires-3 c κs = room-first _ _ (room-then _ (room-same (ap itemText (c .before .before .before .before .before .before .before .before .item3 .given .1)) (c .before .before .before .before .before .before .before .before .before .before .before .pre)) (c .before .before .before .before .plain4 .ensures))
+
+bracketed-requires-4 : tie.Need-bracketed-requires-4
+unfolding itemText
+bracketed-requires-4 c κs = room-then _ (room-then _ (room-same (ap itemText (c .before .before .before .before .before .before .before .before .before .before .before .before .item3 .given .1)) (c .before .before .before .before .before .before .before .before .before .before .before .before .before .before .before .pre)) (c .before .before .before .before .before .before .before .before .plain4 .ensures)) (c .before .before .before .bracketed3 .ensures)
+
+same-length : tie.Need-same-length
+same-length c = search needs
+
+returns : tie.Need-returns
+unfolding itemText
+returns c = same (ap itemText (c .before .before .before .before .before .enum-told .given .1)) (c .before .before .plain .ensures)
+
+same-length-2 : tie.Need-same-length-2
+same-length-2 c = search needs
+
+returns-2 : tie.Need-returns-2
+unfolding itemText
+returns-2 c = same (ap itemText (c .before .before .before .before .before .before .before .before .before .before .before .item .given .1)) (then (c .before .before .before .before .before .before .before .plain2 .ensures) (c .before .before .bracketed .ensures))
+
+same-length-3 : tie.Need-same-length-3
+same-length-3 c = search needs
+
+returns-3 : tie.Need-returns-3
+unfolding itemText
+returns-3 c = same (ap itemText (c .before .before .before .before .before .before .before .before .before .before .before .item2 .given .1)) (then (c .before .before .before .before .before .before .before .plain3 .ensures) (c .before .before .bracketed2 .ensures))
+
+same-length-4 : tie.Need-same-length-4
+same-length-4 c = search needs
+
+returns-4 : tie.Need-returns-4
+unfolding itemText
+returns-4 c = same (ap itemText (c .before .before .before .before .before .before .before .before .before .before .before .before .before .before .before .item3 .given .1)) (then (c .before .before .before .before .before .before .before .before .before .before .before .plain4 .ensures) (then (c .before .before .before .before .before .before .bracketed3 .ensures) (c .before .before .bracketed4 .ensures)))
+
+pub item-spec : {M : Type 1} → statement M
+item-spec =
+    tie.close
+    (tie.spec
+    enum-told
+    slice-aggregate-plain
+    plain-requires
+    enum-known-item
+    slice-aggregate-plain-2
+    plain-requires-2
+    cast-bracketed
+    bracketed-requires
+    enum-known-item-2
+    slice-aggregate-plain-3
+    plain-requires-3
+    cast-bracketed-2
+    bracketed-requires-2
+    enum-known-item-3
+    slice-aggregate-plain-4
+    plain-requires-4
+    cast-bracketed-3
+    bracketed-requires-3
+    bracketed-requires-4
+    same-length
+    returns
+    same-length-2
+    returns-2
+    same-length-3
+    returns-3
+    same-length-4
+    returns-4)

@@ -1,0 +1,4 @@
+pub mod Items
+pub mod Accesses
+pub mod TraceLines
+pub mod Truth

@@ -1,0 +1,87 @@
+-- The lines of a trace as bytes. Each part but the entry number has the space before it.
+use Prim.Native.Nat.{ℕ}
+use Prim.Native.Char.{code}
+use Prim.Native.String.{String}
+use mathlib.Core.List.{List, [], _∷_, _++_}
+use mathlib.Core.Bool.{Bool, true, false, cond}
+use lib.Dec.{eqb}
+use Rattle.listing.specs.Decimal.{decimal}
+use Rattle.listing.specs.Lines.{letterS}
+use Rattle.access.specs.declared.Item.{Item}
+use Rattle.access.specs.declared.Item.the-variants.{X, Bank, Help, Word}
+use Rattle.access.specs.declared.Act.{Act}
+use Rattle.access.specs.declared.Act.the-variants.{Read, Write, Ll, Sc, Vl}
+use Rattle.access.specs.declared.Access.{Access}
+
+-- the bytes of a text of plain characters
+abbrev pub quoted : String → List ℕ
+quoted String.[] = []
+quoted (String._∷_ c s) = code c ∷ quoted s
+
+-- a number, after a space
+unfoldable pub spaced : ℕ → List ℕ
+spaced n = quoted " " ++ decimal n
+
+-- a number in brackets
+unfoldable pub bracketed : ℕ → List ℕ
+bracketed n = quoted "[" ++ (decimal n ++ quoted "]")
+
+-- the entry number and the process
+unfoldable pub headText : ℕ → ℕ → List ℕ
+headText entry p = decimal entry ++ spaced p
+
+-- `X`, `Bank[i]`, `Help[i]` or `BUF[b][k]`
+unfoldable pub itemText : Item → List ℕ
+itemText X = quoted " X"
+itemText (Bank i) = quoted " Bank" ++ bracketed (i .0)
+itemText (Help i) = quoted " Help" ++ bracketed (i .0)
+itemText (Word f k) = quoted " BUF" ++ (bracketed (f .0) ++ bracketed k)
+
+-- X holds a buffer and a sequence number, a place of Help a flag and a buffer number; a place of Bank and a word one number
+unfoldable pub valuesText : Item → ℕ → ℕ → List ℕ
+valuesText X first second = spaced first ++ spaced second
+valuesText (Bank i) first second = spaced first
+valuesText (Help i) first second = spaced first ++ spaced second
+valuesText (Word f k) first second = spaced first
+
+unfoldable pub truthText : Bool → List ℕ
+truthText true = quoted " true"
+truthText false = quoted " false"
+
+-- an SC that wrote, and one that did nothing
+unfoldable pub storedText : Bool → List ℕ
+storedText true = quoted " true links cleared"
+storedText false = quoted " false"
+
+-- a word has no links
+unfoldable pub writtenText : Item → List ℕ
+writtenText X = quoted " links cleared"
+writtenText (Bank i) = quoted " links cleared"
+writtenText (Help i) = quoted " links cleared"
+writtenText (Word f k) = []
+
+-- the act, with the values that it names
+unfoldable pub actText : Act → Item → ℕ → ℕ → List ℕ
+actText Read item first second = quoted " read" ++ valuesText item first second
+actText Write item first second = quoted " write" ++ (valuesText item first second ++ writtenText item)
+actText Ll item first second = quoted " LL" ++ (valuesText item first second ++ quoted " link set")
+actText (Sc t) item first second = quoted " SC" ++ (valuesText item first second ++ storedText t)
+actText (Vl t) item first second = quoted " VL" ++ truthText t
+
+-- the listing's own line follows where the step answers its call
+unfoldable pub endText : Bool → List ℕ
+endText true = quoted " answers "
+endText false = quoted "\n"
+
+-- the line of a step
+unfoldable pub stepLine : ℕ → ℕ → Access → Bool → List ℕ
+stepLine entry p a answered =
+    headText entry p ++ (spaced (a .line) ++ (itemText (a .item) ++ (actText (a .act) (a .item) (a .first) (a .second) ++ endText answered)))
+
+-- only an SC brings a value
+unfoldable pub broughtText : ℕ → ℕ → List ℕ
+broughtText letter value = cond (eqb letter letterS) (spaced value) []
+
+-- the line of a start
+unfoldable pub startLine : ℕ → ℕ → ℕ → ℕ → List ℕ
+startLine entry p letter value = headText entry p ++ (quoted " start " ++ ((letter ∷ []) ++ (broughtText letter value ++ quoted "\n")))

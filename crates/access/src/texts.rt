@@ -1,0 +1,164 @@
+// The parts of a trace line, each with the space before it.
+ghost use mathlib.Core.List.{_++_};
+ghost use Rattle.listing.specs.Writing.{Room, Wrote};
+ghost use Rattle.access.specs.TraceLines.{spaced, bracketed, headText, itemText, valuesText, truthText, storedText, writtenText, actText, endText, broughtText};
+use crate::Act;
+use crate::Item;
+
+pub fn spaced(list: &mut [u8], at: usize, n: u64) -> usize
+    requires { ⌜ Room (now list) at (spaced n) ⌝ }
+    ensures { λ r. ⌜ Wrote (now (list .entry)) at (spaced n) (now (list .exit)) r ⌝ }
+{
+    let a = listing::put(list, at, 32);
+    listing::number(list, a, n)
+}
+
+// A number in brackets.
+fn bracketed(list: &mut [u8], at: usize, n: u64) -> usize
+    requires { ⌜ Room (now list) at (bracketed n) ⌝ }
+    ensures { λ r. ⌜ Wrote (now (list .entry)) at (bracketed n) (now (list .exit)) r ⌝ }
+{
+    let a = listing::put(list, at, 91);
+    let b = listing::number(list, a, n);
+    listing::put(list, b, 93)
+}
+
+// The entry number and the process.
+pub fn head(list: &mut [u8], at: usize, entry: u64, p: u64) -> usize
+    requires { ⌜ Room (now list) at (headText entry p) ⌝ }
+    ensures { λ r. ⌜ Wrote (now (list .entry)) at (headText entry p) (now (list .exit)) r ⌝ }
+{
+    let a = listing::number(list, at, entry);
+    spaced(list, a, p)
+}
+
+pub fn item(list: &mut [u8], at: usize, item: Item) -> usize
+    requires { ⌜ Room (now list) at (itemText item) ⌝ }
+    ensures { λ r. ⌜ Wrote (now (list .entry)) at (itemText item) (now (list .exit)) r ⌝ }
+{
+    match item {
+        Item::X => listing::plain(list, at, b" X"),
+        Item::Bank(i) => {
+            let a = listing::plain(list, at, b" Bank");
+            bracketed(list, a, i.0 as u64)
+        }
+        Item::Help(i) => {
+            let a = listing::plain(list, at, b" Help");
+            bracketed(list, a, i.0 as u64)
+        }
+        Item::Word(f, k) => {
+            let a = listing::plain(list, at, b" BUF");
+            let b = bracketed(list, a, f.0 as u64);
+            bracketed(list, b, k as u64)
+        }
+    }
+}
+
+fn pair(list: &mut [u8], at: usize, first: u64, second: u64) -> usize
+    requires { ⌜ Room (now list) at (spaced first ++ spaced second) ⌝ }
+    ensures { λ r. ⌜ Wrote (now (list .entry)) at (spaced first ++ spaced second) (now (list .exit)) r ⌝ }
+{
+    let a = spaced(list, at, first);
+    spaced(list, a, second)
+}
+
+// One value or two, as many as the item has.
+fn values(list: &mut [u8], at: usize, item: Item, first: u64, second: u64) -> usize
+    requires { ⌜ Room (now list) at (valuesText item first second) ⌝ }
+    ensures { λ r. ⌜ Wrote (now (list .entry)) at (valuesText item first second) (now (list .exit)) r ⌝ }
+{
+    match item {
+        Item::X => pair(list, at, first, second),
+        Item::Bank(_) => spaced(list, at, first),
+        Item::Help(_) => pair(list, at, first, second),
+        Item::Word(_, _) => spaced(list, at, first),
+    }
+}
+
+fn truth(list: &mut [u8], at: usize, t: bool) -> usize
+    requires { ⌜ Room (now list) at (truthText t) ⌝ }
+    ensures { λ r. ⌜ Wrote (now (list .entry)) at (truthText t) (now (list .exit)) r ⌝ }
+{
+    if t {
+        return listing::plain(list, at, b" true");
+    }
+    listing::plain(list, at, b" false")
+}
+
+// Of an SC: whether it wrote, and so cleared all links.
+fn stored(list: &mut [u8], at: usize, t: bool) -> usize
+    requires { ⌜ Room (now list) at (storedText t) ⌝ }
+    ensures { λ r. ⌜ Wrote (now (list .entry)) at (storedText t) (now (list .exit)) r ⌝ }
+{
+    if t {
+        return listing::plain(list, at, b" true links cleared");
+    }
+    listing::plain(list, at, b" false")
+}
+
+// Of a plain write: it clears all links of its item, where it has any.
+fn written(list: &mut [u8], at: usize, item: Item) -> usize
+    requires { ⌜ Room (now list) at (writtenText item) ⌝ }
+    ensures { λ r. ⌜ Wrote (now (list .entry)) at (writtenText item) (now (list .exit)) r ⌝ }
+{
+    match item {
+        Item::X => listing::plain(list, at, b" links cleared"),
+        Item::Bank(_) => listing::plain(list, at, b" links cleared"),
+        Item::Help(_) => listing::plain(list, at, b" links cleared"),
+        Item::Word(_, _) => at,
+    }
+}
+
+// The act, with the values that it names.
+pub fn act(list: &mut [u8], at: usize, act: Act, item: Item, first: u64, second: u64) -> usize
+    requires { ⌜ Room (now list) at (actText act item first second) ⌝ }
+    ensures { λ r. ⌜ Wrote (now (list .entry)) at (actText act item first second) (now (list .exit)) r ⌝ }
+{
+    match act {
+        Act::Read => {
+            let a = listing::plain(list, at, b" read");
+            values(list, a, item, first, second)
+        }
+        Act::Write => {
+            let a = listing::plain(list, at, b" write");
+            let b = values(list, a, item, first, second);
+            written(list, b, item)
+        }
+        Act::Ll => {
+            let a = listing::plain(list, at, b" LL");
+            let b = values(list, a, item, first, second);
+            listing::plain(list, b, b" link set")
+        }
+        Act::Sc(t) => {
+            let a = listing::plain(list, at, b" SC");
+            let b = values(list, a, item, first, second);
+            stored(list, b, t)
+        }
+        Act::Vl(t) => {
+            let a = listing::plain(list, at, b" VL");
+            truth(list, a, t)
+        }
+    }
+}
+
+// Where the step answers, the listing's line follows on the same line.
+pub fn end(list: &mut [u8], at: usize, answered: bool) -> usize
+    requires { ⌜ Room (now list) at (endText answered) ⌝ }
+    ensures { λ r. ⌜ Wrote (now (list .entry)) at (endText answered) (now (list .exit)) r ⌝ }
+{
+    if answered {
+        return listing::plain(list, at, b" answers ");
+    }
+    listing::put(list, at, 10)
+}
+
+// The value of a start: only an SC's.
+pub fn brought(list: &mut [u8], at: usize, letter: u8, value: u64) -> usize
+    requires { ⌜ Room (now list) at (broughtText letter value) ⌝ }
+    ensures { λ r. ⌜ Wrote (now (list .entry)) at (broughtText letter value) (now (list .exit)) r ⌝ }
+{
+    if letter == 83 {
+        return spaced(list, at, value);
+    }
+    at
+}

@@ -1,0 +1,69 @@
+-- To take the places that a step could touch, to step on them and to put them back is `model`'s step.
+use mathlib.Core.Path.{_≡_, sym, ap, _∙_}
+use mathlib.Core.List.{List}
+use Prim.Native.Nat.{ℕ}
+use lib.Seq.{set-getD}
+use Rattle.model.specs.declared.SequenceNumber.{SequenceNumber}
+use Rattle.model.specs.declared.ProcessNumber.{ProcessNumber}
+use Rattle.model.specs.declared.XPlace.{XPlace}
+use Rattle.model.specs.declared.BankPlace.{BankPlace}
+use Rattle.model.specs.declared.HelpPlace.{HelpPlace}
+use Rattle.model.specs.declared.Bench.{Bench}
+use Rattle.model.specs.declared.Process.{Process}
+use Rattle.model.specs.declared.Reply.the-variants.{Accepted}
+use Rattle.model.specs.declared.XStep.{XStep}
+use Rattle.model.specs.declared.BankStep.{BankStep}
+use Rattle.model.specs.declared.HelpStep.{HelpStep}
+use Rattle.model.specs.declared.WordStep.{WordStep}
+use Rattle.model.specs.declared.Moved.{Moved}
+use Rattle.model.specs.Tables.{noBank, noHelp, bankAt, helpAt}
+use Rattle.model.specs.Points.{Point, idle, line1, line2, line3, line4, line5, line6, line7, line7copy, line8, line9, line10, line11, line12, line12valid, line13, line14, line14valid, line15, line17, line18, line19, line23}
+use Rattle.model.specs.Lines.{doLine1, doLine2, doLine4, doLine7, doLine8, doLine9, doLine10, doLine12, doLine12Valid, doLine13, doLine14, doLine14Valid, doLine15, doLine18, doLine19, doLine23, doWord, doLine11}
+use Rattle.model.specs.Machine.{stepAt, onX, onBank, onHelp}
+use Rattle.machine.specs.declared.taken.Taken.{Taken}
+use Rattle.machine.specs.declared.taken.Stepped.{Stepped}
+use Rattle.machine.specs.Taken.{bankIndex, helpIndex, takenAt, takenFrom, putBack, restored, afterX, afterBank, afterHelp, afterWord, stepOn}
+
+module _ (p : ProcessNumber) (b : Bench) (q : Process) (ws : List ℕ) where
+  -- a place that the line left alone is put back as it was
+  x-law : (y : Point) (line : XPlace → Process → XStep) → onX line b q ws ≡ restored b (bankIndex y (b .n) q) (helpIndex y (b .n) p q) (afterX (takenFrom y b p q) (line (b .x) q), ws)
+  x-law y line = rw (set-getD (b .bank) (bankIndex y (b .n) q .0) noBank, set-getD (b .help) (helpIndex y (b .n) p q .0) noHelp)
+
+  bank-law : (y : Point) (line : BankPlace → Process → BankStep) → onBank (bankIndex y (b .n) q) line b q ws ≡ restored b (bankIndex y (b .n) q) (helpIndex y (b .n) p q) (afterBank (takenFrom y b p q) (line (bankAt b (bankIndex y (b .n) q)) q), ws)
+  bank-law y line = rw (set-getD (b .help) (helpIndex y (b .n) p q .0) noHelp)
+
+  help-law : (y : Point) (line : HelpPlace → Process → HelpStep) → onHelp (helpIndex y (b .n) p q) line b q ws ≡ restored b (bankIndex y (b .n) q) (helpIndex y (b .n) p q) (afterHelp (takenFrom y b p q) (line (helpAt b (helpIndex y (b .n) p q)) q), ws)
+  help-law y line = rw (set-getD (b .bank) (bankIndex y (b .n) q .0) noBank)
+
+  word-law : (y : Point) (s : WordStep) (ws′ : List ℕ) → _≡_ {A = Moved × List ℕ} (record { bench = b; process = s .process; reply = s .reply }, ws′) (restored b (bankIndex y (b .n) q) (helpIndex y (b .n) p q) (afterWord (takenFrom y b p q) s, ws′))
+  word-law y s ws′ = rw (set-getD (b .bank) (bankIndex y (b .n) q .0) noBank, set-getD (b .help) (helpIndex y (b .n) p q .0) noHelp)
+
+  pub step-by-taken : (y : Point) → stepAt y p b q ws ≡ restored b (bankIndex y (b .n) q) (helpIndex y (b .n) p q) (stepOn y p (b .n) (b .w) (takenFrom y b p q) q ws)
+  unfolding stepAt stepOn
+  step-by-taken idle = word-law idle (record { process = q; reply = Accepted }) ws
+  step-by-taken line1 = help-law line1 doLine1
+  step-by-taken line2 = x-law line2 (doLine2 line3 p)
+  step-by-taken line3 = word-law line3 (doWord (b .w) line4 q) _
+  step-by-taken line4 = help-law line4 (doLine4 p)
+  step-by-taken line5 = x-law line5 (doLine2 line6 p)
+  step-by-taken line6 = word-law line6 (doWord (b .w) line7 q) _
+  step-by-taken line7 = x-law line7 (doLine7 p)
+  step-by-taken line7copy = word-law line7copy (doWord (b .w) line8 q) _
+  step-by-taken line8 = help-law line8 (doLine8 p)
+  step-by-taken line9 = help-law line9 (doLine9 p)
+  step-by-taken line10 = help-law line10 doLine10
+  step-by-taken line11 = word-law line11 (doLine11 (b .w) q) _
+  step-by-taken line12 = bank-law line12 (doLine12 p)
+  step-by-taken line12valid = x-law line12valid (doLine12Valid p)
+  step-by-taken line13 = bank-law line13 (doLine13 p)
+  step-by-taken line14 = help-law line14 (doLine14 p)
+  step-by-taken line14valid = x-law line14valid (doLine14Valid p)
+  step-by-taken line15 = help-law line15 (doLine15 p)
+  step-by-taken line17 = word-law line17 (doWord (b .w) line18 q) _
+  step-by-taken line18 = bank-law line18 doLine18
+  step-by-taken line19 = x-law line19 (doLine19 (b .n) p)
+  step-by-taken line23 = x-law line23 (doLine23 p)
+
+  -- the parts of a step, put together
+  pub whole-step : (y : Point) {ws′ : List ℕ} {i : SequenceNumber} {j : ProcessNumber} {t : Taken} {s : Stepped} {r : Moved} → i ≡ bankIndex y (b .n) q → j ≡ helpIndex y (b .n) p q → t ≡ takenAt b i j → (s, ws′) ≡ stepOn y p (b .n) (b .w) t q ws → r ≡ putBack b i j s → (r, ws′) ≡ stepAt y p b q ws
+  whole-step y {ws′} {i} {j} {t} {s} {r} e f g h k = rw k (ap (restored b i j) h ∙ rw (g, e, f) (sym (step-by-taken y)))

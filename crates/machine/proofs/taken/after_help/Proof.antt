@@ -1,0 +1,11 @@
+-- `machine::taken::after_help` meets its contract: by computing.
+-- Assumes nothing.
+use mathlib.Core.Path.{refl}
+use Rattle.machine.proofs.taken.after_help.Statement.{statement}
+use Rattle.machine.proofs.taken.after_help.Tie as tie
+
+returns : tie.Need-returns
+returns c = refl
+
+pub after-help-spec : {M : Type 1} → statement M
+after-help-spec = tie.close (tie.spec returns)
