@@ -1,6 +1,6 @@
 -- `!`: its steps one after another, and the entries as a whole.
 use mathlib.Core.Path.{_≡_, refl, sym, ap, _∙_}
-use mathlib.Core.Bool.{Bool, true, false, not, cond, _&&_}
+use mathlib.Core.Bool.{Bool, true, false, not, cond, _&&_, _||_, true≢false}
 use mathlib.Core.List.{[], _∷_}
 use Prim.Native.Nat.{ℕ, zero, suc, _+_, _-_, _*_, _≤_, _<_}
 use native.Mathlib.Omega.{arith}
@@ -8,14 +8,16 @@ use native.Mathlib.Nat.{not-suc-le-zero}
 use types.Run.{OneOf, miss}
 use denote.Enum.Declared.{tagOf}
 use lib.Dec.{eqb}
-use borrow.Author.Tests.{eq-eqb, ne-eqb, eqb-true}
+use borrow.Author.Tests.{eq-eqb, ne-eqb, eqb-true, not-false}
 use Rattle.model.specs.Records.{recordAt}
-use Rattle.model.specs.Refusals.{isIdle}
+use Rattle.model.specs.Refusals.{isIdle, isStart}
 use Rattle.notation.specs.declared.Entry.{Entry}
 use Rattle.notation.specs.declared.Entry.the-variants.{StartLl, StartVl, StartSc, Step, Finish}
 use Rattle.notation.proofs.Entry.{the-type}
-use Rattle.run.specs.TextRun.{Progress, stopped, single, unanswered, steps, carry}
-use Rattle.run.specs.Held.{Held, held, progress, stoppedRun, Sound, Kept, Becomes}
+use Rattle.run.specs.declared.state.Run.{Run}
+use Rattle.run.specs.TextRun.{Progress, stopped, single, unanswered, steps, carry, processOf, orderOf}
+use Rattle.run.specs.Held.{Held, held, progress, stoppedRun, Sound, Kept, Becomes, Small, smallProcess, besides, mostSteps, lastNumber}
+use Rattle.machine.proofs.RowLaws.{neither}
 use Rattle.run.proofs.SingleLaws.{stops, stays}
 
 pub kept-then : {len : ℕ} {h h′ h″ : Held} → Kept len h h′ → Kept len h′ h″ → Kept len h h″
@@ -79,7 +81,7 @@ module _ {k len p total left : ℕ} {h h′ : Held} (f : Finishing k len p total
   pub finish-none : h′ .run .stop ≡ 0 → k ≤ 15 → Becomes len (steps k total p) h (held (stoppedRun (h′ .run) k) (h′ .words) (h′ .listing))
   finish-none z m = record { same = sym ended-same; kept = kept-then (f .kept) (last-kept k m z (f .kept .sound)) }
 
--- an entry that is one command, and one that is a start
+-- an entry that is one command
 pub carry-single : {len : ℕ} {h h′ : Held} (e : Entry) → OneOf (0 ∷ 1 ∷ 2 ∷ 3 ∷ []) (tagOf the-type e) → Becomes len (single e) h h′ → Becomes len (carry e) h h′
 unfolding carry
 carry-single (StartLl p) o b = record { same = b .same; kept = b .kept }
@@ -87,14 +89,6 @@ carry-single (StartVl p) o b = record { same = b .same; kept = b .kept }
 carry-single (StartSc p k) o b = record { same = b .same; kept = b .kept }
 carry-single (Step p) o b = record { same = b .same; kept = b .kept }
 carry-single (Finish p) o b = absurd (miss (0 ∷ 1 ∷ 2 ∷ 3 ∷ []) 4 tt o)
-
-pub carry-start : {len : ℕ} {h h′ : Held} (e : Entry) → OneOf (0 ∷ 1 ∷ 2 ∷ []) (tagOf the-type e) → Becomes len (single e) h h′ → Becomes len (carry e) h h′
-unfolding carry
-carry-start (StartLl p) o b = record { same = b .same; kept = b .kept }
-carry-start (StartVl p) o b = record { same = b .same; kept = b .kept }
-carry-start (StartSc p k) o b = record { same = b .same; kept = b .kept }
-carry-start (Step p) o b = absurd (miss (0 ∷ 1 ∷ 2 ∷ []) 3 tt o)
-carry-start (Finish p) o b = absurd (miss (0 ∷ 1 ∷ 2 ∷ []) 4 tt o)
 
 -- `!` is steps until an answer, `.` is one
 pub carry-finish : {len p : ℕ} {h h′ : Held} (e : Entry) → e ≡ Finish p → h .run .stop ≡ 0 → Becomes len (steps 13 (4 * h .run .bench .w + 7) p) h h′ → Becomes len (carry e) h h′
@@ -132,3 +126,36 @@ carry-stays (Finish p) s n = simp (ne-eqb (s .stop) 0 n)
 
 pub carry-stopped : {len : ℕ} {h : Held} (e : Entry) → (h .run .stop ≡ 0 → ⊥) → Sound len h → Becomes len (carry e) h h
 carry-stopped {len} {h} e n s = record { same = sym (carry-stays e (progress len h) n); kept = stays s }
+
+-- an entry that is steps: what it is where nothing puts it beside the loop
+pub record Stepping (e : Entry) (r : Run) : Type 0 where
+  pub goes : r .stop ≡ 0
+  pub plain : r .traced ≡ false
+  pub steps-only : isStart (orderOf e) ≡ false
+
+pub not-beside : (e : Entry) (r : Run) → besides e (r .stop) (r .traced) ≡ false → Stepping e r
+not-beside e r b =
+    let x = neither (not (eqb (r .stop) 0)) (r .traced || isStart (orderOf e)) b in
+    let y = neither (r .traced) (isStart (orderOf e)) (x .1) in
+    record { goes = eqb-true (r .stop) 0 (not-false (eqb (r .stop) 0) (x .0)); plain = y .0; steps-only = y .1 }
+
+pub stepped-process : (e : Entry) {p : ℕ} → isStart (orderOf e) ≡ false → p ≡ processOf e → Small e → smallProcess p
+stepped-process (StartLl p) s q m = absurd (true≢false s)
+stepped-process (StartVl p) s q m = absurd (true≢false s)
+stepped-process (StartSc p k) s q m = absurd (true≢false s)
+stepped-process (Step p) s q m = rw q m
+stepped-process (Finish p) s q m = rw q m
+
+pub last-small : (e : Entry) {k : ℕ} → k ≡ lastNumber e → k ≤ 15
+last-small (StartLl p) q = omega (arith, q)
+last-small (StartVl p) q = omega (arith, q)
+last-small (StartSc p k) q = omega (arith, q)
+last-small (Step p) q = omega (arith, q)
+last-small (Finish p) q = omega (arith, q)
+
+pub carry-steps : {len p k m : ℕ} {h h′ : Held} (e : Entry) → Stepping e (h .run) → p ≡ processOf e → k ≡ lastNumber e → m ≡ mostSteps (h .run .bench .w) e → Becomes len (steps k m p) h h′ → Becomes len (carry e) h h′
+carry-steps (StartLl p) s q l n b = absurd (true≢false (s .steps-only))
+carry-steps (StartVl p) s q l n b = absurd (true≢false (s .steps-only))
+carry-steps (StartSc p k) s q l n b = absurd (true≢false (s .steps-only))
+carry-steps (Step p) s q l n b = carry-step (Step p) refl (rw (q, l, n) at b)
+carry-steps (Finish p) s q l n b = carry-finish (Finish p) refl (s .goes) (rw (q, l, n) at b)

@@ -2,14 +2,15 @@
 use mathlib.Core.Path.{_≡_}
 use Prim.Native.Nat.{ℕ, _+_, _*_, _≤_, _<_}
 use mathlib.Core.List.{List, []}
-use mathlib.Core.Bool.{Bool, true, false, cond}
-use lib.Dec.{ltb, leb}
+use mathlib.Core.Bool.{Bool, true, false, cond, not, _||_}
+use lib.Dec.{eqb, ltb, leb}
 use lib.ListN.{length, getD, take}
 use Rattle.model.specs.declared.Process.{Process}
 use Rattle.model.specs.declared.Reply.{Reply}
 use Rattle.model.specs.declared.Reply.the-variants.{Refused, Accepted, LlAnswered, ScAnswered, VlAnswered}
 use Rattle.model.specs.Words.{returnArea}
 use Rattle.model.specs.Records.{noProcess, recordAt}
+use Rattle.model.specs.Refusals.{isStart}
 use Rattle.model.specs.Machine.{Memory}
 use Rattle.machine.specs.Ranges as R
 use Rattle.notation.specs.declared.Entry.{Entry}
@@ -20,7 +21,7 @@ use Rattle.listing.specs.Lines.{llLine, truthLine}
 use Rattle.listing.specs.Writing.{Room}
 use Rattle.access.specs.declared.Access.{Access}
 use Rattle.run.specs.declared.state.Run.{Run}
-use Rattle.run.specs.TextRun.{Progress, mostEntries, roomNeeded, accessNow, entryLine}
+use Rattle.run.specs.TextRun.{Progress, mostEntries, roomNeeded, accessNow, entryLine, orderOf}
 use Rattle.run.specs.Reached.{Reached}
 
 -- the run, the lent words and the listing
@@ -113,13 +114,24 @@ givenBy w (StartSc p k) = w
 givenBy w (Step p) = 0
 givenBy w (Finish p) = 0
 
--- steps of process p can be made in place: the run goes on and is not traced, and `last` is the number of a refusal or 0
-pub record Stepable (len p last : ℕ) (h : Held) : Type 0 where
-  pub process : smallProcess p
-  pub sound : Sound len h
-  pub goes : h .run .stop ≡ 0
-  pub plain : h .run .traced ≡ false
-  pub number : last ≤ 15
+-- whether an entry is carried out beside the loop of steps: a start, and every entry of a run that has stopped or is traced
+abbrev pub besides : Entry → ℕ → Bool → Bool
+besides e stop traced = not (eqb stop 0) || (traced || isStart (orderOf e))
+
+-- how many steps an entry makes at most, and the number of the refusal where none of them answers
+abbrev pub mostSteps : ℕ → Entry → ℕ
+mostSteps w (StartLl p) = 1
+mostSteps w (StartVl p) = 1
+mostSteps w (StartSc p k) = 1
+mostSteps w (Step p) = 1
+mostSteps w (Finish p) = 4 * w + 7
+
+abbrev pub lastNumber : Entry → ℕ
+lastNumber (StartLl p) = 0
+lastNumber (StartVl p) = 0
+lastNumber (StartSc p k) = 0
+lastNumber (Step p) = 0
+lastNumber (Finish p) = 13
 
 -- `lineOf` over the parts of the memory that it reads
 abbrev pub answerLine : ℕ → ℕ → List ℕ → ℕ → Reply → List ℕ

@@ -3,6 +3,7 @@ ghost use Rattle.run.specs.TextRun.{single, commanded};
 ghost use Rattle.run.specs.Held.{held, Sound, Ready, Becomes, Small};
 use crate::answers;
 use crate::entries;
+use crate::limits;
 use crate::state;
 use crate::state::Run;
 use crate::traces;
@@ -57,11 +58,11 @@ pub fn single(run: Run, len: usize, e: Entry, words: &mut [u64], list: &mut [u8]
     if run.stop != 0 {
         return run;
     }
-    if 60000 <= run.entries {
-        return state::stopped(run, 12);
+    if limits::MOST_ENTRIES <= run.entries {
+        return state::stopped(run, limits::TOO_MUCH);
     }
     if list.len() - run.written < state::room_needed(run.traced) {
-        return state::stopped(run, 14);
+        return state::stopped(run, limits::NO_ROOM);
     }
     commanded(run, len, e, words, list)
 }

@@ -4,6 +4,7 @@ ghost use Prim.Native.Nat.{_≤_};
 ghost use lib.ListN.{length};
 ghost use Rattle.run.specs.Held.{held, Sound};
 ghost use Rattle.run.specs.Reading.{Opened, GroupSays, ItemsSay};
+use crate::limits;
 use crate::state::Run;
 use crate::steps;
 use notation::Follow;
@@ -47,14 +48,14 @@ fn read_group(
     ensures { λ r. ⌜ GroupSays (now (text .entry)) n body depth len (held run (now (words .entry)) (now (list .entry))) (held (r .run) (now (words .exit)) (now (list .exit))) (r .out) ⌝ }
 {
     if depth == 0 {
-        let out = Done::Failed(11);
+        let out = Done::Failed(limits::TOO_DEEP);
         return Read { out, run };
     }
     let first = read_items(text, body, depth - 1, run, len, words, list);
     let mut r = first.run;
     let how = first.out;
     let out = match how {
-        Items::Ended => Done::Failed(10),
+        Items::Ended => Done::Failed(limits::TEXT_BROKEN),
         Items::Broken(k) => Done::Failed(k),
         Items::Closed(next) => {
             let mut turn = 1;
@@ -94,7 +95,7 @@ pub fn read_items(
     loop {
         let start = notation::begin(text, next);
         let how = match start {
-            Start::Wrong => Done::Failed(10),
+            Start::Wrong => Done::Failed(limits::TEXT_BROKEN),
             Start::Single(e, end) => {
                 r = steps::carry_out(r, len, e, words, list);
                 Done::At(end)
@@ -116,7 +117,7 @@ pub fn read_items(
                     }
                     Follow::End => Items::Ended,
                     Follow::Shut(past) => Items::Closed(past),
-                    Follow::Stray => Items::Broken(10),
+                    Follow::Stray => Items::Broken(limits::TEXT_BROKEN),
                 }
             }
         };

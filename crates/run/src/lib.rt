@@ -5,6 +5,7 @@ pub mod commands;
 pub mod entries;
 pub mod items;
 pub mod last_line;
+pub mod limits;
 pub mod set_up;
 pub mod state;
 pub mod steps;

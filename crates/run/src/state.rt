@@ -7,6 +7,8 @@ ghost use Rattle.model.specs.Records.{recordAt};
 ghost use Rattle.model.specs.Refusals.{isIdle};
 ghost use Rattle.run.specs.TextRun.{roomNeeded};
 ghost use Rattle.run.specs.Held.{stoppedRun, hindranceOf};
+use crate::limits;
+use machine::causes;
 use machine::records;
 use machine::records::Records;
 use model::Bench;
@@ -37,9 +39,9 @@ pub fn room_needed(traced: bool) -> usize
     ensures { λ r. ⌜ r ≡ roomNeeded traced ⌝ }
 {
     if traced {
-        return 872;
+        return limits::TRACE_ROOM;
     }
-    744
+    limits::LISTING_ROOM
 }
 
 // Whether process p, one of the `len` lent records, has a call that is not yet answered.
@@ -59,14 +61,14 @@ pub fn busy(all: Records, len: usize, p: u64) -> bool
 pub fn hindrance(entries: usize, room: usize, n: usize, p: u64) -> u8
     ensures { λ r. ⌜ r ≡ hindranceOf entries room n p ⌝ }
 {
-    if 60000 <= entries {
-        return 12;
+    if limits::MOST_ENTRIES <= entries {
+        return limits::TOO_MUCH;
     }
-    if room < 744 {
-        return 14;
+    if room < limits::LISTING_ROOM {
+        return limits::NO_ROOM;
     }
     if n as u64 <= p {
-        return 4;
+        return causes::NO_SUCH_PROCESS;
     }
     0
 }

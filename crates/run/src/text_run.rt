@@ -12,6 +12,7 @@ use crate::items;
 use crate::items::Items;
 use crate::last_line;
 use crate::last_line::Whole;
+use crate::limits;
 use crate::set_up;
 use crate::state;
 use machine::records::Records;
@@ -67,7 +68,7 @@ fn started(
     let begun = machine::set_up::bench_at_set_up(bench, n, w);
     let records = set_up::records_at_set_up(all, n);
     let run = last_line::fresh(begun, records, 0, traced);
-    let read = items::read_items(text, first.items, 8, run, len, words, list);
+    let read = items::read_items(text, first.items, limits::DEEPEST, run, len, words, list);
     let done = read.run;
     last_line::ended(done, list)
 }
@@ -86,12 +87,12 @@ fn checked(
     requires { ⌜ (Lending len all (now list)) × (Headed (now text) first) ⌝ }
     ensures { λ r. ⌜ Answers len r (now (words .exit)) (now (list .exit)) (saysAfter traced (now (text .entry)) first (memoryOf bench all len (now (words .entry))) (now (list .entry))) ⌝ }
 {
-    let run = last_line::fresh(bench, all, 10, traced);
-    let reading = items::read_items(text, first.items, 8, run, len, words, list);
+    let run = last_line::fresh(bench, all, limits::TEXT_BROKEN, traced);
+    let reading = items::read_items(text, first.items, limits::DEEPEST, run, len, words, list);
     let out = reading.out;
     match out {
         Items::Broken(k) => refused(bench, all, len, k, words, list),
-        Items::Closed(_) => refused(bench, all, len, 10, words, list),
+        Items::Closed(_) => refused(bench, all, len, limits::TEXT_BROKEN, words, list),
         Items::Ended => started(bench, all, len, traced, first, words, text, list),
     }
 }
@@ -124,17 +125,17 @@ fn run_in_style(
         return Whole {
             bench,
             all,
-            number: 14,
+            number: limits::NO_ROOM,
             entries: 0,
             written: 0,
         };
     }
-    if 16384 < text.len() {
-        return refused(bench, all, lent, 12, words, list);
+    if limits::LONGEST_TEXT < text.len() {
+        return refused(bench, all, lent, limits::TOO_MUCH, words, list);
     }
     let header = notation::first_line(text);
     match header {
-        Header::NoFirst => refused(bench, all, lent, 10, words, list),
+        Header::NoFirst => refused(bench, all, lent, limits::TEXT_BROKEN, words, list),
         Header::First(n, w, initial, items) => {
             let first = First {
                 n,
