@@ -42,13 +42,13 @@ use Rattle.linearization.proofs.ReplySimulation.{says-at, return-area, 
 use Rattle.linearization.proofs.Outcome.{cmdOf, refusedWith, started, stepped, Followed}
 use Rattle.linearization.proofs.GhostCommands.{silent-start, silent-out, silent-idle, exec-out, exec-short, exec-start, exec-busy, exec-bare, exec-step, exec-idle}
 
--- rows 4 to 8, from their tests: p not below N, the process idle, an LL answered, the value of W words
+-- rows 4, 8, 5, 6, 7, from their tests: p not below N, the process idle, an LL answered, the value of W words
 abbrev late : Bool → Order → Bool → Bool → Bool → ℕ
-late a o i r l = cond a 4 (cond (isStart o && not i) 5 (cond (not (isStart o) && i) 6 (cond (needsLl o && not r) 7 (cond (bringsValue o && not l) 8 0))))
+late a o i r l = cond a 4 (cond (bringsValue o && not l) 8 (cond (isStart o && not i) 5 (cond (not (isStart o) && i) 6 (cond (needsLl o && not r) 7 0))))
 
 late-sound : (a : Bool) (o : Order) (i r l : Bool) → NotLentMemory (late a o i r l)
 late-sound a o i r l =
-    by-test NotLentMemory a (λ _. is 4 tt) (λ _. by-test NotLentMemory (isStart o && not i) (λ _. is 5 tt) (λ _. by-test NotLentMemory (not (isStart o) && i) (λ _. is 6 tt) (λ _. by-test NotLentMemory (needsLl o && not r) (λ _. is 7 tt) (λ _. by-test NotLentMemory (bringsValue o && not l) (λ _. is 8 tt) (λ _. is 0 tt)))))
+    by-test NotLentMemory a (λ _. is 4 tt) (λ _. by-test NotLentMemory (bringsValue o && not l) (λ _. is 8 tt) (λ _. by-test NotLentMemory (isStart o && not i) (λ _. is 5 tt) (λ _. by-test NotLentMemory (not (isStart o) && i) (λ _. is 6 tt) (λ _. by-test NotLentMemory (needsLl o && not r) (λ _. is 7 tt) (λ _. is 0 tt)))))
   where
     is : (k : ℕ) → T (not (eqb k 1 || (eqb k 2 || (eqb k 3 || eqb k 9)))) → NotLentMemory k
     is k h = record { not-1 = λ e. no 1 e h; not-2 = λ e. no 2 e h; not-3 = λ e. no 3 e h; not-9 = λ e. no 9 e h }
@@ -195,10 +195,10 @@ module _ (N W n : ℕ) (m : Memory) (z : State) (r : Related N W m z) (ok : InRa
     by-order StartVl v true true l ei ea el k = start-case StartVl v refl ei (λ e. ea) (λ e. absurd (contra e refl)) k
     by-order StartVl v true false l ei ea el k = refused-case p StartVl v 7 (λ e. omega arith) k (exec-bare N W n z p v hp StartVl refl ei ea) (silent-start N W n z p v StartVl refl)
     by-order StartVl v false a l ei ea el k = refused-case p StartVl v 5 (λ e. omega arith) k (exec-busy N W n z p v hp StartVl refl ei) (silent-start N W n z p v StartVl refl)
+    by-order StartSc v i a false ei ea el k = refused-case p StartSc v 8 (λ e. omega arith) k (exec-short N W n z p v el) (silent-start N W n z p v StartSc refl)
     by-order StartSc v true true true ei ea el k = start-case StartSc v refl ei (λ e. ea) (λ e. eqb-true (length v) W el) k
-    by-order StartSc v true true false ei ea el k = refused-case p StartSc v 8 (λ e. omega arith) k (exec-short N W n z p v el) (silent-start N W n z p v StartSc refl)
-    by-order StartSc v true false l ei ea el k = refused-case p StartSc v 7 (λ e. omega arith) k (exec-bare N W n z p v hp StartSc refl ei ea) (silent-start N W n z p v StartSc refl)
-    by-order StartSc v false a l ei ea el k = refused-case p StartSc v 5 (λ e. omega arith) k (exec-busy N W n z p v hp StartSc refl ei) (silent-start N W n z p v StartSc refl)
+    by-order StartSc v true false true ei ea el k = refused-case p StartSc v 7 (λ e. omega arith) k (exec-bare N W n z p v hp StartSc refl ei ea) (silent-start N W n z p v StartSc refl)
+    by-order StartSc v false a true ei ea el k = refused-case p StartSc v 5 (λ e. omega arith) k (exec-busy N W n z p v hp StartSc refl ei) (silent-start N W n z p v StartSc refl)
     by-order Step v true a l ei ea el k = refused-case p Step v 6 (λ e. omega arith) k (exec-idle N W n z p v hp ei) (silent-idle N W n z p v hp ei)
     by-order Step v false a l ei ea el k = step-case v ei k
 

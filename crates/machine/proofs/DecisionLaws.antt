@@ -47,7 +47,7 @@ module _ (b : Bench) (rs : List Process) (ws : List ℕ) (p : ℕ) (o : Order) (
   same-range h k = ap (λ (l : List Process). benchOk b && every (processOk (b .n) (b .w)) l) (gathered-take rs (b .n) h k)
 
   abbrev calls : Process → ℕ
-  calls q = cond (row5 o q .holds) 5 (cond (row6 o q .holds) 6 (cond (row7 o q .holds) 7 (cond (row8 o (b .w) v .holds) 8 0)))
+  calls q = cond (row8 o (b .w) v .holds) 8 (cond (row5 o q .holds) 5 (cond (row6 o q .holds) 6 (cond (row7 o q .holds) 7 0)))
 
   abbrev from-9 : Bool → Process → ℕ
   from-9 t q = cond (not t) 9 (cond (row4 (b .n) p .holds) 4 (calls q))

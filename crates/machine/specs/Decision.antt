@@ -19,7 +19,7 @@ use Rattle.machine.specs.Lengths.{row3Lent, row8Lent}
 -- the rows that speak of the process and of the order
 abbrev pub lateRows : ℕ → ℕ → List Process → ℕ → Order → ℕ → List Row
 lateRows n w list p o value =
-    row4 n p ∷ row5 o (recordAt list (record { 0 = p })) ∷ row6 o (recordAt list (record { 0 = p })) ∷ row7 o (recordAt list (record { 0 = p })) ∷ row8Lent o w value ∷ []
+    row4 n p ∷ row8Lent o w value ∷ row5 o (recordAt list (record { 0 = p })) ∷ row6 o (recordAt list (record { 0 = p })) ∷ row7 o (recordAt list (record { 0 = p })) ∷ []
 
 -- the rows of a command, in order, for `words` lent words and a value of `value` words
 abbrev pub decisionRows : Bench → List Process → ℕ → ℕ → Order → ℕ → ℕ → List Row

@@ -64,7 +64,7 @@ pub fn refusal(
     late_refusal(bench.n, bench.w, all, p, order, value)
 }
 
-// Rows 4 to 8: all that a command can be refused for where the lent memory is in order.
+// Rows 4, 8, 5, 6, 7: all that a command can be refused for where the lent memory is in order.
 fn late_refusal(n: usize, w: usize, all: Records, p: usize, order: Order, value: usize) -> u8
     requires { ⌜ n ≤ 16 ⌝ }
     ensures { λ r. ⌜ r ≡ lateNumber n w (all .list) p order value ⌝ }
@@ -76,10 +76,13 @@ fn late_refusal(n: usize, w: usize, all: Records, p: usize, order: Order, value:
     call_refusal(order, process, w, value)
 }
 
-// Rows 5 to 8, of the process that is named.
+// Rows 8, 5, 6, 7, of the process that is named.
 fn call_refusal(order: Order, process: Process, w: usize, value: usize) -> u8
-    ensures { λ r. ⌜ r ≡ first (row5 order process ∷ row6 order process ∷ row7 order process ∷ row8Lent order w value ∷ []) ⌝ }
+    ensures { λ r. ⌜ r ≡ first (row8Lent order w value ∷ row5 order process ∷ row6 order process ∷ row7 order process ∷ []) ⌝ }
 {
+    if causes::value_not_w_words(order, w, value) {
+        return causes::VALUE_NOT_W_WORDS;
+    }
     if causes::start_at_busy(order, process) {
         return causes::START_AT_BUSY;
     }
@@ -88,9 +91,6 @@ fn call_refusal(order: Order, process: Process, w: usize, value: usize) -> u8
     }
     if causes::never_linked(order, process) {
         return causes::NEVER_LINKED;
-    }
-    if causes::value_not_w_words(order, w, value) {
-        return causes::VALUE_NOT_W_WORDS;
     }
     0
 }

@@ -149,12 +149,12 @@ row3view w written = record { number = 3; holds = not (eqb (length written % w) 
 abbrev pub row15 : ℕ → List ℕ → ℕ → Row
 row15 w written k = record { number = 15; holds = ltb (length written / w) k }
 
--- a command
+-- a command: 1, 2, 3, 9, 4, then 8 (operators mend the words first), then 5, 6, 7
 abbrev pub commandRows : Memory → ℕ → Order → List ℕ → List Row
 commandRows m p o value =
-    row1 (m .bench .n) ∷ row2 (m .bench .w) ∷ row3 (m .bench .n) (m .bench .w) (m .records) (m .words) ∷ row9 m ∷ row4 (m .bench .n) p ∷
-    row5 o (recordAt (m .records) (record { 0 = p })) ∷ row6 o (recordAt (m .records) (record { 0 = p })) ∷ row7 o (recordAt (m .records) (record { 0 = p })) ∷
-    row8 o (m .bench .w) value ∷ []
+    row1 (m .bench .n) ∷ row2 (m .bench .w) ∷ row3 (m .bench .n) (m .bench .w) (m .records) (m .words) ∷ row9 m ∷
+    row4 (m .bench .n) p ∷ row8 o (m .bench .w) value ∷ row5 o (recordAt (m .records) (record { 0 = p })) ∷
+    row6 o (recordAt (m .records) (record { 0 = p })) ∷ row7 o (recordAt (m .records) (record { 0 = p })) ∷ []
 
 -- "Set-up reads no old records and takes 1, 2, 3, 8."
 abbrev pub setUpRows : Memory → ℕ → ℕ → List ℕ → List Row

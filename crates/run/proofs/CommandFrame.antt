@@ -65,9 +65,9 @@ module _ (m : Memory) (t : List Process) (sixteen : length (m .records) ≡ 16) 
   short : n ≤ 16 → ltb (length (m .records ++ t)) n ≡ ltb (length (m .records)) n
   short h = le-ltb _ n (let y = length-append (m .records) t in omega arith) ∙ sym (le-ltb _ n (omega arith))
 
-  -- rows 5 to 8 by the record of p
+  -- rows 8, 5, 6, 7 by the record of p
   abbrev late : Process → List Row
-  late q = row5 o q ∷ row6 o q ∷ row7 o q ∷ row8 o (m .bench .w) v ∷ []
+  late q = row8 o (m .bench .w) v ∷ row5 o q ∷ row6 o q ∷ row7 o q ∷ []
 
   same-late : n ≤ 16 → first (row4 n p ∷ late (recordAt (m .records ++ t) (record { 0 = p }))) ≡ first (row4 n p ∷ late (recordAt (m .records) (record { 0 = p })))
   same-late h = go (decLe n p)

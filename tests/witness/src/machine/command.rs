@@ -1,4 +1,5 @@
-//! Commands: a process and an order, and the refusals 4 to 8.
+//! Commands: a process and an order, and the refusals 4, 8, 5, 6 and 7, in
+//! this order (02, CR 7).
 
 use super::access::Seen;
 use super::bench::Bench;
@@ -36,6 +37,7 @@ impl Bench {
         }
         let p = process as usize;
         match order {
+            Order::Store(words) if words.len() != self.w => Err(8),
             Order::Step if self.is_idle(p) => Err(6),
             Order::Step => Ok(self.step(p)),
             start => self.start(p, start).map(|()| None),
@@ -51,7 +53,6 @@ impl Bench {
         }
         let me = &mut self.processes[p];
         me.line = match order {
-            Order::Store(words) if words.len() != self.w => return Err(8),
             Order::Store(words) => {
                 me.offer_area.copy_from_slice(words);
                 Line::L12

@@ -6,43 +6,43 @@ use Rattle.machine.proofs.RowLaws.{over, here}
 use Rattle.machine.proofs.decision.call_refusal.Statement.{statement}
 use Rattle.machine.proofs.decision.call_refusal.Tie as tie
 
+value-not-w-words-requires : tie.Need-value-not-w-words-requires
+value-not-w-words-requires c κs = search needs
+
+returns : tie.Need-returns
+returns c = here _ 8 _ (sym (c .before .value-not-w-words .ensures) ∙ c .if1 .taken)
+
 start-at-busy-requires : tie.Need-start-at-busy-requires
 start-at-busy-requires c κs = search needs
 
-returns : tie.Need-returns
-returns c = here _ 5 _ (sym (c .before .start-at-busy .ensures) ∙ c .if1 .taken)
+returns-2 : tie.Need-returns-2
+returns-2 c = over _ 8 (sym (c .before .before .before .value-not-w-words .ensures) ∙ c .before .before .if1 .left) (here _ 5 _ (sym (c .before .start-at-busy .ensures) ∙ c .if2 .taken))
 
 step-at-idle-requires : tie.Need-step-at-idle-requires
 step-at-idle-requires c κs = search needs
 
-returns-2 : tie.Need-returns-2
-returns-2 c = over _ 5 (sym (c .before .before .before .start-at-busy .ensures) ∙ c .before .before .if1 .left) (here _ 6 _ (sym (c .before .step-at-idle .ensures) ∙ c .if2 .taken))
+returns-3 : tie.Need-returns-3
+returns-3 c = over _ 8 (sym (c .before .before .before .before .before .value-not-w-words .ensures) ∙ c .before .before .before .before .if1 .left) (over _ 5 (sym (c .before .before .before .start-at-busy .ensures) ∙ c .before .before .if2 .left) (here _ 6 _ (sym (c .before .step-at-idle .ensures) ∙ c .if3 .taken)))
 
 never-linked-requires : tie.Need-never-linked-requires
 never-linked-requires c κs = search needs
 
-returns-3 : tie.Need-returns-3
-returns-3 c = over _ 5 (sym (c .before .before .before .before .before .start-at-busy .ensures) ∙ c .before .before .before .before .if1 .left) (over _ 6 (sym (c .before .before .before .step-at-idle .ensures) ∙ c .before .before .if2 .left) (here _ 7 _ (sym (c .before .never-linked .ensures) ∙ c .if3 .taken)))
-
-value-not-w-words-requires : tie.Need-value-not-w-words-requires
-value-not-w-words-requires c κs = search needs
-
 returns-4 : tie.Need-returns-4
-returns-4 c = over _ 5 (sym (c .before .before .before .before .before .before .before .start-at-busy .ensures) ∙ c .before .before .before .before .before .before .if1 .left) (over _ 6 (sym (c .before .before .before .before .before .step-at-idle .ensures) ∙ c .before .before .before .before .if2 .left) (over _ 7 (sym (c .before .before .before .never-linked .ensures) ∙ c .before .before .if3 .left) (here _ 8 _ (sym (c .before .value-not-w-words .ensures) ∙ c .if4 .taken))))
+returns-4 c = over _ 8 (sym (c .before .before .before .before .before .before .before .value-not-w-words .ensures) ∙ c .before .before .before .before .before .before .if1 .left) (over _ 5 (sym (c .before .before .before .before .before .start-at-busy .ensures) ∙ c .before .before .before .before .if2 .left) (over _ 6 (sym (c .before .before .before .step-at-idle .ensures) ∙ c .before .before .if3 .left) (here _ 7 _ (sym (c .before .never-linked .ensures) ∙ c .if4 .taken))))
 
 returns-5 : tie.Need-returns-5
-returns-5 c = over _ 5 (sym (c .before .before .before .before .before .before .before .start-at-busy .ensures) ∙ c .before .before .before .before .before .before .if1 .left) (over _ 6 (sym (c .before .before .before .before .before .step-at-idle .ensures) ∙ c .before .before .before .before .if2 .left) (over _ 7 (sym (c .before .before .before .never-linked .ensures) ∙ c .before .before .if3 .left) (over _ 8 (sym (c .before .value-not-w-words .ensures) ∙ c .if4 .left) (refl))))
+returns-5 c = over _ 8 (sym (c .before .before .before .before .before .before .before .value-not-w-words .ensures) ∙ c .before .before .before .before .before .before .if1 .left) (over _ 5 (sym (c .before .before .before .before .before .start-at-busy .ensures) ∙ c .before .before .before .before .if2 .left) (over _ 6 (sym (c .before .before .before .step-at-idle .ensures) ∙ c .before .before .if3 .left) (over _ 7 (sym (c .before .never-linked .ensures) ∙ c .if4 .left) (refl))))
 
 pub call-refusal-spec : {M : Type 1} → statement M
 call-refusal-spec =
     tie.close
     (tie.spec
-    start-at-busy-requires
-    returns
-    step-at-idle-requires
-    returns-2
-    never-linked-requires
-    returns-3
     value-not-w-words-requires
+    returns
+    start-at-busy-requires
+    returns-2
+    step-at-idle-requires
+    returns-3
+    never-linked-requires
     returns-4
     returns-5)

@@ -1,4 +1,4 @@
--- `machine::decision::late_refusal` meets its contract: rows 4 to 8 in order.
+-- `machine::decision::late_refusal` meets its contract: rows 4, 8, 5, 6, 7 in order.
 -- Assumes nothing.
 use mathlib.Core.Path.{sym, _∙_}
 use native.Mathlib.Omega.{arith}
