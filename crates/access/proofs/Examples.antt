@@ -1,4 +1,4 @@
--- Lines of a trace, byte for byte: the first fifteen of case A, made of the machine's own steps, and the forms that it does not show.
+-- Lines of a trace, byte for byte: the first eighteen of case A, made of the machine's own steps, and the forms that it does not show.
 use Prim.Native.Nat.{ℕ, _+_}
 use mathlib.Core.Path.{_≡_, refl}
 use mathlib.Core.List.{List, [], _∷_, _++_}
@@ -22,7 +22,7 @@ use Rattle.listing.specs.Lines.{letterL, letterS, letterV, answerHead, wordsOf,
 use Rattle.access.specs.declared.Access.{Access}
 use Rattle.access.specs.declared.Act.the-variants.{Sc}
 use Rattle.access.specs.Accesses.{onBank, validX, accessOf}
-use Rattle.access.specs.TraceLines.{quoted, spaced, bracketed, headText, itemText, valuesText, truthText, storedText, writtenText, actText, endText, stepLine, broughtText, startLine}
+use Rattle.access.specs.TraceLines.{quoted, spaced, bracketed, headText, halfText, halfPlaceText, itemText, valuesText, truthText, storedText, writtenText, actText, endText, stepLine, broughtText, startLine}
 
 -- the line of a step of p, with its answer; ws are the words after it
 stepped : ℕ → ℕ → Access → ℕ → ℕ → List ℕ → Reply → List ℕ
@@ -49,9 +49,9 @@ traced entry m (c ∷ cs) =
 
 -- case A: `2 1 5`, `0l 0! 0s7 0! ..`
 case-A :
-    traced 1 (setUp dirty 2 1 (5 ∷ []) .1) (l 0 ++ steps 8 0 ++ s 1 0 7 ++ steps 5 0)
-    ≡ quoted "1 0 start L\n2 0 1 Help[0] write 1 4 links cleared\n3 0 2 X LL 0 0 link set\n4 0 3 BUF[0][0] read 5\n5 0 4 Help[0] LL 1 4 link set\n6 0 8 Help[0] LL 1 4 link set\n7 0 9 Help[0] SC 0 4 true links cleared\n8 0 10 Help[0] read 0 4\n9 0 11 BUF[4][0] write 5 answers 0 L 8 5\n10 0 start S 7\n11 0 12 Bank[0] LL 0 link set\n12 0 14 Help[0] LL 0 4 link set\n13 0 17 BUF[4][0] write 7\n14 0 18 Bank[1] read 1\n15 0 19 X SC 4 1 true links cleared answers 0 S 5 1\n"
-unfolding traced entryLine stepped command refusal inRange obey stepAt accessOf setUp setUpRefusal spaced bracketed headText itemText valuesText storedText writtenText actText endText stepLine broughtText startLine llLine truthLine answerHead wordsOf decimal digits
+    traced 1 (setUp dirty 2 1 (5 ∷ []) .1) (l 0 ++ steps 10 0 ++ s 1 0 7 ++ steps 6 0)
+    ≡ quoted "1 0 start L\n2 0 1 Help[0] write 1 4 links cleared\n3 0 2 X LL 0 0 link set\n4 0 3 BUF[0][0] low read 5\n5 0 3 BUF[0][0] high read 0\n6 0 4 Help[0] LL 1 4 link set\n7 0 8 Help[0] LL 1 4 link set\n8 0 9 Help[0] SC 0 4 true links cleared\n9 0 10 Help[0] read 0 4\n10 0 11 BUF[4][0] low write 5\n11 0 11 BUF[4][0] high write 0 answers 0 L 10 5\n12 0 start S 7\n13 0 12 Bank[0] LL 0 link set\n14 0 14 Help[0] LL 0 4 link set\n15 0 17 BUF[4][0] low write 7\n16 0 17 BUF[4][0] high write 0\n17 0 18 Bank[1] read 1\n18 0 19 X SC 4 1 true links cleared answers 0 S 6 1\n"
+unfolding traced entryLine stepped command refusal inRange obey stepAt accessOf setUp setUpRefusal spaced bracketed headText halfText halfPlaceText itemText valuesText storedText writtenText actText endText stepLine broughtText startLine llLine truthLine answerHead wordsOf decimal digits
 case-A = refl
 
 -- an SC that did nothing, a VL of each truth, and a start of a VL

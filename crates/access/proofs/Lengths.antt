@@ -1,20 +1,21 @@
 -- How long the lines of a trace are: at most the 128 bytes that a trace keeps beside the listing's line.
-use Prim.Native.Nat.{ℕ, _+_, _≤_}
+use Prim.Native.Nat.{ℕ, _+_, _%_, _≤_}
 use mathlib.Core.List.{[], _∷_, _++_}
 use mathlib.Core.Bool.{Bool, true, false, cond}
 use native.Mathlib.Omega.{arith}
 use lib.Dec.{eqb}
 use lib.ListN.{length}
+use Rattle.model.specs.Words.{wordOf}
 use Rattle.listing.specs.Decimal.{decimal}
 use Rattle.listing.specs.Lines.{letterS}
 use Rattle.listing.proofs.Lengths.{count-digits, word-digits, entries-digits, joined}
 use Rattle.access.specs.declared.Item.{Item}
-use Rattle.access.specs.declared.Item.the-variants.{X, Bank, Help, Word}
+use Rattle.access.specs.declared.Item.the-variants.{X, Bank, Help, Half}
 use Rattle.access.specs.declared.Act.{Act}
 use Rattle.access.specs.declared.Act.the-variants.{Read, Write, Ll, Sc, Vl}
 use Rattle.access.specs.declared.Access.{Access}
 use Rattle.access.specs.Items.{index, wordPlace}
-use Rattle.access.specs.TraceLines.{quoted, spaced, bracketed, headText, itemText, valuesText, truthText, storedText, writtenText, actText, endText, stepLine, broughtText, startLine}
+use Rattle.access.specs.TraceLines.{quoted, spaced, bracketed, headText, halfText, halfPlaceText, itemText, valuesText, truthText, storedText, writtenText, actText, endText, stepLine, broughtText, startLine}
 
 -- no number of an access has more than ten digits, nor its line more than three
 pub record SmallAccess (a : Access) : Type 0 where
@@ -39,19 +40,31 @@ head-length : (entry p : ℕ) → entry ≤ 60000 → p ≤ 4294967295 → lengt
 unfolding headText
 head-length entry p h k = joined (decimal entry) (spaced p) 5 11 (entries-digits entry h) (number-length p k)
 
-item-length : (i : Item) → index i ≤ 4294967295 → wordPlace i ≤ 4294967295 → length (itemText i) ≤ 28
+half-length : (k : ℕ) → length (halfText k) ≤ 5
+unfolding halfText
+half-length k = by (eqb (k % 2) 0)
+  where
+    by : (t : Bool) → length (cond t (quoted " low") (quoted " high")) ≤ 5
+    by true = omega arith
+    by false = omega arith
+
+half-place-length : (k : ℕ) → k ≤ 4294967295 → length (halfPlaceText k) ≤ 17
+unfolding halfPlaceText
+half-place-length k h = joined (bracketed (wordOf k)) (halfText k) 12 5 (bracketed-length (wordOf k) (omega arith)) (half-length k)
+
+item-length : (i : Item) → index i ≤ 4294967295 → wordPlace i ≤ 4294967295 → length (itemText i) ≤ 33
 unfolding itemText
 item-length X h k = omega arith
 item-length (Bank i) h k = omega (arith, bracketed-length (i .0) h)
 item-length (Help i) h k = omega (arith, bracketed-length (i .0) h)
-item-length (Word f j) h k = omega (arith, joined (bracketed (f .0)) (bracketed j) 12 12 (bracketed-length (f .0) h) (bracketed-length j k))
+item-length (Half f j) h k = omega (arith, joined (bracketed (f .0)) (halfPlaceText j) 12 17 (bracketed-length (f .0) h) (half-place-length j k))
 
 written-length : (i : Item) → length (writtenText i) ≤ 14
 unfolding writtenText
 written-length X = omega arith
 written-length (Bank i) = omega arith
 written-length (Help i) = omega arith
-written-length (Word f k) = omega arith
+written-length (Half f k) = omega arith
 
 truth-length : (t : Bool) → length (truthText t) ≤ 6
 unfolding truthText
@@ -72,7 +85,7 @@ module _ (v u : ℕ) (h : v ≤ 4294967295) (k : u ≤ 4294967295) where
   values-length X = both-length
   values-length (Bank i) = omega (arith, number-length v h)
   values-length (Help i) = both-length
-  values-length (Word f j) = omega (arith, number-length v h)
+  values-length (Half f j) = omega (arith, number-length v h)
 
   act-length : (a : Act) (i : Item) → length (actText a i v u) ≤ 47
   unfolding actText
@@ -96,9 +109,9 @@ step-length entry p a t h k s =
     let act = actText (a .act) (a .item) (a .first) (a .second) in
     let e = end-length t in
     let d = joined act (endText t) 47 9 (act-length (a .first) (a .second) (s .first) (s .second) (a .act) (a .item)) e in
-    let c = joined item (act ++ endText t) 28 56 (item-length (a .item) (s .index) (s .word)) d in
-    let b = joined line (item ++ (act ++ endText t)) 4 84 (spaced-length (a .line) 3 (count-digits (a .line) (omega (arith, s .line)))) c in
-    omega (arith, joined (headText entry p) (line ++ (item ++ (act ++ endText t))) 16 88 (head-length entry p h k) b)
+    let c = joined item (act ++ endText t) 33 56 (item-length (a .item) (s .index) (s .word)) d in
+    let b = joined line (item ++ (act ++ endText t)) 4 89 (spaced-length (a .line) 3 (count-digits (a .line) (omega (arith, s .line)))) c in
+    omega (arith, joined (headText entry p) (line ++ (item ++ (act ++ endText t))) 16 93 (head-length entry p h k) b)
 
 brought-length : (letter value : ℕ) → value ≤ 4294967295 → length (broughtText letter value) ≤ 11
 unfolding broughtText

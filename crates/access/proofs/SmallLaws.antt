@@ -21,7 +21,9 @@ use Rattle.model.specs.declared.Process.{Process}
 use Rattle.model.specs.Records.{noProcess, recordAt}
 use Rattle.model.specs.Places.{linked}
 use Rattle.model.specs.Tables.{noBank, noHelp, bankAt, helpAt, next, helped}
-use Rattle.model.specs.Words.{bufferWord, returnWord, offerWord}
+use Rattle.model.specs.Sizes.{halves}
+use Rattle.model.specs.Words.{bufferWord, returnWord, offerWord, wordOf, half}
+use Rattle.model.proofs.HalfLaws.{half-small}
 use Rattle.model.specs.Points.{Point, idle, line1, line2, line3, line4, line5, line6, line7, line7copy, line8, line9, line10, line11, line12, line12valid, line13, line14, line14valid, line15, line17, line18, line19, line23}
 use Rattle.model.specs.Machine.{Memory}
 use Rattle.model.specs.Refusals.{every, bufferOk, sequenceOk, xOk, linksOk, xPlaceOk, bankPlaceOk, helpPlaceOk, lineOk, countOk, processOk, benchOk, inRange}
@@ -31,7 +33,7 @@ use Rattle.machine.proofs.ListLaws.{every-at}
 use Rattle.machine.proofs.WordLaws.{within}
 use Rattle.access.specs.declared.Act.{Act}
 use Rattle.access.specs.declared.Act.the-variants.{Read, Write, Ll, Sc}
-use Rattle.access.specs.Accesses.{onX, onBank, onHelp, onWord, validX, readWord, accessOf}
+use Rattle.access.specs.Accesses.{onX, onBank, onHelp, onHalf, validX, readHalf, accessOf}
 use Rattle.access.proofs.Lengths.{SmallAccess}
 
 -- what a test of the first k places shows of each of them, and of what stands past the end
@@ -77,7 +79,7 @@ c-in n w q e =
     let x = xOk n (q .x) in
     let b = bufferOk n (q .b) in
     let c = bufferOk n (q .c) in
-    let rest = bufferOk n (q .d) && (bufferOk n (q .e) && (lineOk q && (ltb (q .word) w && countOk w q))) in
+    let rest = bufferOk n (q .d) && (bufferOk n (q .e) && (lineOk q && (ltb (q .word) (halves w) && countOk w q))) in
     ltb-true (q .c .0) (3 * n) (left c rest (right b (c && rest) (right x (b && (c && rest)) (right m (x && (b && (c && rest))) e))))
 
 -- an access to each kind of item, whose numbers are a byte's or a word's
@@ -117,21 +119,21 @@ module _ (b : Bench) {q : Process} {p : ProcessNumber} {ws : List ℕ} (r : Read
   x-seq = ltb-true (b .x .content .seq .0) (2 * b .n) (right (bufferOk (b .n) (b .x .content .buf)) (sequenceOk (b .n) (b .x .content .seq)) x-ok)
 
   -- a word of one of the 5N rows
-  word-at : (row : ℕ) → row < 5 * b .n → getD ws (row * b .w + q .word) 0 ≤ 4294967295
-  word-at row h = words (row * b .w + q .word) (within {b = row} {c = 5 * b .n} h (r .word))
+  word-at : (row : ℕ) → row < 5 * b .n → getD ws (row * b .w + wordOf (q .word)) 0 ≤ 4294967295
+  word-at row h = words (row * b .w + wordOf (q .word)) (within {b = row} {c = 5 * b .n} h (omega (arith, r .word)))
 
   most : b .n ≤ 16
   most = r .lent .n-most
 
-  word-small : (line : ℕ) (f : BufferNumber) (act : Act) (v : ℕ) → line ≤ 255 → f .0 < 3 * b .n → v ≤ 4294967295 → SmallAccess (onWord line f (q .word) act v)
-  word-small line f act v h k l = record { line = h; index = omega (arith, most); word = omega (arith, r .word, r .lent .w-most); first = l; second = omega arith }
+  word-small : (line : ℕ) (f : BufferNumber) (act : Act) (v : ℕ) → line ≤ 255 → f .0 < 3 * b .n → v ≤ 4294967295 → SmallAccess (onHalf line f (q .word) act (half (q .word) v))
+  word-small line f act v h k l = record { line = h; index = omega (arith, most); word = omega (arith, r .word, r .lent .w-most); first = half-small (q .word) v l; second = omega arith }
 
   -- LL or read of Help[i], and a read of BUF[f]
   seen-small : (line : ℕ) (i : ProcessNumber) (act : Act) → line ≤ 255 → i .0 < b .n → SmallAccess (onHelp line i act (helpAt b i .content))
   seen-small line i act h k = let s = help-at i k in help-small line i act (helpAt b i .content) h (omega (arith, most)) (s .flag) (omega (arith, s .buf, most))
 
-  read-small : (line : ℕ) (f : BufferNumber) → line ≤ 255 → f .0 < 3 * b .n → SmallAccess (readWord line f b q ws)
-  read-small line f h k = word-small line f Read (getD ws (bufferWord (b .w) f (q .word)) 0) h k (word-at (f .0) (omega arith))
+  read-small : (line : ℕ) (f : BufferNumber) → line ≤ 255 → f .0 < 3 * b .n → SmallAccess (readHalf line f b q ws)
+  read-small line f h k = word-small line f Read (getD ws (bufferWord (b .w) f (wordOf (q .word))) 0) h k (word-at (f .0) (omega arith))
 
   own : p .0 < b .n
   own = r .lent .process
@@ -156,14 +158,14 @@ module _ (b : Bench) {q : Process} {p : ProcessNumber} {ws : List ℕ} (r : Read
   access-small line8 = seen-small 8 p Ll (omega arith) own
   access-small line9 = help-small 9 p (Sc (linked (helpAt b p .links) p)) (record { flag = 0; buf = q .c }) (omega arith) (omega (arith, own, most)) (omega arith) (omega (arith, c-in (b .n) (b .w) q process, most))
   access-small line10 = seen-small 10 p Read (omega arith) own
-  access-small line11 = word-small 11 (q .mybuf) Write (getD ws (returnWord (b .n) (b .w) p (q .word)) 0) (omega arith) (r .mybuf) (word-at (3 * b .n + p .0) (omega (arith, own)))
+  access-small line11 = word-small 11 (q .mybuf) Write (getD ws (returnWord (b .n) (b .w) p (wordOf (q .word))) 0) (omega arith) (r .mybuf) (word-at (3 * b .n + p .0) (omega (arith, own)))
   access-small line12 = bank-small 12 (q .x .seq) Ll (bankAt b (q .x .seq) .content) (omega arith) (omega (arith, r .x-seq, most)) (omega (arith, bank-at (q .x .seq) (r .x-seq), most))
   access-small line12valid = valid-small 12 (linked (b .x .links) p) (omega arith)
   access-small line13 = bank-small 13 (q .x .seq) (Sc (linked (bankAt b (q .x .seq) .links) p)) (q .x .buf) (omega arith) (omega (arith, r .x-seq, most)) (omega (arith, r .x-buf, most))
   access-small line14 = seen-small 14 (helped (b .n) (q .x .seq)) Ll (omega arith) helped-in
   access-small line14valid = valid-small 14 (linked (b .x .links) p) (omega arith)
   access-small line15 = help-small 15 (helped (b .n) (q .x .seq)) (Sc (linked (helpAt b (helped (b .n) (q .x .seq)) .links) p)) (record { flag = 0; buf = q .mybuf }) (omega arith) (omega (arith, helped-in, most)) (omega arith) (omega (arith, r .mybuf, most))
-  access-small line17 = word-small 17 (q .mybuf) Write (getD ws (offerWord (b .n) (b .w) p (q .word)) 0) (omega arith) (r .mybuf) (word-at (4 * b .n + p .0) (omega (arith, own)))
+  access-small line17 = word-small 17 (q .mybuf) Write (getD ws (offerWord (b .n) (b .w) p (wordOf (q .word))) 0) (omega arith) (r .mybuf) (word-at (4 * b .n + p .0) (omega (arith, own)))
   access-small line18 = bank-small 18 (next (b .n) (q .x .seq)) Read (bankAt b (next (b .n) (q .x .seq)) .content) (omega arith) (omega (arith, next-in, most)) (omega (arith, bank-at (next (b .n) (q .x .seq)) next-in, most))
   access-small line19 = x-small 19 (Sc (linked (b .x .links) p)) (record { buf = q .mybuf; seq = next (b .n) (q .x .seq) }) (omega arith) (omega (arith, r .mybuf, most)) (omega (arith, next-in, most))
   access-small line23 = valid-small 23 (linked (b .x .links) p) (omega arith)

@@ -13,13 +13,13 @@ use Rattle.model.specs.declared.Process.{Process}
 use Rattle.model.specs.Places.{linked, scX, scBank, llBank, writeHelp}
 use Rattle.model.specs.Places as Places
 use Rattle.model.specs.Tables.{bankAt, helpAt, putX, putHelp, next, helped}
-use Rattle.model.specs.Words.{bufferWord, returnWord, offerWord, copied}
+use Rattle.model.specs.Words.{bufferWord, returnWord, offerWord, wordOf, copiedHalf}
 use Rattle.model.specs.Points.{Point, idle, line1, line2, line3, line4, line5, line6, line7, line7copy, line8, line9, line10, line11, line12, line12valid, line13, line14, line14valid, line15, line17, line18, line19, line23}
 use Rattle.model.specs.Machine.{stepAt}
 use Rattle.machine.proofs.WordLaws.{lies}
 use Rattle.access.proofs.PlaceLaws.{next-small, helped-small}
 use Rattle.access.specs.declared.Act.the-variants.{Read, Write, Ll, Sc, Vl}
-use Rattle.access.specs.Accesses.{validX, llX, llHelp, scHelp, readWord, accessOf}
+use Rattle.access.specs.Accesses.{validX, llX, llHelp, scHelp, readHalf, accessOf}
 use Rattle.access.specs.Items.{Holding}
 use Rattle.access.specs.Truth.{Holds, TellsTruth, Stepped}
 use Rattle.access.proofs.TruthLaws.{sc-x, sc-bank, sc-help, x-tells, bank-tells, help-tells, read-tells, write-tells}
@@ -48,8 +48,11 @@ module _ {b : Bench} {q : Process} {p : ProcessNumber} {ws : List ℕ} (s : Step
   freed = omega (arith, s .bank, next-small (b .n) (q .x .seq .0) (s .ready .lent .n-some) (s .ready .lent .n-most))
 
   -- the word place lies in the buffer that p owns
-  owned : bufferWord (b .w) (q .mybuf) (q .word) < length ws
-  owned = lies (b .n) (omega (arith, s .ready .mybuf)) (s .ready .word) (s .ready .lent .words)
+  within-row : wordOf (q .word) < b .w
+  within-row = omega (arith, s .ready .word)
+
+  owned : bufferWord (b .w) (q .mybuf) (wordOf (q .word)) < length ws
+  owned = lies (b .n) (omega (arith, s .ready .mybuf)) within-row (s .ready .lent .words)
 
   valid : (line : ℕ) → TellsTruth p (validX line t) b ws b ws
   valid line = x-tells p b ws line (Vl t) 0 0 (b .x) (refl, refl)
@@ -57,8 +60,8 @@ module _ {b : Bench} {q : Process} {p : ProcessNumber} {ws : List ℕ} (s : Step
   linked-x : (line : ℕ) → TellsTruth p (llX line b) b ws (putX b (Places.llX (b .x) p)) ws
   linked-x line = x-tells p b ws line Ll (b .x .content .buf .0) (b .x .content .seq .0) (Places.llX (b .x) p) (held refl refl, refl)
 
-  read : (line : ℕ) (f : BufferNumber) → f .0 < 3 * b .n → TellsTruth p (readWord line f b q ws) b ws b (copied ws (bufferWord (b .w) f (q .word)) (returnWord (b .n) (b .w) p (q .word)))
-  read line f h = read-tells p b ws line f (q .word) (3 * b .n + p .0) h (s .ready .word) (omega arith)
+  read : (line : ℕ) (f : BufferNumber) → f .0 < 3 * b .n → TellsTruth p (readHalf line f b q ws) b ws b (copiedHalf ws (q .word) (bufferWord (b .w) f (wordOf (q .word))) (returnWord (b .n) (b .w) p (wordOf (q .word))))
+  read line f h = read-tells p b ws line f (q .word) (3 * b .n + p .0) h (s .ready .word) (omega arith) (lies (b .n) (omega (arith, s .ready .lent .process)) within-row (s .ready .lent .words))
 
   linked-help : (line : ℕ) (i : ProcessNumber) → i .0 < length (b .help) → TellsTruth p (llHelp line i b) b ws (putHelp b i (Places.llHelp (helpAt b i) p)) ws
   linked-help line i h = help-tells p b ws line i Ll (helpAt b i .content) (Places.llHelp (helpAt b i) p) h (held refl refl, refl)
@@ -81,14 +84,14 @@ module _ {b : Bench} {q : Process} {p : ProcessNumber} {ws : List ℕ} (s : Step
   trace-is-true line8 n = linked-help 8 p own
   trace-is-true line9 n = stored-help 9 p (q .c) own
   trace-is-true line10 n = help-tells p b ws 10 p Read (helpAt b p .content) (helpAt b p) own (held refl refl, refl)
-  trace-is-true line11 n = write-tells p b ws 11 (q .mybuf) (q .word) (getD ws (returnWord (b .n) (b .w) p (q .word)) 0) (s .ready .word) owned
+  trace-is-true line11 n = write-tells p b ws 11 (q .mybuf) (q .word) (getD ws (returnWord (b .n) (b .w) p (wordOf (q .word))) 0) (s .ready .word) owned
   trace-is-true line12 n = bank-tells p b ws 12 (q .x .seq) Ll (bankAt b (q .x .seq) .content) (llBank (bankAt b (q .x .seq)) p) banked (held refl refl, refl)
   trace-is-true line12valid n = valid 12
   trace-is-true line13 n = bank-tells p b ws 13 (q .x .seq) (Sc (linked (bankAt b (q .x .seq) .links) p)) (q .x .buf) (scBank (bankAt b (q .x .seq)) p (q .x .buf)) banked (sc-bank p (q .x .buf) (bankAt b (q .x .seq)) (linked (bankAt b (q .x .seq) .links) p) refl)
   trace-is-true line14 n = linked-help 14 g other
   trace-is-true line14valid n = valid 14
   trace-is-true line15 n = stored-help 15 g (q .mybuf) other
-  trace-is-true line17 n = write-tells p b ws 17 (q .mybuf) (q .word) (getD ws (offerWord (b .n) (b .w) p (q .word)) 0) (s .ready .word) owned
+  trace-is-true line17 n = write-tells p b ws 17 (q .mybuf) (q .word) (getD ws (offerWord (b .n) (b .w) p (wordOf (q .word))) 0) (s .ready .word) owned
   trace-is-true line18 n = bank-tells p b ws 18 (next (b .n) (q .x .seq)) Read (bankAt b (next (b .n) (q .x .seq)) .content) (bankAt b (next (b .n) (q .x .seq))) freed (held refl refl, refl)
   trace-is-true line19 n = x-tells p b ws 19 (Sc t) (q .mybuf .0) (next (b .n) (q .x .seq) .0) (scX (b .x) p (record { buf = q .mybuf; seq = next (b .n) (q .x .seq) })) (sc-x p (record { buf = q .mybuf; seq = next (b .n) (q .x .seq) }) (b .x) t refl)
   trace-is-true line23 n = valid 23

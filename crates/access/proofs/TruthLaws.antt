@@ -4,6 +4,7 @@ use mathlib.Core.Logic.{_≢_}
 use mathlib.Core.List.{List}
 use mathlib.Core.Bool.{Bool, true, false, cond}
 use Prim.Native.Nat.{ℕ, _+_, _*_, _≤_, _<_}
+use native.Mathlib.Decide.{ℕ-discrete}
 use native.Mathlib.Omega.{arith}
 use lib.Dec.{ltb}
 use lib.ListN.{length, getD, set}
@@ -20,14 +21,16 @@ use Rattle.model.specs.declared.HelpPlace.{HelpPlace}
 use Rattle.model.specs.declared.Bench.{Bench}
 use Rattle.model.specs.Places.{noLinks, linked}
 use Rattle.model.specs.Tables.{noBank, noHelp, bankAt, helpAt, putX, putBank, putHelp}
-use Rattle.model.specs.Words.{bufferWord}
+use Rattle.model.specs.Sizes.{halves}
+use Rattle.model.specs.Words.{bufferWord, wordOf, half, withHalf}
+use Rattle.model.proofs.HalfLaws.{half-set, half-kept}
 use Rattle.machine.proofs.WordLaws.{within}
 use Rattle.access.specs.declared.Item.{Item}
-use Rattle.access.specs.declared.Item.the-variants.{X, Bank, Help, Word}
+use Rattle.access.specs.declared.Item.the-variants.{X, Bank, Help, Half}
 use Rattle.access.specs.declared.Act.{Act}
 use Rattle.access.specs.declared.Act.the-variants.{Read, Write, Sc}
-use Rattle.access.specs.Items.{InBench, xHolding, bankHolding, helpHolding, wordHolding, itemAt}
-use Rattle.access.specs.Accesses.{onBank, onHelp, onWord}
+use Rattle.access.specs.Items.{InBench, xHolding, bankHolding, helpHolding, halfHolding, itemAt}
+use Rattle.access.specs.Accesses.{onBank, onHelp, onHalf}
 use Rattle.access.specs.Truth.{Says, TellsTruth}
 
 -- an SC says the truth of its link
@@ -61,7 +64,7 @@ module _ (p : ProcessNumber) (b : Bench) (ws : List ℕ) where
   x-others x X n = absurd (n refl)
   x-others x (Bank i) n = refl
   x-others x (Help i) n = refl
-  x-others x (Word f k) n = refl
+  x-others x (Half f k) n = refl
 
   pub x-tells : (line : ℕ) (act : Act) (v u : ℕ) (x : XPlace) → Says act p v u (xHolding (b .x)) (xHolding x) → TellsTruth p (record { line = line; item = X; act = act; first = v; second = u }) b ws (putX b x) ws
   x-tells line act v u x s = record { item = s; others = λ i h n. x-others x i n }
@@ -71,7 +74,7 @@ module _ (p : ProcessNumber) (b : Bench) (ws : List ℕ) where
   bank-others s k X n = refl
   bank-others s k (Bank i) n = ap bankHolding (getD-set-other (b .bank) (s .0) (i .0) k noBank (λ e. n (ap (λ (j : ℕ). Bank (record { 0 = j })) e)))
   bank-others s k (Help i) n = refl
-  bank-others s k (Word f j) n = refl
+  bank-others s k (Half f j) n = refl
 
   pub bank-tells : (line : ℕ) (s : SequenceNumber) (act : Act) (v : BufferNumber) (k : BankPlace) → s .0 < length (b .bank) → Says act p (v .0) 0 (bankHolding (bankAt b s)) (bankHolding k) → TellsTruth p (onBank line s act v) b ws (putBank b s k) ws
   bank-tells line s act v k h x = record {
@@ -84,7 +87,7 @@ module _ (p : ProcessNumber) (b : Bench) (ws : List ℕ) where
   help-others s k X n = refl
   help-others s k (Bank i) n = refl
   help-others s k (Help i) n = ap helpHolding (getD-set-other (b .help) (s .0) (i .0) k noHelp (λ e. n (ap (λ (j : ℕ). Help (record { 0 = j })) e)))
-  help-others s k (Word f j) n = refl
+  help-others s k (Half f j) n = refl
 
   pub help-tells : (line : ℕ) (s : ProcessNumber) (act : Act) (v : HelpContent) (k : HelpPlace) → s .0 < length (b .help) → Says act p (v .flag) (v .buf .0) (helpHolding (helpAt b s)) (helpHolding k) → TellsTruth p (onHelp line s act v) b ws (putHelp b s k) ws
   help-tells line s act v k h x = record {
@@ -92,29 +95,43 @@ module _ (p : ProcessNumber) (b : Bench) (ws : List ℕ) where
     others = λ i _ n. help-others s k i n;
   }
 
-  -- another word k of row r: a word of BUF is that one or as before
-  word-others : (r k v : ℕ) (i : Item) → InBench b i → k < b .w → ((f : BufferNumber) → i ≡ Word f k → f .0 ≢ r) → itemAt i b (set ws (r * b .w + k) v) ≡ itemAt i b ws
-  word-others r k v X h l n = refl
-  word-others r k v (Bank i) h l n = refl
-  word-others r k v (Help i) h l n = refl
-  word-others r k v (Word f j) h l n =
-      ap wordHolding (getD-set-other ws (r * b .w + k) (bufferWord (b .w) f j) v 0
-      (λ e. n f (ap (λ (m : ℕ). Word f m) (same-word (b .w) (f .0) r j k (h .word) l e)) (same-row (b .w) (f .0) r j k (h .word) l e)))
+  -- half k of row r is taken from the word u: a half word of BUF is that one or as before
+  abbrev halfPut : ℕ → ℕ → ℕ → List ℕ
+  halfPut r k u = set ws (r * b .w + wordOf k) (withHalf k u (getD ws (r * b .w + wordOf k) 0))
 
-  -- a word of BUF is read into the return area, which lies behind BUF
-  pub read-tells : (line : ℕ) (f : BufferNumber) (k r : ℕ) → f .0 < 3 * b .n → k < b .w → 3 * b .n ≤ r
-      → TellsTruth p (onWord line f k Read (getD ws (bufferWord (b .w) f k) 0)) b ws b (set ws (r * b .w + k) (getD ws (bufferWord (b .w) f k) 0))
-  read-tells line f k r h l m =
-      let stays : (i : Item) → InBench b i → itemAt i b (set ws (r * b .w + k) (getD ws (bufferWord (b .w) f k) 0)) ≡ itemAt i b ws =
-      λ i g. word-others r k (getD ws (bufferWord (b .w) f k) 0) i g l (λ f′ e z. behind i f′ e z g) in
-      record { item = (record { first = refl; second = refl }, stays (Word f k) (record { index = h; word = l })); others = λ i g _. stays i g }
+  half-others : (r k u : ℕ) (i : Item) → InBench b i → k < halves (b .w) → r * b .w + wordOf k < length ws → ((f : BufferNumber) → i ≡ Half f k → f .0 ≢ r) → itemAt i b (halfPut r k u) ≡ itemAt i b ws
+  half-others r k u X h l s n = refl
+  half-others r k u (Bank i) h l s n = refl
+  half-others r k u (Help i) h l s n = refl
+  half-others r k u (Half f j) h l s n = go (ℕ-discrete (f .0 * b .w + wordOf j) (r * b .w + wordOf k))
     where
-      behind : (i : Item) (f′ : BufferNumber) → i ≡ Word f′ k → f′ .0 ≡ r → InBench b i → ⊥
+      hj : wordOf j < b .w
+      hj = omega (arith, h .word)
+
+      hk : wordOf k < b .w
+      hk = omega arith
+
+      go : Dec (f .0 * b .w + wordOf j ≡ r * b .w + wordOf k) → itemAt (Half f j) b (halfPut r k u) ≡ itemAt (Half f j) b ws
+      go (no ne) = ap (λ (v : ℕ). halfHolding (half j v)) (getD-set-other ws (r * b .w + wordOf k) (bufferWord (b .w) f (wordOf j)) _ 0 ne)
+      go (yes e) =
+          ap (λ (v : ℕ). halfHolding (half j v)) (ap (λ (i : ℕ). getD (halfPut r k u) i 0) e ∙ getD-set-same ws (r * b .w + wordOf k) _ 0 s)
+          ∙ ap halfHolding (half-kept j k u _ (same-word (b .w) (f .0) r (wordOf j) (wordOf k) hj hk e) (λ z. n f (ap (λ (m : ℕ). Half f m) z) (same-row (b .w) (f .0) r (wordOf j) (wordOf k) hj hk e)))
+          ∙ ap (λ (i : ℕ). halfHolding (half j (getD ws i 0))) (sym e)
+
+  -- a half word of BUF is read into the return area, which lies behind BUF
+  pub read-tells : (line : ℕ) (f : BufferNumber) (k r : ℕ) → f .0 < 3 * b .n → k < halves (b .w) → 3 * b .n ≤ r → r * b .w + wordOf k < length ws
+      → TellsTruth p (onHalf line f k Read (half k (getD ws (bufferWord (b .w) f (wordOf k)) 0))) b ws b (halfPut r k (getD ws (bufferWord (b .w) f (wordOf k)) 0))
+  read-tells line f k r h l m s =
+      let stays : (i : Item) → InBench b i → itemAt i b (halfPut r k (getD ws (bufferWord (b .w) f (wordOf k)) 0)) ≡ itemAt i b ws =
+      λ i g. half-others r k (getD ws (bufferWord (b .w) f (wordOf k)) 0) i g l s (λ f′ e z. behind i f′ e z g) in
+      record { item = (record { first = refl; second = refl }, stays (Half f k) (record { index = h; word = l })); others = λ i g _. stays i g }
+    where
+      behind : (i : Item) (f′ : BufferNumber) → i ≡ Half f′ k → f′ .0 ≡ r → InBench b i → ⊥
       behind i f′ e z g = omega (arith, subst (InBench b) e g .index)
 
-  -- a word is written to BUF
-  pub write-tells : (line : ℕ) (f : BufferNumber) (k v : ℕ) → k < b .w → bufferWord (b .w) f k < length ws → TellsTruth p (onWord line f k Write v) b ws b (set ws (bufferWord (b .w) f k) v)
-  write-tells line f k v h l = record {
-    item = ap wordHolding (getD-set-same ws (bufferWord (b .w) f k) v 0 l);
-    others = λ i g n. word-others (f .0) k v i g h (λ f′ e z. n (e ∙ ap (λ (j : ℕ). Word (record { 0 = j }) k) z));
+  -- a half of the word u is written to BUF
+  pub write-tells : (line : ℕ) (f : BufferNumber) (k u : ℕ) → k < halves (b .w) → bufferWord (b .w) f (wordOf k) < length ws → TellsTruth p (onHalf line f k Write (half k u)) b ws b (halfPut (f .0) k u)
+  write-tells line f k u h l = record {
+    item = ap halfHolding (ap (half k) (getD-set-same ws (bufferWord (b .w) f (wordOf k)) _ 0 l) ∙ half-set k u _);
+    others = λ i g n. half-others (f .0) k u i g h l (λ f′ e z. n (e ∙ ap (λ (j : ℕ). Half (record { 0 = j }) k) z));
   }

@@ -12,9 +12,9 @@ use Rattle.model.specs.declared.Bench.{Bench}
 use Rattle.model.specs.declared.Process.{Process}
 use Rattle.model.specs.Places.{linked}
 use Rattle.model.specs.Tables.{bankAt, helpAt, next, helped}
-use Rattle.model.specs.Words.{bufferWord, returnWord, offerWord}
+use Rattle.model.specs.Words.{bufferWord, returnWord, offerWord, wordOf, half}
 use Rattle.model.specs.Points.{Point, idle, line1, line2, line3, line4, line5, line6, line7, line7copy, line8, line9, line10, line11, line12, line12valid, line13, line14, line14valid, line15, line17, line18, line19, line23}
-use Rattle.access.specs.declared.Item.the-variants.{X, Bank, Help, Word}
+use Rattle.access.specs.declared.Item.the-variants.{X, Bank, Help, Half}
 use Rattle.access.specs.declared.Act.{Act}
 use Rattle.access.specs.declared.Act.the-variants.{Read, Write, Ll, Sc, Vl}
 use Rattle.access.specs.declared.Access.{Access}
@@ -29,8 +29,8 @@ onBank line i act v = record { line = line; item = Bank i; act = act; first = v 
 abbrev pub onHelp : ℕ → ProcessNumber → Act → HelpContent → Access
 onHelp line i act v = record { line = line; item = Help i; act = act; first = v .flag; second = v .buf .0 }
 
-abbrev pub onWord : ℕ → BufferNumber → ℕ → Act → ℕ → Access
-onWord line f k act v = record { line = line; item = Word f k; act = act; first = v; second = 0 }
+abbrev pub onHalf : ℕ → BufferNumber → ℕ → Act → ℕ → Access
+onHalf line f k act v = record { line = line; item = Half f k; act = act; first = v; second = 0 }
 
 -- VL(X): it names no values
 abbrev pub validX : ℕ → Bool → Access
@@ -48,13 +48,13 @@ llHelp line i b = onHelp line i Ll (helpAt b i .content)
 abbrev pub scHelp : ℕ → ProcessNumber → ProcessNumber → BufferNumber → Bench → Access
 scHelp line i p v b = onHelp line i (Sc (linked (helpAt b i .links) p)) (record { flag = 0; buf = v })
 
--- a word of BUF[f] is read, at the word place
-abbrev pub readWord : ℕ → BufferNumber → Bench → Process → List ℕ → Access
-readWord line f b q ws = onWord line f (q .word) Read (getD ws (bufferWord (b .w) f (q .word)) 0)
+-- a half word of BUF[f] is read, at the word place
+abbrev pub readHalf : ℕ → BufferNumber → Bench → Process → List ℕ → Access
+readHalf line f b q ws = onHalf line f (q .word) Read (half (q .word) (getD ws (bufferWord (b .w) f (wordOf (q .word))) 0))
 
--- the word at `from` is written to BUF[mybuf], at the word place
-abbrev pub writeWord : ℕ → ℕ → Process → List ℕ → Access
-writeWord line from q ws = onWord line (q .mybuf) (q .word) Write (getD ws from 0)
+-- a half of the word at `from` is written to BUF[mybuf], at the word place
+abbrev pub writeHalf : ℕ → ℕ → Process → List ℕ → Access
+writeHalf line from q ws = onHalf line (q .mybuf) (q .word) Write (half (q .word) (getD ws from 0))
 
 -- p is the process that steps, b the bench, q its record, ws the lent words.
 unfoldable pub accessOf : Point → ProcessNumber → Bench → Process → List ℕ → Access
@@ -64,25 +64,25 @@ accessOf idle p b q ws = validX 0 false
 accessOf line1 p b q ws = onHelp 1 p Write (record { flag = 1; buf = q .mybuf })
 -- Line 2: x = LL(X).
 accessOf line2 p b q ws = llX 2 b
--- Line 3: a word of BUF[x.buf].
-accessOf line3 p b q ws = readWord 3 (q .x .buf) b q ws
+-- Line 3: a half word of BUF[x.buf].
+accessOf line3 p b q ws = readHalf 3 (q .x .buf) b q ws
 -- Line 4: LL(Help[p]).
 accessOf line4 p b q ws = llHelp 4 p b
 -- Line 5: x = LL(X).
 accessOf line5 p b q ws = llX 5 b
--- Line 6: a word of BUF[x.buf].
-accessOf line6 p b q ws = readWord 6 (q .x .buf) b q ws
--- Line 7: VL(X), and then a word of BUF[b].
+-- Line 6: a half word of BUF[x.buf].
+accessOf line6 p b q ws = readHalf 6 (q .x .buf) b q ws
+-- Line 7: VL(X), and then a half word of BUF[b].
 accessOf line7 p b q ws = validX 7 (linked (b .x .links) p)
-accessOf line7copy p b q ws = readWord 7 (q .b) b q ws
+accessOf line7copy p b q ws = readHalf 7 (q .b) b q ws
 -- Line 8: LL(Help[p]).
 accessOf line8 p b q ws = llHelp 8 p b
 -- Line 9: SC(Help[p], (0, c)).
 accessOf line9 p b q ws = scHelp 9 p p (q .c) b
 -- Line 10: mybuf = Help[p].buf.
 accessOf line10 p b q ws = onHelp 10 p Read (helpAt b p .content)
--- Line 11: a word of the return area into BUF[mybuf].
-accessOf line11 p b q ws = writeWord 11 (returnWord (b .n) (b .w) p (q .word)) q ws
+-- Line 11: a half word of the return area into BUF[mybuf].
+accessOf line11 p b q ws = writeHalf 11 (returnWord (b .n) (b .w) p (wordOf (q .word))) q ws
 -- Line 12: LL(Bank[x.seq]), and then VL(X).
 accessOf line12 p b q ws = onBank 12 (q .x .seq) Ll (bankAt b (q .x .seq) .content)
 accessOf line12valid p b q ws = validX 12 (linked (b .x .links) p)
@@ -93,8 +93,8 @@ accessOf line14 p b q ws = llHelp 14 (helped (b .n) (q .x .seq)) b
 accessOf line14valid p b q ws = validX 14 (linked (b .x .links) p)
 -- Line 15: SC(Help[x.seq mod N], (0, mybuf)).
 accessOf line15 p b q ws = scHelp 15 (helped (b .n) (q .x .seq)) p (q .mybuf) b
--- Line 17: a word of the offer area into BUF[mybuf].
-accessOf line17 p b q ws = writeWord 17 (offerWord (b .n) (b .w) p (q .word)) q ws
+-- Line 17: a half word of the offer area into BUF[mybuf].
+accessOf line17 p b q ws = writeHalf 17 (offerWord (b .n) (b .w) p (wordOf (q .word))) q ws
 -- Line 18: e = Bank[(x.seq + 1) mod 2N].
 accessOf line18 p b q ws = onBank 18 (next (b .n) (q .x .seq)) Read (bankAt b (next (b .n) (q .x .seq)) .content)
 -- Line 19: SC(X, (mybuf, (x.seq + 1) mod 2N)).

@@ -1,14 +1,15 @@
 -- The lines of a trace as bytes. Each part but the entry number has the space before it.
-use Prim.Native.Nat.{ℕ}
+use Prim.Native.Nat.{ℕ, _%_}
 use Prim.Native.Char.{code}
 use Prim.Native.String.{String}
 use mathlib.Core.List.{List, [], _∷_, _++_}
 use mathlib.Core.Bool.{Bool, true, false, cond}
 use lib.Dec.{eqb}
+use Rattle.model.specs.Words.{wordOf}
 use Rattle.listing.specs.Decimal.{decimal}
 use Rattle.listing.specs.Lines.{letterS}
 use Rattle.access.specs.declared.Item.{Item}
-use Rattle.access.specs.declared.Item.the-variants.{X, Bank, Help, Word}
+use Rattle.access.specs.declared.Item.the-variants.{X, Bank, Help, Half}
 use Rattle.access.specs.declared.Act.{Act}
 use Rattle.access.specs.declared.Act.the-variants.{Read, Write, Ll, Sc, Vl}
 use Rattle.access.specs.declared.Access.{Access}
@@ -30,19 +31,27 @@ bracketed n = quoted "[" ++ (decimal n ++ quoted "]")
 unfoldable pub headText : ℕ → ℕ → List ℕ
 headText entry p = decimal entry ++ spaced p
 
--- `X`, `Bank[i]`, `Help[i]` or `BUF[b][k]`
+-- which half of its word a place is
+unfoldable pub halfText : ℕ → List ℕ
+halfText k = cond (eqb (k % 2) 0) (quoted " low") (quoted " high")
+
+-- a place of a buffer: its word, and which half
+unfoldable pub halfPlaceText : ℕ → List ℕ
+halfPlaceText k = bracketed (wordOf k) ++ halfText k
+
+-- `X`, `Bank[i]`, `Help[i]`, or `BUF[b][k] low` or `BUF[b][k] high` for a half of word k
 unfoldable pub itemText : Item → List ℕ
 itemText X = quoted " X"
 itemText (Bank i) = quoted " Bank" ++ bracketed (i .0)
 itemText (Help i) = quoted " Help" ++ bracketed (i .0)
-itemText (Word f k) = quoted " BUF" ++ (bracketed (f .0) ++ bracketed k)
+itemText (Half f k) = quoted " BUF" ++ (bracketed (f .0) ++ halfPlaceText k)
 
--- X holds a buffer and a sequence number, a place of Help a flag and a buffer number; a place of Bank and a word one number
+-- X holds a buffer and a sequence number, a place of Help a flag and a buffer number; a place of Bank and a half word one number
 unfoldable pub valuesText : Item → ℕ → ℕ → List ℕ
 valuesText X first second = spaced first ++ spaced second
 valuesText (Bank i) first second = spaced first
 valuesText (Help i) first second = spaced first ++ spaced second
-valuesText (Word f k) first second = spaced first
+valuesText (Half f k) first second = spaced first
 
 unfoldable pub truthText : Bool → List ℕ
 truthText true = quoted " true"
@@ -53,12 +62,12 @@ unfoldable pub storedText : Bool → List ℕ
 storedText true = quoted " true links cleared"
 storedText false = quoted " false"
 
--- a word has no links
+-- a half word has no links
 unfoldable pub writtenText : Item → List ℕ
 writtenText X = quoted " links cleared"
 writtenText (Bank i) = quoted " links cleared"
 writtenText (Help i) = quoted " links cleared"
-writtenText (Word f k) = []
+writtenText (Half f k) = []
 
 -- the act, with the values that it names
 unfoldable pub actText : Act → Item → ℕ → ℕ → List ℕ

@@ -11,12 +11,12 @@ pub mod on_x;
 pub mod texts;
 pub mod trace_lines;
 
-// The shared item that a step touches; of a word of BUF, the buffer and the word place.
+// The shared item that a step touches; of a half word of BUF, the buffer and the word place, which counts halves.
 pub enum Item {
     X,
     Bank(SequenceNumber),
     Help(ProcessNumber),
-    Word(BufferNumber, usize),
+    Half(BufferNumber, usize),
 }
 
 // What a step does to its item; an SC and a VL with the truth that they tell.
@@ -29,7 +29,7 @@ pub enum Act {
 }
 
 // An access: the line of Figure 2, the item, the act and the values read or written: two for X and a place of Help, one for a place of Bank
-// and a word, none for a VL. A value that there is not is 0.
+// and a half word, none for a VL. A value that there is not is 0.
 pub struct Access {
     pub line: u8,
     pub item: Item,

@@ -1,7 +1,7 @@
 // The parts of a trace line, each with the space before it.
 ghost use mathlib.Core.List.{_++_};
 ghost use Rattle.listing.specs.Writing.{Room, Wrote};
-ghost use Rattle.access.specs.TraceLines.{spaced, bracketed, headText, itemText, valuesText, truthText, storedText, writtenText, actText, endText, broughtText};
+ghost use Rattle.access.specs.TraceLines.{spaced, bracketed, headText, halfText, halfPlaceText, itemText, valuesText, truthText, storedText, writtenText, actText, endText, broughtText};
 use crate::Act;
 use crate::Item;
 
@@ -32,6 +32,26 @@ pub fn head(list: &mut [u8], at: usize, entry: u64, p: u64) -> usize
     spaced(list, a, p)
 }
 
+// Which half of its word a place is.
+fn half_name(list: &mut [u8], at: usize, k: usize) -> usize
+    requires { ⌜ Room (now list) at (halfText k) ⌝ }
+    ensures { λ r. ⌜ Wrote (now (list .entry)) at (halfText k) (now (list .exit)) r ⌝ }
+{
+    if k % 2 == 0 {
+        return listing::plain(list, at, b" low");
+    }
+    listing::plain(list, at, b" high")
+}
+
+// A place of a buffer: its word, and which half.
+fn half_place(list: &mut [u8], at: usize, k: usize) -> usize
+    requires { ⌜ Room (now list) at (halfPlaceText k) ⌝ }
+    ensures { λ r. ⌜ Wrote (now (list .entry)) at (halfPlaceText k) (now (list .exit)) r ⌝ }
+{
+    let a = bracketed(list, at, (k / 2) as u64);
+    half_name(list, a, k)
+}
+
 pub fn item(list: &mut [u8], at: usize, item: Item) -> usize
     requires { ⌜ Room (now list) at (itemText item) ⌝ }
     ensures { λ r. ⌜ Wrote (now (list .entry)) at (itemText item) (now (list .exit)) r ⌝ }
@@ -46,10 +66,10 @@ pub fn item(list: &mut [u8], at: usize, item: Item) -> usize
             let a = listing::plain(list, at, b" Help");
             bracketed(list, a, i.0 as u64)
         }
-        Item::Word(f, k) => {
+        Item::Half(f, k) => {
             let a = listing::plain(list, at, b" BUF");
             let b = bracketed(list, a, f.0 as u64);
-            bracketed(list, b, k as u64)
+            half_place(list, b, k)
         }
     }
 }
@@ -71,7 +91,7 @@ fn values(list: &mut [u8], at: usize, item: Item, first: u64, second: u64) -> us
         Item::X => pair(list, at, first, second),
         Item::Bank(_) => spaced(list, at, first),
         Item::Help(_) => pair(list, at, first, second),
-        Item::Word(_, _) => spaced(list, at, first),
+        Item::Half(_, _) => spaced(list, at, first),
     }
 }
 
@@ -105,7 +125,7 @@ fn written(list: &mut [u8], at: usize, item: Item) -> usize
         Item::X => listing::plain(list, at, b" links cleared"),
         Item::Bank(_) => listing::plain(list, at, b" links cleared"),
         Item::Help(_) => listing::plain(list, at, b" links cleared"),
-        Item::Word(_, _) => at,
+        Item::Half(_, _) => at,
     }
 }
 

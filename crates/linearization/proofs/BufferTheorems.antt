@@ -9,6 +9,8 @@ use native.Mathlib.Omega.{arith}
 use lib.Dec.{eqb}
 use lib.ListN.{length, getD}
 use borrow.Author.Tests.{eq-eqb, ne-eqb, lt-ltb, le-ltb}
+use Rattle.model.specs.Sizes.{halves}
+use Rattle.model.specs.Words.{wordOf, half}
 use Rattle.model.specs.Points.{Point, lineNumber, idle, line1, line2, line3, line4, line5, line6, line7, line7copy, line8, line9, line10, line11, line12, line12valid, line13, line14, line14valid, line15, line17, line18, line19, line23}
 use Rattle.model.specs.Refusals.{some}
 use Rattle.model.specs.Machine.{Memory, Shaped}
@@ -19,16 +21,16 @@ use Rattle.linearization.specs.Buffers
 use Rattle.linearization.specs.Buffers.{occurrences, asking, bufferWords, successes, lastWritten, EveryBufferOnce, WordsStay}
 use Rattle.linearization.proofs.Invariants.{lines}
 use Rattle.linearization.proofs.GhostMachine.{Local, State}
-use Rattle.linearization.proofs.WordLists.{tab, tab-ext}
+use Rattle.linearization.proofs.WordLists.{wordsOf, wordsOf-ext, cells}
 use Rattle.linearization.proofs.GhostRuns.{Cmd, callsF, setup}
 use Rattle.linearization.proofs.InvariantRuns.{execs, numberAfter}
 use Rattle.linearization.proofs.Ownership
 use Rattle.linearization.proofs.Ownership.{HeldOnce, held-once}
 use Rattle.linearization.proofs.Retention.{Grows, execs-grow, success-kept}
 use Rattle.linearization.proofs.Successes.{callsOf, all-wrote}
-use Rattle.linearization.proofs.ListFacts.{cut-tab, tab-whole, map-append}
+use Rattle.linearization.proofs.ListFacts.{cut-words, words-whole, map-append}
 use Rattle.linearization.proofs.Relation.{Related, recordOf}
-use Rattle.linearization.proofs.SetUpSimulation.{set-up-admits}
+use Rattle.linearization.proofs.SetUpSimulation.{set-up-admits, set-up-halves}
 use Rattle.linearization.proofs.Outcome.{toF}
 use Rattle.linearization.proofs.CommandRuns.{Holds, holds-along}
 use Rattle.linearization.proofs.DemandThree.{same-calls}
@@ -95,11 +97,11 @@ module _ (N W : ℕ) (m : Memory) (z : State) (r : Related N W m z) where
   kept-same i hi = rw (r .places .x .seq, r .places .x .buf, r .places .bank i hi .buf)
 
   -- the words of a buffer
-  words-same : (b : ℕ) → b < 3 * N → bufferWords m (record { 0 = b }) ≡ tab W (z .sh .buf b)
+  words-same : (b : ℕ) → b < 3 * N → bufferWords m (record { 0 = b }) ≡ wordsOf (halves W) (z .sh .buf b)
   words-same b hb =
       let y : suc b * W ≤ 5 * N * W = mul-le-mul-right W (omega arith) in let l = r .places .words .len in
-      rw (r .w) (cut-tab W (b * W + 0) (m .words) (omega arith)
-      ∙ tab-ext W _ _ (λ k hk. ap (λ i. getD (m .words) i 0) (let e : b * W + 0 + k ≡ b * W + k = omega arith in e) ∙ r .places .words .buf b k hb hk))
+      rw (r .w) (cut-words W (b * W + 0) (m .words) (omega arith)
+      ∙ wordsOf-ext (halves W) _ _ (λ k hk. ap (λ i. half k (getD (m .words) i 0)) (let e : b * W + 0 + wordOf k ≡ b * W + wordOf k = omega arith in e) ∙ r .places .words .buf b k hb hk))
 
 -- the place of a buffer number among the kept and the owned
 module _ (N W : ℕ) (m : Memory) (z : State) (r : Related N W m z) (b : ℕ) (once-held : HeldOnce N z b) where
@@ -134,8 +136,8 @@ module _ (N W : ℕ) (m : Memory) (z : State) (r : Related N W m z) (b : ℕ) (o
 
 pub every-buffer-once : EveryBufferOnce
 every-buffer-once m shaped n w value cs e b hb =
-    let hW = set-up-admits m n w value e .sizes .w-low in let h = holds-along m shaped n w value e hW cs in
-    found-once n w _ _ (h .related) b (held-once n w _ _ (h .inv) (h .range) b hb)
+    let hW = set-up-halves m n w value e in let h = holds-along m shaped n w value e hW cs in
+    found-once n w _ _ (h .related) b (held-once n (halves w) _ _ (h .inv) (h .range) b hb)
 
 -- a list in two parts
 execs-append : (N W n : ℕ) (cs ds : List Cmd) (s : State) → execs N W n (cs ++ ds) s ≡ execs N W (numberAfter n cs) ds (execs N W n cs s)
@@ -143,22 +145,22 @@ execs-append N W n [] ds s = refl
 execs-append N W n (c ∷ cs) ds s = execs-append N W (suc n) cs ds _
 
 module _ (m : Memory) (shaped : Shaped m) (n w : ℕ) (value : List ℕ) (e : setUp m n w value .0 ≡ 0) where
-  hW : 0 < w
-  hW = set-up-admits m n w value e .sizes .w-low
+  hW : 0 < halves w
+  hW = set-up-halves m n w value e
 
   abbrev begin : State
-  begin = setup n w (λ k. getD value k 0)
+  begin = setup n (halves w) (cells value)
 
   abbrev state : List Command → State
-  state cs = execs n w 1 (map (toF n w) cs) begin
+  state cs = execs n (halves w) 1 (map (toF n w) cs) begin
 
   -- the history tells the machine's successes and its present value
   successes-are : (cs : List Command) → successes (calls (events (setUp m n w value .1) cs)) ≡ state cs .sh .successes
-  successes-are cs = ap successes (same-calls m shaped n w value cs e) ∙ (let a = all-wrote n w 1 (map (toF n w) cs) begin .number in omega arith)
+  successes-are cs = ap successes (same-calls m shaped n w value cs e) ∙ (let a = all-wrote n (halves w) 1 (map (toF n w) cs) begin .number in omega arith)
 
-  value-is : (cs : List Command) → lastWritten value (calls (events (setUp m n w value .1) cs)) ≡ tab w (state cs .sh .values (state cs .sh .successes))
+  value-is : (cs : List Command) → lastWritten value (calls (events (setUp m n w value .1) cs)) ≡ wordsOf (halves w) (state cs .sh .values (state cs .sh .successes))
   value-is cs =
-      ap₂ lastWritten (sym (tab-whole w value (set-up-admits m n w value e .value-length))) (same-calls m shaped n w value cs e) ∙ all-wrote n w 1 (map (toF n w) cs) begin .words
+      ap₂ lastWritten (sym (words-whole w value (set-up-admits m n w value e .value-length))) (same-calls m shaped n w value cs e) ∙ all-wrote n (halves w) 1 (map (toF n w) cs) begin .words
 
   stays : (cs more : List Command) → successes (calls (events (setUp m n w value .1) (cs ++ more))) < successes (calls (events (setUp m n w value .1) cs)) + 2 * n
       → bufferWords (after (setUp m n w value .1) (cs ++ more)) (after (setUp m n w value .1) cs .bench .x .content .buf) ≡ lastWritten value (calls (events (setUp m n w value .1) cs))
@@ -166,11 +168,11 @@ module _ (m : Memory) (shaped : Shaped m) (n w : ℕ) (value : List ℕ) (e : se
       let a = holds-along m shaped n w value e hW cs in let b = holds-along m shaped n w value e hW (cs ++ more) in
       let s : State = state cs in let t : State = state (cs ++ more) in
       let low : s .sh .xbuf < 3 * n = a .range .all .xbuf in
-      let grows = subst (Grows s) (sym (ap (λ ds. execs n w 1 ds begin) (map-append (toF n w) cs more) ∙ execs-append n w 1 (map (toF n w) cs) (map (toF n w) more) begin)) (execs-grow n w _ (map (toF n w) more) s) in
+      let grows = subst (Grows s) (sym (ap (λ ds. execs n (halves w) 1 ds begin) (map-append (toF n w) cs more) ∙ execs-append n (halves w) 1 (map (toF n w) cs) (map (toF n w) more) begin)) (execs-grow n (halves w) _ (map (toF n w) more) s) in
       let x = successes-are cs in let y = successes-are (cs ++ more) in
       ap (λ k. bufferWords (after (setUp m n w value .1) (cs ++ more)) (record { 0 = k })) (a .related .places .x .buf)
       ∙ words-same n w _ t (b .related) (s .sh .xbuf) low
-      ∙ tab-ext w _ _ (λ k hk. ap (λ i. t .sh .buf i k) (a .inv .all .x-buf) ∙ success-kept n w _ s t (b .inv) grows (s .sh .successes) (omega arith) (omega arith) k hk)
+      ∙ wordsOf-ext (halves w) _ _ (λ k hk. ap (λ i. t .sh .buf i k) (a .inv .all .x-buf) ∙ success-kept n (halves w) _ s t (b .inv) grows (s .sh .successes) (omega arith) (omega arith) k hk)
       ∙ sym (value-is cs)
 
 pub words-stay : WordsStay

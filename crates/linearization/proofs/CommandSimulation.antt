@@ -15,6 +15,7 @@ use Rattle.model.specs.declared.Order.{Order}
 use Rattle.model.specs.declared.Order.the-variants.{StartLl, StartSc, StartVl, Step}
 use Rattle.model.specs.declared.Reply.the-variants.{Refused, Accepted}
 use Rattle.model.specs.declared.Moved.{Moved}
+use Rattle.model.specs.Sizes.{halves}
 use Rattle.model.specs.Points.{idle, line11}
 use Rattle.model.specs.Records.{recordAt, noProcess}
 use Rattle.model.specs.Machine
@@ -29,7 +30,7 @@ use Rattle.linearization.proofs.PointFacts
 use Rattle.linearization.proofs.Updates.{Split, same, other, split, by-test, contra}
 use Rattle.linearization.proofs.GhostMachine
 use Rattle.linearization.proofs.GhostMachine.{State}
-use Rattle.linearization.proofs.WordLists.{tab}
+use Rattle.linearization.proofs.WordLists.{wordsOf}
 use Rattle.linearization.proofs.GhostRuns
 use Rattle.linearization.proofs.GhostRuns.{LL}
 use Rattle.linearization.proofs.Ranges.{InRanges}
@@ -66,8 +67,8 @@ start-reply StartSc p v b q ws e = refl
 start-reply StartVl p v b q ws e = refl
 start-reply Step p v b q ws e = absurd (contra e refl)
 
-module _ (N W n : ℕ) (m : Memory) (z : State) (r : Related N W m z) (ok : InRanges N W z) (counts : (q : ℕ) → q < N → CountIn W (z .loc q))
-    (places : PInv N W z) where
+module _ (N W n : ℕ) (m : Memory) (z : State) (r : Related N W m z) (ok : InRanges N (halves W) z) (counts : (q : ℕ) → q < N → CountIn W (z .loc q))
+    (places : PInv N (halves W) z) where
   -- rows 1, 2, 3 and 9 do not hold
   refusal-late : (p : ℕ) (o : Order) (v : List ℕ) → refusal m p o v ≡ late (leb N p) o (Refusals.isIdle (recordAt (m .records) (record { 0 = p }))) (recordAt (m .records) (record { 0 = p }) .answered) (eqb (length v) W)
   unfolding refusal
@@ -96,7 +97,7 @@ module _ (N W n : ℕ) (m : Memory) (z : State) (r : Related N W m z) (ok : InRa
     unfolding command
     obeys e = ap (λ b. cond b (obeyed m me o v) (Refused (refusal m p o v), m)) (eq-eqb _ 0 e)
 
-    refused-case : (k : ℕ) → (k ≡ 0 → ⊥) → refusal m p o v ≡ k → GhostRuns.exec N W n (cmdOf N W p o v) z ≡ z → GhostRuns.callF N W n (cmdOf N W p o v) z ≡ [] → Followed N W n m z (record { process = p; order = o; value = v })
+    refused-case : (k : ℕ) → (k ≡ 0 → ⊥) → refusal m p o v ≡ k → GhostRuns.exec N (halves W) n (cmdOf N W p o v) z ≡ z → GhostRuns.callF N (halves W) n (cmdOf N W p o v) z ≡ [] → Followed N W n m z (record { process = p; order = o; value = v })
     refused-case k ne e x y = record {
       outcome = refusedWith k (record { not-0 = ne; number = e; leaves = refuses k ne e; said = ap (λ t. says (t .1) me (t .0)) (refuses k ne e); follows = x; silent = y });
       related = rw (refuses k ne e, x) r;
@@ -150,7 +151,7 @@ module _ (N W n : ℕ) (m : Memory) (z : State) (r : Related N W m z) (ok : InRa
         follows = exec-start N W n z p v hp o s i a e;
         said = ap (λ t. says (t .1) (record { 0 = p }) (t .0)) eq ∙ ap (says _ (record { 0 = p })) (start-reply o (record { 0 = p }) v bench (recordOf (z .loc p)) (m .words) s);
       });
-      related = rw (eq, exec-start N W n z p v hp o s i a e) (join _ _ (follow-start N W (m .bench .x) (m .bench .bank) (m .bench .help) (m .words) p n z hp (r .places) (ok .each p hp) o v n (idle-word N W z p hp places (PointFacts.idle-is (z .loc p .point) i)) s e));
+      related = rw (eq, exec-start N W n z p v hp o s i a e) (join _ _ (follow-start N W (m .bench .x) (m .bench .bank) (m .bench .help) (m .words) p n z hp (r .places) (ok .each p hp) o v n (idle-word N (halves W) z p hp places (PointFacts.idle-is (z .loc p .point) i)) s e));
     }
       where
         eq : command m p o v ≡ putBack m (record { 0 = p }) (obey o (record { 0 = p }) v bench (recordOf (z .loc p)) (m .words))
@@ -165,7 +166,7 @@ module _ (N W n : ℕ) (m : Memory) (z : State) (r : Related N W m z) (ok : InRa
         busy = b;
         number = k;
         follows = exec-step N W n z p v hp;
-        said = ap (λ t. says (t .1) (record { 0 = p }) (t .0)) eq ∙ says-at N W (m .bench .x) (m .bench .bank) (m .bench .help) (m .words) p z hp (r .places) m′ (z .loc p .point) (λ e _. return-area N W m′ z′ p hp after ∙ ap (tab W) (area e));
+        said = ap (λ t. says (t .1) (record { 0 = p }) (t .0)) eq ∙ says-at N W (m .bench .x) (m .bench .bank) (m .bench .help) (m .words) p z hp (r .places) m′ (z .loc p .point) (λ e _. return-area N W m′ z′ p hp after ∙ ap (wordsOf (halves W)) (area e));
       });
       related = rw (eq, exec-step N W n z p v hp) after;
     }
@@ -177,7 +178,7 @@ module _ (N W n : ℕ) (m : Memory) (z : State) (r : Related N W m z) (ok : InRa
         m′ = putBack m (record { 0 = p }) made .1
 
         z′ : State
-        z′ = GhostMachine.stepAt N W (z .loc p .point) n p z
+        z′ = GhostMachine.stepAt N (halves W) (z .loc p .point) n p z
 
         eq : command m p Step v ≡ putBack m (record { 0 = p }) made
         eq = obeys p Step v k ∙ ap (putBack m (record { 0 = p })) (obey-is Step v ∙ step-is v)
@@ -186,7 +187,7 @@ module _ (N W n : ℕ) (m : Memory) (z : State) (r : Related N W m z) (ok : InRa
         after = join made z′ (follow N W (m .bench .x) (m .bench .bank) (m .bench .help) (m .words) p n z hp (r .places) (ok .each p hp) (z .loc p .point) refl)
 
         area : z .loc p .point ≡ line11 → z′ .loc p .returned ≡ z .loc p .returned
-        area e = ap (λ y. GhostMachine.stepAt N W y n p z .loc p .returned) e ∙ return-stays N W n p z
+        area e = ap (λ y. GhostMachine.stepAt N (halves W) y n p z .loc p .returned) e ∙ return-stays N (halves W) n p z
 
     -- by the order, and whether the process is idle, has an answered LL, and the value has W words
     by-order : (o : Order) (v : List ℕ) (i a l : Bool) → PointFacts.isIdle (z .loc p .point) ≡ i → z .loc p .answered ≡ a → eqb (length v) W ≡ l → refusal m p o v ≡ late false o i a l → Followed N W n m z (record { process = p; order = o; value = v })

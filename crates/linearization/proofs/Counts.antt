@@ -10,6 +10,7 @@ use borrow.Author.Tests.{ltb-false}
 use Rattle.linearization.proofs.PointFacts.{moving}
 use Rattle.linearization.proofs.Updates.{upd, upd-same, upd-other, Split, same, other, split, by-test, contra}
 use Rattle.linearization.proofs.GhostMachine.{Local, Shared, State, quiet, noisy, word, step, stepAt, to, setLinkHelp, setLinkBank, setLinkX, setReturned}
+use Rattle.model.specs.Sizes.{halves, busyMost}
 use Rattle.model.specs.Points.{Point, idle, line1, line2, line3, line4, line5, line6, line7, line7copy, line8, line9, line10, line11, line12, line12valid, line13, line14, line14valid, line15, line17, line18, line19, line23}
 use Rattle.model.specs.Object.{Kind, ll, sc, vl}
 use Rattle.model.specs.Linearizable.{OwnSteps, largest}
@@ -234,39 +235,43 @@ below-limit W line18 k c hW w a = omega arith
 below-limit W line19 k c hW w a = omega arith
 below-limit W line23 k c hW w a = omega arith
 
-limit-largest : (W : ℕ) (kind : Kind) (y : Point) → inCall kind y ≡ true → limit W y ≡ largest W kind
-limit-largest W ll y e = rw (apart 0 11 14 22 y (lit≤ tt) e, apart 0 11 13 13 y (lit≤ tt) e)
-limit-largest W (sc offered) y e = rw e
-limit-largest W vl y e = rw (apart 13 13 14 22 y (lit≤ tt) e, e)
+limit-largest : (w : ℕ) (kind : Kind) (y : Point) → inCall kind y ≡ true → limit (halves w) y ≡ largest w kind
+limit-largest w ll y e = rw (apart 0 11 14 22 y (lit≤ tt) e, apart 0 11 13 13 y (lit≤ tt) e) (omega arith)
+limit-largest w (sc offered) y e = rw e
+limit-largest w vl y e = rw (apart 13 13 14 22 y (lit≤ tt) e, e)
 
 limit-most : (W : ℕ) (y : Point) → 0 < W → limit W y ≤ 4 * W + 7
 limit-most W y hW = by-test (_≤ 4 * W + 7) (lines 14 22 y) (λ _. omega arith) (λ _. by-test (_≤ 4 * W + 7) (lines 13 13 y) (λ _. omega arith) (λ _. omega arith))
 
 -- the last word of an LL
-ten-answer : (W c b : ℕ) → AtTen W b → c ≡ b + W → OwnSteps W ll (c + 1)
-ten-answer W c b (inl e) a = inl (omega arith)
-ten-answer W c b (inr (inl e)) a = inr (inl (omega arith))
-ten-answer W c b (inr (inr (inl e))) a = inr (inr (inl (omega arith)))
-ten-answer W c b (inr (inr (inr e))) a = inr (inr (inr (omega arith)))
+ten-answer : (w c b : ℕ) → AtTen (halves w) b → c ≡ b + halves w → OwnSteps w ll (c + 1)
+ten-answer w c b (inl e) a = inl (omega arith)
+ten-answer w c b (inr (inl e)) a = inr (inl (omega arith))
+ten-answer w c b (inr (inr (inl e))) a = inr (inr (inl (omega arith)))
+ten-answer w c b (inr (inr (inr e))) a = inr (inr (inr (omega arith)))
 
-module _ (N W : ℕ) (hW : 0 < W) where
+-- w words are 2w cells
+module _ (N w : ℕ) (hW : 0 < halves w) where
+  abbrev W : ℕ
+  W = halves w
+
   -- "open calls have fewer than their kind's largest"
-  pub open-count : (kind : Kind) (n : ℕ) (y : Point) (h : Shared) (q : ℕ) (l : Local) → inCall kind y ≡ true → ProcessClauses N W n y h q l → ProcessCount N W hW y (h .flag q) l → l .count < largest W kind
-  open-count kind n y h q l e m c = rw (limit-largest W kind y e) at (below-limit W y (l .word) (l .count) hW (m .in-run) (c .count))
+  pub open-count : (kind : Kind) (n : ℕ) (y : Point) (h : Shared) (q : ℕ) (l : Local) → inCall kind y ≡ true → ProcessClauses N W n y h q l → ProcessCount N W hW y (h .flag q) l → l .count < largest w kind
+  open-count kind n y h q l e m c = rw (limit-largest w kind y e) at (below-limit W y (l .word) (l .count) hW (m .in-run) (c .count))
 
-  -- so a busy count is at most 4W + 6, and an idle one is 0
-  pub busy-count : (n : ℕ) (y : Point) (h : Shared) (q : ℕ) (l : Local) → ProcessClauses N W n y h q l → ProcessCount N W hW y (h .flag q) l → l .count ≤ 4 * W + 6
+  -- so a busy count is at most 8w + 6, and an idle one is 0
+  pub busy-count : (n : ℕ) (y : Point) (h : Shared) (q : ℕ) (l : Local) → ProcessClauses N W n y h q l → ProcessCount N W hW y (h .flag q) l → l .count ≤ busyMost w
   busy-count n y h q l m c = let a = below-limit W y (l .word) (l .count) hW (m .in-run) (c .count) in let b = limit-most W y hW in omega arith
 
   pub idle-count : (f : Bool) (l : Local) → ProcessCount N W hW idle f l → l .count ≡ 0
   idle-count f l c = c .count
 
   -- the counts of the three answers
-  pub ll-answer : (n : ℕ) (h : Shared) (q : ℕ) (l : Local) → W ≤ suc (l .word) → ProcessClauses N W n line11 h q l → ProcessCount N W hW line11 (h .flag q) l → OwnSteps W ll (l .count + 1)
-  ll-answer n h q l last m c = let a = c .count in let k = m .in-run in ten-answer W (l .count) (a .0) (a .1) (omega arith)
+  pub ll-answer : (n : ℕ) (h : Shared) (q : ℕ) (l : Local) → W ≤ suc (l .word) → ProcessClauses N W n line11 h q l → ProcessCount N W hW line11 (h .flag q) l → OwnSteps w ll (l .count + 1)
+  ll-answer n h q l last m c = let a = c .count in let k = m .in-run in ten-answer w (l .count) (a .0) (a .1) (omega arith)
 
-  pub sc-answer : (offered : List ℕ) (f : Bool) (l : Local) → ProcessCount N W hW line19 f l → OwnSteps W (sc offered) (l .count + 1)
+  pub sc-answer : (offered : List ℕ) (f : Bool) (l : Local) → ProcessCount N W hW line19 f l → OwnSteps w (sc offered) (l .count + 1)
   sc-answer offered f l c = let a = c .count in omega arith
 
-  pub vl-answer : (f : Bool) (l : Local) → ProcessCount N W hW line23 f l → OwnSteps W vl (l .count + 1)
+  pub vl-answer : (f : Bool) (l : Local) → ProcessCount N W hW line23 f l → OwnSteps w vl (l .count + 1)
   vl-answer f l c = let a = c .count in omega arith

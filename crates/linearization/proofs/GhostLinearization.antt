@@ -5,7 +5,7 @@ use lib.ListN.{length}
 use Rattle.model.specs.Object.{fresh}
 use Rattle.model.specs.Linearizable.{All, Timed, sortInto, Linearization}
 use Rattle.linearization.proofs.GhostMachine.{State}
-use Rattle.linearization.proofs.WordLists.{tab}
+use Rattle.linearization.proofs.WordLists.{wordsOf}
 use Rattle.linearization.proofs.Serving.{Served}
 use Rattle.linearization.proofs.Sorting.{Sorted, all-append, sortInto-append}
 use Rattle.linearization.proofs.Moments.{Within, moments}
@@ -36,13 +36,13 @@ module _ (N W : ℕ) where
       all-append Within (callF N W n c s) (callsF N W (suc n) cs (exec N W n c s)) (exec-within N W hW v0 n s log g c)
       (run-within hW v0 (suc n) cs (exec N W n c s) (sortInto (callF N W n c s) log) (exec-good N W hW v0 n s log g c))
 
-  pub linearizable : 0 < N → 0 < W → (v : ℕ → ℕ) (cs : List Cmd) → Linearized (tab W v) (callsF N W 1 cs (setup N W v))
+  pub linearizable : 0 < N → 0 < W → (v : ℕ → ℕ) (cs : List Cmd) → Linearized (wordsOf W v) (callsF N W 1 cs (setup N W v))
   linearizable hN hW v cs =
       let g = setup-good N W v hN in
-      let r = run-sorted hW (tab W v) 1 cs (setup N W v) [] g in
-      record { sorted = r .0; served = r .1; within = run-within hW (tab W v) 1 cs (setup N W v) [] g }
+      let r = run-sorted hW (wordsOf W v) 1 cs (setup N W v) [] g in
+      record { sorted = r .0; served = r .1; within = run-within hW (wordsOf W v) 1 cs (setup N W v) [] g }
 
   -- THE THEOREM: with moments, as demand 3 states it
   pub linearization : 0 < N → 0 < W → (v : ℕ → ℕ) (cs : List Cmd) (places : ℕ) → length (callsF N W 1 cs (setup N W v)) ≤ places
-      → Linearization places (tab W v) (map (λ (t : Timed). t .call) (callsF N W 1 cs (setup N W v)))
-  linearization hN hW v cs places h = let z = linearizable hN hW v cs in moments (tab W v) (callsF N W 1 cs (setup N W v)) (z .served) (z .within) places h
+      → Linearization places (wordsOf W v) (map (λ (t : Timed). t .call) (callsF N W 1 cs (setup N W v)))
+  linearization hN hW v cs places h = let z = linearizable hN hW v cs in moments (wordsOf W v) (callsF N W 1 cs (setup N W v)) (z .served) (z .within) places h

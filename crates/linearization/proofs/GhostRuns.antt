@@ -10,7 +10,7 @@ use Rattle.model.specs.Object.{ll, sc, vl}
 use Rattle.model.specs.Linearizable.{Timed}
 use Rattle.linearization.proofs.PointFacts.{isIdle}
 use Rattle.linearization.proofs.GhostMachine.{Local, Shared, State, noisy, step, wStart, begin}
-use Rattle.linearization.proofs.WordLists.{tab}
+use Rattle.linearization.proofs.WordLists.{wordsOf}
 
 -- a start of LL, of VL, a step, and a start of SC with its words
 pub data Cmd : Type 0 where
@@ -30,10 +30,10 @@ module _ (N W : ℕ) where
 
   -- the answered calls of p, each with the number of the command at which it takes effect
   abbrev pub llCall : ℕ → ℕ → State → Timed
-  llCall n p s = record { call = record { process = p; kind = ll; start = s .sh .start p; end = n; steps = s .loc p .count + 1; answer = llWords (tab W (s .loc p .returned)); count = s .loc p .count + 1 }; moment = s .loc p .moment }
+  llCall n p s = record { call = record { process = p; kind = ll; start = s .sh .start p; end = n; steps = s .loc p .count + 1; answer = llWords (wordsOf W (s .loc p .returned)); count = s .loc p .count + 1 }; moment = s .loc p .moment }
 
   abbrev pub scCall : ℕ → ℕ → State → Timed
-  scCall n p s = record { call = record { process = p; kind = sc (tab W (s .loc p .offered)); start = s .sh .start p; end = n; steps = s .loc p .count + 1; answer = scTruth (s .loc p .linkX); count = s .loc p .count + 1 }; moment = n }
+  scCall n p s = record { call = record { process = p; kind = sc (wordsOf W (s .loc p .offered)); start = s .sh .start p; end = n; steps = s .loc p .count + 1; answer = scTruth (s .loc p .linkX); count = s .loc p .count + 1 }; moment = n }
 
   abbrev pub vlCall : ℕ → ℕ → State → Timed
   vlCall n p s = record { call = record { process = p; kind = vl; start = s .sh .start p; end = n; steps = s .loc p .count + 1; answer = vlTruth (s .loc p .linkX); count = s .loc p .count + 1 }; moment = n }

@@ -9,7 +9,7 @@ use lib.Dec.{eqb}
 use Rattle.model.specs.Points.{idle}
 use Rattle.linearization.proofs.Updates.{ifb-eq, ifb-ne, Split, same, other, split, contra}
 use Rattle.linearization.proofs.Invariants.{ProcessClauses, SharedClauses, Invariant, SamePart}
-use Rattle.linearization.proofs.WordLists.{tab}
+use Rattle.linearization.proofs.WordLists.{wordsOf}
 use Rattle.linearization.proofs.GhostRuns.{Cmd, loc0, sh0, setup}
 use Rattle.linearization.proofs.InvariantRuns.{numberAfter, execs, execs-inv}
 use Rattle.linearization.proofs.GhostLog.{Good, LoggedAt}
@@ -42,13 +42,13 @@ module _ (N W : ℕ) (v : ℕ → ℕ) where
       let d : false ≡ true → SamePart (sh0 N W v .buf (2 * N + q)) v W = λ x. absurd (no x) in
       search arith
 
-  empty : LoggedAt N W (tab W v) 1 (setup N W v) []
+  empty : LoggedAt N W (wordsOf W v) 1 (setup N W v) []
   empty = record { sorted = tt; served = tt; link = λ q. refl; words = refl; count = refl; old = λ m i a b c d. (refl, omega arith); top = tt }
 
   pub setup-inv : 0 < N → Invariant N W 1 (setup N W v)
   setup-inv hN = record { all = all; each = λ q hq. each q }
 
-  pub setup-good : 0 < N → Good N W (tab W v) 1 (setup N W v) []
+  pub setup-good : 0 < N → Good N W (wordsOf W v) 1 (setup N W v) []
   setup-good hN = record { inv = setup-inv hN; logged = empty }
 
 pub run-inv : (N W : ℕ) → 0 < N → 0 < W → (v : ℕ → ℕ) (cs : List Cmd) → Invariant N W (numberAfter 1 cs) (execs N W 1 cs (setup N W v))

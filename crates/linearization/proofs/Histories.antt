@@ -6,9 +6,10 @@ use Prim.Native.Nat.{ℕ, suc, _+_, _≤_, _<_}
 use native.Mathlib.Omega.{arith}
 use native.Mathlib.Numerals.{add-one}
 use lib.Dec.{ltb, eqb}
-use lib.ListN.{length, getD}
+use lib.ListN.{length}
 use Rattle.model.specs.declared.Order.{Order}
 use Rattle.model.specs.declared.Order.the-variants.{StartLl, StartSc, StartVl, Step}
+use Rattle.model.specs.Sizes.{halves}
 use Rattle.model.specs.Points.{Point, idle, line1, line2, line3, line4, line5, line6, line7, line7copy, line8, line9, line10, line11, line12, line12valid, line13, line14, line14valid, line15, line17, line18, line19, line23}
 use Rattle.model.specs.Machine.{Memory}
 use Rattle.model.specs.Command.{command}
@@ -20,11 +21,11 @@ use Rattle.model.specs.Linearizable.{Timed}
 use Rattle.linearization.proofs.Updates.{Split, same, other, split, contra, ifb-eq, ifb-ne, by-test₂}
 use Rattle.linearization.proofs.GhostMachine
 use Rattle.linearization.proofs.GhostMachine.{Local, State}
-use Rattle.linearization.proofs.WordLists.{tab}
+use Rattle.linearization.proofs.WordLists.{wordsOf, cells}
 use Rattle.linearization.proofs.GhostRuns.{exec, callAt, callF, callsF}
 use Rattle.linearization.proofs.InvariantRuns.{execs}
 use Rattle.linearization.proofs.Slots.{slotOf, slotIn, slotAfterStep, SlotStep, slot-step, slot-start}
-use Rattle.linearization.proofs.ListFacts.{tab-whole, map-append}
+use Rattle.linearization.proofs.ListFacts.{words-whole, map-append}
 use Rattle.linearization.proofs.Simulation.{begun}
 use Rattle.linearization.proofs.ReplySimulation.{saidAt}
 use Rattle.linearization.proofs.Outcome.{cmdOf, toF, Outcome, refusedWith, started, stepped as stepped-case, IsRefused, IsStarted, IsStepped}
@@ -71,7 +72,7 @@ module _ (N W n : ℕ) (c : Command) (z : State) where
   abbrev p : ℕ
   p = c .process
 
-  step-call : (y : Point) → callOf n c (saidAt W y (z .loc p)) (slotOf y (z .sh .start p) (z .loc p .count) (tab W (z .loc p .offered))) ≡ map (λ (t : Timed). t .call) (callAt N W y n p z)
+  step-call : (y : Point) → callOf n c (saidAt W y (z .loc p)) (slotOf y (z .sh .start p) (z .loc p .count) (wordsOf W (z .loc p .offered))) ≡ map (λ (t : Timed). t .call) (callAt N W y n p z)
   step-call idle = refl
   step-call line1 = refl
   step-call line2 = refl
@@ -114,56 +115,56 @@ slots-kept N W p slots z a = record { inside = λ q hq. here q (split q p) ∙ a
 
 -- a start opens the call that the command orders
 started-slot : (W n : ℕ) (o : Order) (v : List ℕ) (s : Slot) (p : ℕ) (z : State) → isStart o ≡ true → (bringsValue o ≡ true → length v ≡ W)
-    → SlotStep W p (ordered o n v s) z (GhostMachine.noisy z p (GhostMachine.wStart p n (z .sh)) (λ l. l) (begun o v (z .loc p)))
-started-slot W n StartLl v s p z e b = slot-start W p n line1 _ z
-started-slot W n StartVl v s p z e b = slot-start W p n line23 _ z
+    → SlotStep (halves W) p (ordered o n v s) z (GhostMachine.noisy z p (GhostMachine.wStart p n (z .sh)) (λ l. l) (begun o v (z .loc p)))
+started-slot W n StartLl v s p z e b = slot-start (halves W) p n line1 _ z
+started-slot W n StartVl v s p z e b = slot-start (halves W) p n line23 _ z
 started-slot W n StartSc v s p z e b =
-    subst (λ w. SlotStep W p (running (sc w) n 0) z (GhostMachine.noisy z p (GhostMachine.wStart p n (z .sh)) (λ l. l) (begun StartSc v (z .loc p)))) (tab-whole W v (b refl)) (slot-start W p n line12 (λ k. getD v k 0) z)
+    subst (λ w. SlotStep (halves W) p (running (sc w) n 0) z (GhostMachine.noisy z p (GhostMachine.wStart p n (z .sh)) (λ l. l) (begun StartSc v (z .loc p)))) (words-whole W v (b refl)) (slot-start (halves W) p n line12 (cells v) z)
 started-slot W n Step v s p z e b = absurd (contra e refl)
 
-module _ (N W : ℕ) (hW : 0 < W) where
+module _ (N W : ℕ) (hW : 0 < halves W) where
   -- one command: the calls that it answers, and the open calls after it
   pub record Matched (n : ℕ) (m : Memory) (z : State) (slots : ℕ → Slot) (c : Command) : Type 0 where
-    pub call : callOf n c (eventOf m c .said) (slots (c .process)) ≡ map (λ (t : Timed). t .call) (callF N W n (toF N W c) z)
-    pub open-calls : SlotsLike N W (slotsAfter n (eventOf m c) slots) (exec N W n (toF N W c) z)
+    pub call : callOf n c (eventOf m c .said) (slots (c .process)) ≡ map (λ (t : Timed). t .call) (callF N (halves W) n (toF N W c) z)
+    pub open-calls : SlotsLike N (halves W) (slotsAfter n (eventOf m c) slots) (exec N (halves W) n (toF N W c) z)
 
-  module _ (n : ℕ) (m : Memory) (z : State) (slots : ℕ → Slot) (h : Holds N W hW n m z) (a : SlotsLike N W slots z) (c : Command) where
+  module _ (n : ℕ) (m : Memory) (z : State) (slots : ℕ → Slot) (h : Holds N W hW n m z) (a : SlotsLike N (halves W) slots z) (c : Command) where
     matched-case : Outcome N W n m z c → Matched n m z slots c
     matched-case (refusedWith k r) = record {
       call = ap (λ t. callOf n c t (slots (c .process))) (r .said) ∙ sym (ap (map (λ (t : Timed). t .call)) (r .silent));
-      open-calls = rw (r .said, r .follows) (slots-kept N W (c .process) slots z a);
+      open-calls = rw (r .said, r .follows) (slots-kept N (halves W) (c .process) slots z a);
     }
     matched-case (started r) = record {
       call = ap (λ t. callOf n c t (slots (c .process))) (r .said) ∙ sym (ap (map (λ (t : Timed). t .call)) (silent-start N W n z (c .process) (c .value) (c .order) (r .start)));
-      open-calls = rw (r .said, r .follows) (slots-after N W (c .process) (r .below) slots z _ _ a (started-slot W n (c .order) (c .value) (slots (c .process)) (c .process) z (r .start) (r .value)));
+      open-calls = rw (r .said, r .follows) (slots-after N (halves W) (c .process) (r .below) slots z _ _ a (started-slot W n (c .order) (c .value) (slots (c .process)) (c .process) z (r .start) (r .value)));
     }
     matched-case (stepped-case r) = record {
-      call = ap₂ (callOf n c) (r .said) (a .inside (c .process) (r .below)) ∙ step-call N W n c z (z .loc (c .process) .point) ∙ sym (ap (map (λ (t : Timed). t .call)) answers);
+      call = ap₂ (callOf n c) (r .said) (a .inside (c .process) (r .below)) ∙ step-call N (halves W) n c z (z .loc (c .process) .point) ∙ sym (ap (map (λ (t : Timed). t .call)) answers);
       open-calls = rw (r .said, a .inside (c .process) (r .below), r .follows)
-          (slots-after N W (c .process) (r .below) slots z _ _ a (subst (λ s. SlotStep W (c .process) s z (GhostMachine.step N W n (c .process) z))
-          (sym (step-slot W n c (r .step) (z .sh .start (c .process)) (tab W (z .loc (c .process) .offered)) (z .loc (c .process)) (z .loc (c .process) .point))) (slot-step N W (c .process) n z)));
+          (slots-after N (halves W) (c .process) (r .below) slots z _ _ a (subst (λ s. SlotStep (halves W) (c .process) s z (GhostMachine.step N (halves W) n (c .process) z))
+          (sym (step-slot (halves W) n c (r .step) (z .sh .start (c .process)) (wordsOf (halves W) (z .loc (c .process) .offered)) (z .loc (c .process)) (z .loc (c .process) .point))) (slot-step N (halves W) (c .process) n z)));
     }
       where
-        answers : callF N W n (toF N W c) z ≡ callAt N W (z .loc (c .process) .point) n (c .process) z
-        answers = ap (λ o. callF N W n (cmdOf N W (c .process) o (c .value)) z) (r .step) ∙ answers-step N W n z (c .process) (c .value) (r .below)
+        answers : callF N (halves W) n (toF N W c) z ≡ callAt N (halves W) (z .loc (c .process) .point) n (c .process) z
+        answers = ap (λ o. callF N (halves W) n (cmdOf N W (c .process) o (c .value)) z) (r .step) ∙ answers-step N W n z (c .process) (c .value) (r .below)
 
     matched : Matched n m z slots c
     matched = matched-case (next-command N W hW n m z h c .outcome)
 
   -- a list of commands
-  pub calls-match : (cs : List Command) (n : ℕ) (m : Memory) (z : State) (slots : ℕ → Slot) → Holds N W hW n m z → SlotsLike N W slots z
-      → callsFrom n (events m cs) slots ≡ map (λ (t : Timed). t .call) (callsF N W n (map (toF N W) cs) z)
+  pub calls-match : (cs : List Command) (n : ℕ) (m : Memory) (z : State) (slots : ℕ → Slot) → Holds N W hW n m z → SlotsLike N (halves W) slots z
+      → callsFrom n (events m cs) slots ≡ map (λ (t : Timed). t .call) (callsF N (halves W) n (map (toF N W) cs) z)
   unfolding events callsFrom callsF
   calls-match [] n m z slots h a = refl
   calls-match (c ∷ cs) n m z slots h a =
       let k = matched n m z slots h a c in
       ap₂ _++_ (k .call) (rw (add-one n) (calls-match cs (suc n) _ _ _ (holds-after N W hW n m z h c) (k .open-calls)))
-      ∙ sym (map-append (λ (t : Timed). t .call) (callF N W n (toF N W c) z) (callsF N W (suc n) (map (toF N W) cs) (exec N W n (toF N W c) z)))
+      ∙ sym (map-append (λ (t : Timed). t .call) (callF N (halves W) n (toF N W c) z) (callsF N (halves W) (suc n) (map (toF N W) cs) (exec N (halves W) n (toF N W c) z)))
 
-  pub slots-match : (cs : List Command) (n : ℕ) (m : Memory) (z : State) (slots : ℕ → Slot) → Holds N W hW n m z → SlotsLike N W slots z
-      → SlotsLike N W (slotsFrom n (events m cs) slots) (execs N W n (map (toF N W) cs) z)
+  pub slots-match : (cs : List Command) (n : ℕ) (m : Memory) (z : State) (slots : ℕ → Slot) → Holds N W hW n m z → SlotsLike N (halves W) slots z
+      → SlotsLike N (halves W) (slotsFrom n (events m cs) slots) (execs N (halves W) n (map (toF N W) cs) z)
   unfolding events slotsFrom
   slots-match [] n m z slots h a = a
   slots-match (c ∷ cs) n m z slots h a =
-      subst (λ k. SlotsLike N W (slotsFrom k (events (command m (c .process) (c .order) (c .value) .1) cs) (slotsAfter n (eventOf m c) slots)) (execs N W n (map (toF N W) (c ∷ cs)) z)) (sym (add-one n))
+      subst (λ k. SlotsLike N (halves W) (slotsFrom k (events (command m (c .process) (c .order) (c .value) .1) cs) (slotsAfter n (eventOf m c) slots)) (execs N (halves W) n (map (toF N W) (c ∷ cs)) z)) (sym (add-one n))
       (slots-match cs (suc n) _ _ _ (holds-after N W hW n m z h c) (matched n m z slots h a c .open-calls))

@@ -10,6 +10,7 @@ use lib.Seq.{length-take-le, getD-take}
 use Rattle.model.specs.declared.XPlace.{XPlace}
 use Rattle.model.specs.declared.BankPlace.{BankPlace}
 use Rattle.model.specs.declared.HelpPlace.{HelpPlace}
+use Rattle.model.specs.Sizes.{halves, busyMost}
 use Rattle.model.specs.Tables.{noBank, noHelp}
 use Rattle.model.specs.Records.{noProcess}
 use Rattle.model.specs.Points.{idle}
@@ -24,15 +25,15 @@ use Rattle.linearization.proofs.ListFacts.{every-true}
 use Rattle.linearization.proofs.PointFacts.{line-ok}
 use Rattle.linearization.proofs.Relation.{recordOf, LinksLike, XLike, BankLike, HelpLike, Related}
 
--- "a busy count above 4W+6, an idle count above 0" does not occur
+-- "a busy count above 8W+6, an idle count above 0" does not occur
 pub record CountIn (W : ℕ) (f : Local) : Type 0 where
-  pub busy : f .count ≤ 4 * W + 6
+  pub busy : f .count ≤ busyMost W
   pub idle : isIdle (f .point) ≡ true → f .count ≡ 0
 
-pub counts-in : (N W : ℕ) (hW : 0 < W) (n : ℕ) (z : State) → Invariant N W n z → AllCounts N W hW z → (q : ℕ) → q < N → CountIn W (z .loc q)
+pub counts-in : (N W : ℕ) (hW : 0 < halves W) (n : ℕ) (z : State) → Invariant N (halves W) n z → AllCounts N (halves W) hW z → (q : ℕ) → q < N → CountIn W (z .loc q)
 counts-in N W hW n z i c q hq = record {
   busy = busy-count N W hW n (z .loc q .point) (z .sh) q (z .loc q) (i .each q hq) (c .each q hq);
-  idle = λ e. idle-count N W hW (z .sh .flag q) (z .loc q) (subst (λ y. ProcessCount N W hW y (z .sh .flag q) (z .loc q)) (idle-is (z .loc q .point) e) (c .each q hq));
+  idle = λ e. idle-count N W hW (z .sh .flag q) (z .loc q) (subst (λ y. ProcessCount N (halves W) hW y (z .sh .flag q) (z .loc q)) (idle-is (z .loc q .point) e) (c .each q hq));
 }
 
 below : (a b c : ℕ) → a ≡ b → b < c → ltb a c ≡ true
@@ -59,16 +60,16 @@ module _ (N W : ℕ) where
   count-ok : (f : Local) → CountIn W f → countOk W (recordOf f) ≡ true
   count-ok f c = go (isIdle (f .point)) refl
     where
-      go : (b : Bool) → isIdle (f .point) ≡ b → leb (f .count) (cond b 0 (4 * W + 6)) ≡ true
+      go : (b : Bool) → isIdle (f .point) ≡ b → leb (f .count) (cond b 0 (busyMost W)) ≡ true
       go true e = le-leb (f .count) 0 (let y = c .idle e in omega arith)
       go false e = le-leb _ _ (c .busy)
 
-  process-ok : (f : Local) → ProcessRanges N W f → CountIn W f → processOk N W (recordOf f) ≡ true
+  process-ok : (f : Local) → ProcessRanges N (halves W) f → CountIn W f → processOk N W (recordOf f) ≡ true
   process-ok f r c =
       ap₂ _&&_ (lt-ltb _ _ (r .my)) (ap₂ _&&_ (ap₂ _&&_ (lt-ltb _ _ (r .copyBuf)) (lt-ltb _ _ (r .copySeq))) (ap₂ _&&_ (lt-ltb _ _ (r .b)) (ap₂ _&&_ (lt-ltb _ _ (r .c)) (ap₂ _&&_ (lt-ltb _ _ (r .d)) (ap₂ _&&_ (lt-ltb _ _ (r .e))
       (ap₂ _&&_ (line-ok (f .point)) (ap₂ _&&_ (lt-ltb _ _ (r .word)) (count-ok f c))))))))
 
-  pub in-range : (m : Memory) (z : State) → Related N W m z → InRanges N W z → ((q : ℕ) → q < N → CountIn W (z .loc q)) → inRange m ≡ true
+  pub in-range : (m : Memory) (z : State) → Related N W m z → InRanges N (halves W) z → ((q : ℕ) → q < N → CountIn W (z .loc q)) → inRange m ≡ true
   unfolding inRange
   in-range m z r i c =
       rw (r .n, r .w)

@@ -1,5 +1,5 @@
 -- Facts about lists: a list written into another, a map, a row cut out.
-use mathlib.Core.Path.{_≡_, refl, ap, ap₂, _∙_}
+use mathlib.Core.Path.{_≡_, refl, sym, ap, ap₂, _∙_}
 use mathlib.Core.Bool.{Bool, true, _&&_}
 use mathlib.Core.List.{List, [], _∷_, _++_, map}
 use Prim.Native.Nat.{ℕ, zero, suc, _+_, _≤_, _<_}
@@ -7,9 +7,11 @@ use native.Mathlib.Nat.{add-zero}
 use native.Mathlib.Omega.{arith}
 use lib.ListN.{length, getD, set, take, drop, replicate, length-set}
 use lib.Seq.{getD-set-same, getD-set-other, sets, drop-cons}
+use Rattle.model.specs.Sizes.{halves}
+use Rattle.model.specs.Words.{wordOf, half}
 use Rattle.model.specs.SetUp.{numbers}
 use Rattle.model.specs.Refusals.{every}
-use Rattle.linearization.proofs.WordLists.{tab, tab-ext}
+use Rattle.linearization.proofs.WordLists.{tab, tab-ext, cells, wordsOf, wordsOf-halves}
 
 module _ {A : Type 0} where
   -- a list written into another from place a on: outside it, and in it
@@ -72,3 +74,10 @@ tab-whole zero [] e = refl
 tab-whole zero (w ∷ v) e = absurd (omega arith)
 tab-whole (suc W) [] e = absurd (omega arith)
 tab-whole (suc W) (w ∷ v) e = ap (w ∷_) (tab-whole W v (omega arith))
+
+-- the same over half words
+pub cut-words : (w a : ℕ) (m : List ℕ) → a + w ≤ length m → take w (drop a m) ≡ wordsOf (halves w) (λ k. half k (getD m (a + wordOf k) 0))
+cut-words w a m h = cut-tab w a m h ∙ sym (wordsOf-halves w (λ k. getD m (a + k) 0))
+
+pub words-whole : (w : ℕ) (v : List ℕ) → length v ≡ w → wordsOf (halves w) (cells v) ≡ v
+words-whole w v e = wordsOf-halves w (λ k. getD v k 0) ∙ tab-whole w v e

@@ -4,10 +4,11 @@ use mathlib.Core.Bool.{true, false, cond}
 use mathlib.Core.List.{List, []}
 use Prim.Native.Nat.{ℕ, _<_}
 use lib.Dec.{eqb}
-use lib.ListN.{length, getD}
+use lib.ListN.{length}
 use Rattle.model.specs.declared.Order.{Order}
 use Rattle.model.specs.declared.Order.the-variants.{StartLl, StartSc, StartVl, Step}
 use Rattle.model.specs.declared.Reply.the-variants.{Refused}
+use Rattle.model.specs.Sizes.{halves}
 use Rattle.model.specs.Points.{idle}
 use Rattle.model.specs.Machine.{Memory}
 use Rattle.model.specs.Refusals.{isStart, needsLl, bringsValue}
@@ -19,6 +20,7 @@ use Rattle.linearization.proofs.GhostMachine
 use Rattle.linearization.proofs.GhostMachine.{State, noisy}
 use Rattle.linearization.proofs.GhostRuns
 use Rattle.linearization.proofs.GhostRuns.{Cmd, LL, VL, go, SC}
+use Rattle.linearization.proofs.WordLists.{cells}
 use Rattle.linearization.proofs.Relation.{Related}
 use Rattle.linearization.proofs.Simulation.{begun}
 use Rattle.linearization.proofs.ReplySimulation.{saidAt}
@@ -26,7 +28,7 @@ use Rattle.linearization.proofs.ReplySimulation.{saidAt}
 -- the command as the ghost machine reads it; an SC with a value of another length is refused there as a step of process N
 abbrev pub cmdOf : ℕ → ℕ → ℕ → Order → List ℕ → Cmd
 cmdOf N W p StartLl v = LL p
-cmdOf N W p StartSc v = cond (eqb (length v) W) (SC p (λ k. getD v k 0)) (go N)
+cmdOf N W p StartSc v = cond (eqb (length v) W) (SC p (cells v)) (go N)
 cmdOf N W p StartVl v = VL p
 cmdOf N W p Step v = go p
 
@@ -39,8 +41,8 @@ pub record IsRefused (N W n : ℕ) (m : Memory) (z : State) (c : Command) (k : �
   pub number : refusal m (c .process) (c .order) (c .value) ≡ k
   pub leaves : command m (c .process) (c .order) (c .value) ≡ (Refused k, m)
   pub said : eventOf m c .said ≡ refused k
-  pub follows : GhostRuns.exec N W n (toF N W c) z ≡ z
-  pub silent : GhostRuns.callF N W n (toF N W c) z ≡ []
+  pub follows : GhostRuns.exec N (halves W) n (toF N W c) z ≡ z
+  pub silent : GhostRuns.callF N (halves W) n (toF N W c) z ≡ []
 
 -- a start of an idle process
 pub record IsStarted (N W n : ℕ) (m : Memory) (z : State) (c : Command) : Type 0 where
@@ -51,7 +53,7 @@ pub record IsStarted (N W n : ℕ) (m : Memory) (z : State) (c : Command) : Type
   pub value : bringsValue (c .order) ≡ true → length (c .value) ≡ W
   pub number : refusal m (c .process) (c .order) (c .value) ≡ 0
   pub said : eventOf m c .said ≡ accepted
-  pub follows : GhostRuns.exec N W n (toF N W c) z ≡ noisy z (c .process) (GhostMachine.wStart (c .process) n (z .sh)) (λ l. l) (begun (c .order) (c .value) (z .loc (c .process)))
+  pub follows : GhostRuns.exec N (halves W) n (toF N W c) z ≡ noisy z (c .process) (GhostMachine.wStart (c .process) n (z .sh)) (λ l. l) (begun (c .order) (c .value) (z .loc (c .process)))
 
 -- a step of a busy process
 pub record IsStepped (N W n : ℕ) (m : Memory) (z : State) (c : Command) : Type 0 where
@@ -59,8 +61,8 @@ pub record IsStepped (N W n : ℕ) (m : Memory) (z : State) (c : Command) : Type
   pub step : c .order ≡ Step
   pub busy : PointFacts.isIdle (z .loc (c .process) .point) ≡ false
   pub number : refusal m (c .process) (c .order) (c .value) ≡ 0
-  pub said : eventOf m c .said ≡ saidAt W (z .loc (c .process) .point) (z .loc (c .process))
-  pub follows : GhostRuns.exec N W n (toF N W c) z ≡ GhostMachine.step N W n (c .process) z
+  pub said : eventOf m c .said ≡ saidAt (halves W) (z .loc (c .process) .point) (z .loc (c .process))
+  pub follows : GhostRuns.exec N (halves W) n (toF N W c) z ≡ GhostMachine.step N (halves W) n (c .process) z
 
 pub data Outcome (N W n : ℕ) (m : Memory) (z : State) (c : Command) : Type 0 where
   refusedWith : (k : ℕ) → IsRefused N W n m z c k → Outcome N W n m z c
@@ -70,4 +72,4 @@ pub data Outcome (N W n : ℕ) (m : Memory) (z : State) (c : Command) : Type 0 w
 -- both machines after a command: the case, and the relation
 pub record Followed (N W n : ℕ) (m : Memory) (z : State) (c : Command) : Type 0 where
   pub outcome : Outcome N W n m z c
-  pub related : Related N W (command m (c .process) (c .order) (c .value) .1) (GhostRuns.exec N W n (toF N W c) z)
+  pub related : Related N W (command m (c .process) (c .order) (c .value) .1) (GhostRuns.exec N (halves W) n (toF N W c) z)

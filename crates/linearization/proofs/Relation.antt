@@ -16,12 +16,16 @@ use Rattle.model.specs.declared.HelpPlace.{HelpPlace}
 use Rattle.model.specs.declared.Process.{Process}
 use Rattle.model.specs.Places.{noLinks, linked, link}
 use Rattle.model.proofs.LinkLaws.{none-linked, link-same, link-other, link-below}
+use Rattle.model.specs.Sizes.{halves}
+use Rattle.model.specs.Words.{wordOf, half, withHalf}
+use Rattle.model.proofs.HalfLaws.{half-set, half-kept}
 use Rattle.model.specs.Tables.{noBank, noHelp}
 use Rattle.model.specs.Points.{lineNumber}
 use Rattle.model.specs.Records.{recordAt}
 use Rattle.model.specs.Machine.{Memory}
 use Rattle.linearization.proofs.Updates.{upd, upd-same, upd-other, Split, same, other, split}
 use Rattle.linearization.proofs.GhostMachine.{Local, Shared, State}
+use Rattle.linearization.proofs.WordLists.{cells}
 use Rattle.linearization.proofs.ListFacts.{sets-out, sets-in}
 
 -- the process record of a process of the ghost machine
@@ -47,12 +51,12 @@ pub record HelpLike (N : ℕ) (h : HelpPlace) (up : Bool) (b : ℕ) (f : ℕ →
   pub buf : h .content .buf .0 ≡ b
   pub links : LinksLike N (h .links) f
 
--- the lent words: the buffers, the return areas, the offer areas
+-- the lent words: the buffers, the return areas, the offer areas; a cell of the ghost machine is a half word
 pub record WordsLike (N W : ℕ) (ws : List ℕ) (bs rs os : ℕ → ℕ → ℕ) : Type 0 where
   pub len : 5 * N * W ≤ length ws
-  pub buf : (r k : ℕ) → r < 3 * N → k < W → getD ws (r * W + k) 0 ≡ bs r k
-  pub returned : (q k : ℕ) → q < N → k < W → getD ws ((3 * N + q) * W + k) 0 ≡ rs q k
-  pub offered : (q k : ℕ) → q < N → k < W → getD ws ((4 * N + q) * W + k) 0 ≡ os q k
+  pub buf : (r k : ℕ) → r < 3 * N → k < halves W → half k (getD ws (r * W + wordOf k) 0) ≡ bs r k
+  pub returned : (q k : ℕ) → q < N → k < halves W → half k (getD ws ((3 * N + q) * W + wordOf k) 0) ≡ rs q k
+  pub offered : (q k : ℕ) → q < N → k < halves W → half k (getD ws ((4 * N + q) * W + wordOf k) 0) ≡ os q k
 
 -- the shared places and the words
 pub record PlacesLike (N W : ℕ) (xp : XPlace) (ks : List BankPlace) (hs : List HelpPlace) (ws : List ℕ) (h : Shared) (loc : ℕ → Local) : Type 0 where
@@ -131,20 +135,27 @@ row-out W r q j hj ne a b = go (decLt r q) (decLt q r)
     go (no x) (yes y) = let z : suc q * W ≤ r * W = mul-le-mul-right W y in omega arith
     go (no x) (no y) = ne (omega arith)
 
-module _ (N W : ℕ) (ws : List ℕ) (len : 5 * N * W ≤ length ws) (r k v : ℕ) (hk : k < W) where
-  word-set : r < 5 * N → getD (set ws (r * W + k) v) (r * W + k) 0 ≡ v
-  word-set hr = getD-set-same ws (r * W + k) v 0 (let z : suc r * W ≤ 5 * N * W = mul-le-mul-right W hr in omega arith)
+-- half k of a word of row r is taken from the word u
+module _ (N W : ℕ) (ws : List ℕ) (len : 5 * N * W ≤ length ws) (r k u : ℕ) (hk : k < halves W) where
+  abbrev put : List ℕ
+  put = set ws (r * W + wordOf k) (withHalf k u (getD ws (r * W + wordOf k) 0))
 
-  word-other : (q j : ℕ) → j < W → (q ≡ r → j ≡ k → ⊥) → getD (set ws (r * W + k) v) (q * W + j) 0 ≡ getD ws (q * W + j) 0
-  word-other q j hj ne = getD-set-other ws (r * W + k) (q * W + j) v 0 (λ z. let y = addr W q j r k hj hk z in ne (y .0) (y .1))
+  word-set : r < 5 * N → getD put (r * W + wordOf k) 0 ≡ withHalf k u (getD ws (r * W + wordOf k) 0)
+  word-set hr = getD-set-same ws (r * W + wordOf k) _ 0 (let z : suc r * W ≤ 5 * N * W = mul-le-mul-right W hr in omega arith)
 
-  -- the row r against a function, with word k set
-  row-set : (f : ℕ → ℕ) (v′ : ℕ) → r < 5 * N → v ≡ v′ → ((j : ℕ) → j < W → getD ws (r * W + j) 0 ≡ f j) → (j : ℕ) → j < W → getD (set ws (r * W + k) v) (r * W + j) 0 ≡ upd f k v′ j
-  row-set f v′ hr e o j hj = go (split j k)
+  half-other : (q j : ℕ) → j < halves W → (q ≡ r → wordOf j ≡ wordOf k → ⊥) → half j (getD put (q * W + wordOf j) 0) ≡ half j (getD ws (q * W + wordOf j) 0)
+  half-other q j hj ne = ap (half j) (getD-set-other ws (r * W + wordOf k) (q * W + wordOf j) _ 0 (λ z. let y = addr W q (wordOf j) r (wordOf k) (omega arith) (omega arith) z in ne (y .0) (y .1)))
+
+  -- the row r against a function, with half k set
+  row-set : (f : ℕ → ℕ) (v : ℕ) → r < 5 * N → half k u ≡ v → ((j : ℕ) → j < halves W → half j (getD ws (r * W + wordOf j) 0) ≡ f j) → (j : ℕ) → j < halves W → half j (getD put (r * W + wordOf j) 0) ≡ upd f k v j
+  row-set f v hr e o j hj = go (split j k) (split (wordOf j) (wordOf k))
     where
-      go : Split j k → getD (set ws (r * W + k) v) (r * W + j) 0 ≡ upd f k v′ j
-      go (same z) = rw z (word-set hr ∙ e ∙ sym (upd-same f k v′))
-      go (other ne) = word-other r j hj (λ _ z. ne z) ∙ o j hj ∙ sym (upd-other f k j v′ ne)
+      go : Split j k → Split (wordOf j) (wordOf k) → half j (getD put (r * W + wordOf j) 0) ≡ upd f k v j
+      go (same z) y = rw z (ap (half k) (word-set hr) ∙ half-set k u _ ∙ e ∙ sym (upd-same f k v))
+      go (other ne) (other far) = half-other r j hj (λ _ z. far z) ∙ o j hj ∙ sym (upd-other f k j v ne)
+      go (other ne) (same y) =
+          ap (λ i. half j (getD put (r * W + i) 0)) y ∙ ap (half j) (word-set hr) ∙ half-kept j k u _ y ne
+          ∙ ap (λ i. half j (getD ws (r * W + i) 0)) (sym y) ∙ o j hj ∙ sym (upd-other f k j v ne)
 
 module _ (N W : ℕ) (ws : List ℕ) (buf ret off : ℕ → ℕ → ℕ) (r : WordsLike N W ws buf ret off) where
   pub words-same : (buf′ ret′ off′ : ℕ → ℕ → ℕ) → buf′ ≡ buf → ((q : ℕ) → ret′ q ≡ ret q) → ((q : ℕ) → off′ q ≡ off q) → WordsLike N W ws buf′ ret′ off′
@@ -155,40 +166,42 @@ module _ (N W : ℕ) (ws : List ℕ) (buf ret off : ℕ → ℕ → ℕ) (r : Wo
     offered = λ q k hq hk. r .offered q k hq hk ∙ sym (ap (λ f. f k) (c q));
   }
 
-  -- word k of p's return area is set
-  pub words-return : (ret′ off′ : ℕ → ℕ → ℕ) (p k v v′ : ℕ) → p < N → k < W → v ≡ v′ → ret′ p ≡ upd (ret p) k v′ → ((q : ℕ) → (q ≡ p → ⊥) → ret′ q ≡ ret q) → ((q : ℕ) → off′ q ≡ off q) → WordsLike N W (set ws ((3 * N + p) * W + k) v) buf ret′ off′
-  words-return ret′ off′ p k v v′ hp hk e a b c = record {
-    len = let z = length-set ws ((3 * N + p) * W + k) v in let y = r .len in omega arith;
+  -- half k of p's return area is set
+  pub words-return : (ret′ off′ : ℕ → ℕ → ℕ) (p k u v : ℕ) → p < N → k < halves W → half k u ≡ v → ret′ p ≡ upd (ret p) k v → ((q : ℕ) → (q ≡ p → ⊥) → ret′ q ≡ ret q) → ((q : ℕ) → off′ q ≡ off q)
+      → WordsLike N W (set ws ((3 * N + p) * W + wordOf k) (withHalf k u (getD ws ((3 * N + p) * W + wordOf k) 0))) buf ret′ off′
+  words-return ret′ off′ p k u v hp hk e a b c = record {
+    len = let z = length-set ws ((3 * N + p) * W + wordOf k) (withHalf k u (getD ws ((3 * N + p) * W + wordOf k) 0)) in let y = r .len in omega arith;
     buf = λ i j hi hj. far i j hj (λ y _. omega arith) ∙ r .buf i j hi hj;
     returned = λ q j hq hj. go q j hq hj (split q p);
     offered = λ q j hq hj. far (4 * N + q) j hj (λ y _. omega arith) ∙ r .offered q j hq hj ∙ sym (ap (λ f. f j) (c q));
   }
     where
-      far : (q j : ℕ) → j < W → (q ≡ 3 * N + p → j ≡ k → ⊥) → getD (set ws ((3 * N + p) * W + k) v) (q * W + j) 0 ≡ getD ws (q * W + j) 0
-      far = word-other N W ws (r .len) (3 * N + p) k v hk
+      far : (q j : ℕ) → j < halves W → (q ≡ 3 * N + p → wordOf j ≡ wordOf k → ⊥) → half j (getD (put N W ws (r .len) (3 * N + p) k u hk) (q * W + wordOf j) 0) ≡ half j (getD ws (q * W + wordOf j) 0)
+      far = half-other N W ws (r .len) (3 * N + p) k u hk
 
-      go : (q j : ℕ) → q < N → j < W → Split q p → getD (set ws ((3 * N + p) * W + k) v) ((3 * N + q) * W + j) 0 ≡ ret′ q j
-      go q j hq hj (same z) = rw z (row-set N W ws (r .len) (3 * N + p) k v hk (ret p) v′ (omega arith) e (λ i hi. r .returned p i hp hi) j hj ∙ sym (ap (λ f. f j) a))
+      go : (q j : ℕ) → q < N → j < halves W → Split q p → half j (getD (put N W ws (r .len) (3 * N + p) k u hk) ((3 * N + q) * W + wordOf j) 0) ≡ ret′ q j
+      go q j hq hj (same z) = rw z (row-set N W ws (r .len) (3 * N + p) k u hk (ret p) v (omega arith) e (λ i hi. r .returned p i hp hi) j hj ∙ sym (ap (λ f. f j) a))
       go q j hq hj (other ne) = far (3 * N + q) j hj (λ y _. ne (omega arith)) ∙ r .returned q j hq hj ∙ sym (ap (λ f. f j) (b q ne))
 
-  -- word k of BUF[i] is set
-  pub words-buffer : (buf′ ret′ off′ : ℕ → ℕ → ℕ) (i k v v′ : ℕ) → i < 3 * N → k < W → v ≡ v′ → buf′ ≡ upd buf i (upd (buf i) k v′) → ((q : ℕ) → ret′ q ≡ ret q) → ((q : ℕ) → off′ q ≡ off q) → WordsLike N W (set ws (i * W + k) v) buf′ ret′ off′
-  words-buffer buf′ ret′ off′ i k v v′ hi hk e a b c = record {
-    len = let z = length-set ws (i * W + k) v in let y = r .len in omega arith;
+  -- half k of BUF[i] is set
+  pub words-buffer : (buf′ ret′ off′ : ℕ → ℕ → ℕ) (i k u v : ℕ) → i < 3 * N → k < halves W → half k u ≡ v → buf′ ≡ upd buf i (upd (buf i) k v) → ((q : ℕ) → ret′ q ≡ ret q) → ((q : ℕ) → off′ q ≡ off q)
+      → WordsLike N W (set ws (i * W + wordOf k) (withHalf k u (getD ws (i * W + wordOf k) 0))) buf′ ret′ off′
+  words-buffer buf′ ret′ off′ i k u v hi hk e a b c = record {
+    len = let z = length-set ws (i * W + wordOf k) (withHalf k u (getD ws (i * W + wordOf k) 0)) in let y = r .len in omega arith;
     buf = λ q j hq hj. go q j hq hj (split q i) ∙ sym (ap (λ f. f q j) a);
     returned = λ q j hq hj. far (3 * N + q) j hj (λ y _. omega arith) ∙ r .returned q j hq hj ∙ sym (ap (λ f. f j) (b q));
     offered = λ q j hq hj. far (4 * N + q) j hj (λ y _. omega arith) ∙ r .offered q j hq hj ∙ sym (ap (λ f. f j) (c q));
   }
     where
-      far : (q j : ℕ) → j < W → (q ≡ i → j ≡ k → ⊥) → getD (set ws (i * W + k) v) (q * W + j) 0 ≡ getD ws (q * W + j) 0
-      far = word-other N W ws (r .len) i k v hk
+      far : (q j : ℕ) → j < halves W → (q ≡ i → wordOf j ≡ wordOf k → ⊥) → half j (getD (put N W ws (r .len) i k u hk) (q * W + wordOf j) 0) ≡ half j (getD ws (q * W + wordOf j) 0)
+      far = half-other N W ws (r .len) i k u hk
 
-      go : (q j : ℕ) → q < 3 * N → j < W → Split q i → getD (set ws (i * W + k) v) (q * W + j) 0 ≡ upd buf i (upd (buf i) k v′) q j
-      go q j hq hj (same z) = rw z (row-set N W ws (r .len) i k v hk (buf i) v′ (omega arith) e (λ l hl. r .buf i l hi hl) j hj ∙ sym (ap (λ f. f j) (upd-same buf i (upd (buf i) k v′))))
-      go q j hq hj (other ne) = far q j hj (λ y _. ne y) ∙ r .buf q j hq hj ∙ sym (ap (λ f. f j) (upd-other buf i q (upd (buf i) k v′) ne))
+      go : (q j : ℕ) → q < 3 * N → j < halves W → Split q i → half j (getD (put N W ws (r .len) i k u hk) (q * W + wordOf j) 0) ≡ upd buf i (upd (buf i) k v) q j
+      go q j hq hj (same z) = rw z (row-set N W ws (r .len) i k u hk (buf i) v (omega arith) e (λ l hl. r .buf i l hi hl) j hj ∙ sym (ap (λ f. f j) (upd-same buf i (upd (buf i) k v))))
+      go q j hq hj (other ne) = far q j hj (λ y _. ne y) ∙ r .buf q j hq hj ∙ sym (ap (λ f. f j) (upd-other buf i q (upd (buf i) k v) ne))
 
   -- W words are written to p's offer area
-  pub words-offer : (ret′ off′ : ℕ → ℕ → ℕ) (p : ℕ) (v : List ℕ) → p < N → length v ≡ W → ((q : ℕ) → ret′ q ≡ ret q) → off′ p ≡ (λ k. getD v k 0) → ((q : ℕ) → (q ≡ p → ⊥) → off′ q ≡ off q) → WordsLike N W (sets ws ((4 * N + p) * W + 0) v) buf ret′ off′
+  pub words-offer : (ret′ off′ : ℕ → ℕ → ℕ) (p : ℕ) (v : List ℕ) → p < N → length v ≡ W → ((q : ℕ) → ret′ q ≡ ret q) → off′ p ≡ cells v → ((q : ℕ) → (q ≡ p → ⊥) → off′ q ≡ off q) → WordsLike N W (sets ws ((4 * N + p) * W + 0) v) buf ret′ off′
   words-offer ret′ off′ p v hp hv a b c = record {
     len = let z = length-sets ws ((4 * N + p) * W + 0) v in let y = r .len in omega arith;
     buf = λ i j hi hj. far i j hj (λ y. omega arith) ∙ r .buf i j hi hj;
@@ -196,14 +209,14 @@ module _ (N W : ℕ) (ws : List ℕ) (buf ret off : ℕ → ℕ → ℕ) (r : Wo
     offered = λ q j hq hj. go q j hq hj (split q p);
   }
     where
-      far : (q j : ℕ) → j < W → (q ≡ 4 * N + p → ⊥) → getD (sets ws ((4 * N + p) * W + 0) v) (q * W + j) 0 ≡ getD ws (q * W + j) 0
-      far q j hj ne = sets-out v ws ((4 * N + p) * W + 0) (q * W + j) 0 (λ x y. row-out W q (4 * N + p) j hj ne (omega arith) (omega arith))
+      far : (q j : ℕ) → j < halves W → (q ≡ 4 * N + p → ⊥) → half j (getD (sets ws ((4 * N + p) * W + 0) v) (q * W + wordOf j) 0) ≡ half j (getD ws (q * W + wordOf j) 0)
+      far q j hj ne = ap (half j) (sets-out v ws ((4 * N + p) * W + 0) (q * W + wordOf j) 0 (λ x y. row-out W q (4 * N + p) (wordOf j) (omega arith) ne (omega arith) (omega arith)))
 
-      near : (j : ℕ) → j < W → getD (sets ws ((4 * N + p) * W + 0) v) ((4 * N + p) * W + j) 0 ≡ getD v j 0
+      near : (j : ℕ) → j < halves W → half j (getD (sets ws ((4 * N + p) * W + 0) v) ((4 * N + p) * W + wordOf j) 0) ≡ cells v j
       near j hj =
           let z : suc (4 * N + p) * W ≤ 5 * N * W = mul-le-mul-right W (omega arith) in let y = r .len in
-          ap (λ i. getD (sets ws ((4 * N + p) * W + 0) v) i 0) (let e : (4 * N + p) * W + j ≡ (4 * N + p) * W + 0 + j = omega arith in e) ∙ sets-in v ws ((4 * N + p) * W + 0) j 0 (omega arith) (omega arith)
+          ap (λ i. half j (getD (sets ws ((4 * N + p) * W + 0) v) i 0)) (let e : (4 * N + p) * W + wordOf j ≡ (4 * N + p) * W + 0 + wordOf j = omega arith in e) ∙ ap (half j) (sets-in v ws ((4 * N + p) * W + 0) (wordOf j) 0 (omega arith) (omega arith))
 
-      go : (q j : ℕ) → q < N → j < W → Split q p → getD (sets ws ((4 * N + p) * W + 0) v) ((4 * N + q) * W + j) 0 ≡ off′ q j
+      go : (q j : ℕ) → q < N → j < halves W → Split q p → half j (getD (sets ws ((4 * N + p) * W + 0) v) ((4 * N + q) * W + wordOf j) 0) ≡ off′ q j
       go q j hq hj (same e) = rw e (near j hj ∙ sym (ap (λ f. f j) b))
       go q j hq hj (other ne) = far (4 * N + q) j hj (λ y. ne (omega arith)) ∙ r .offered q j hq hj ∙ sym (ap (λ f. f j) (c q ne))

@@ -11,7 +11,7 @@ use Rattle.model.specs.Replies.{llWords}
 use Rattle.model.specs.Object.{ll, Object, fresh}
 use Rattle.model.specs.Linearizable.{All, Timed, insert}
 use Rattle.linearization.proofs.Updates.{upd, upd-same, upd-other, Split, same, other, split, contra, is-false}
-use Rattle.linearization.proofs.WordLists.{tab}
+use Rattle.linearization.proofs.WordLists.{wordsOf}
 use Rattle.linearization.proofs.Serving.{tells, feeds, after, Served, Free, successes, after-append, served-append, successes-append}
 use Rattle.linearization.proofs.Sorting.{Sorted, sorted-insert, all-map, all-insert, upto, past, upto-past, insert-end, upto-all, upto-before, free-past}
 use Rattle.linearization.proofs.Insertion.{Inserted, insert-ll}
@@ -22,14 +22,14 @@ Low n last t = (t .moment < n) × (t .moment ≤ last (t .call .process))
 
 -- at moment m the object holds value number i
 abbrev pub Holds : ℕ → List ℕ → (ℕ → ℕ → ℕ) → List Timed → ℕ → ℕ → Type 0
-Holds W v0 Val log m i = (after (fresh v0) (upto m log) .words ≡ tab W (Val i)) × (successes (fresh v0) (upto m log) ≡ i)
+Holds W v0 Val log m i = (after (fresh v0) (upto m log) .words ≡ wordsOf W (Val i)) × (successes (fresh v0) (upto m log) ≡ i)
 
 -- the log before command number n: S successes so far, number i at T i with the words Val i; the links and the last moments of the processes
 pub record Logged (W : ℕ) (v0 : List ℕ) (n S : ℕ) (Val : ℕ → ℕ → ℕ) (T : ℕ → ℕ) (lnk : ℕ → Bool) (last : ℕ → ℕ) (log : List Timed) : Type 0 where
   pub sorted : Sorted log
   pub served : Served (fresh v0) log
   pub link : (q : ℕ) → after (fresh v0) log .link q ≡ lnk q
-  pub words : after (fresh v0) log .words ≡ tab W (Val S)
+  pub words : after (fresh v0) log .words ≡ wordsOf W (Val S)
   pub count : successes (fresh v0) log ≡ S
   pub old : (m i : ℕ) → m < n → i ≤ S → T i ≤ m → (i < S → m < T (suc i)) → Holds W v0 Val log m i
   pub top : All (Low n last) log
@@ -127,14 +127,14 @@ module _ {W : ℕ} {v0 : List ℕ} {n S : ℕ} {Val : ℕ → ℕ → ℕ} {T : 
         linked q (same z) = ap lnk z ∙ ex ∙ sym (upd-same lnk p x) ∙ ap (upd lnk p x) (sym z)
         linked q (other ne) = sym (upd-other lnk p q x ne)
 
-        held : after o (insert t log) .words ≡ tab W (Val S)
+        held : after o (insert t log) .words ≡ wordsOf W (Val S)
         held = ap (λ o. o .words) (end-after ∙ ef) ∙ g .words
 
         counted : successes o (insert t log) ≡ S
         counted = let z = end-count 0 ew in omega arith
 
     -- SC that succeeds
-    pub log-success : (w : ℕ → ℕ) → feeds t fin ≡ fresh (tab W w) → successes fin (t ∷ []) ≡ 1
+    pub log-success : (w : ℕ → ℕ) → feeds t fin ≡ fresh (wordsOf W w) → successes fin (t ∷ []) ≡ 1
         → Logged W v0 (suc n) (suc S) (upd Val (suc S) w) (upd T (suc S) n) (upd (λ q. false) p false) (upd last p n) (insert t log)
     log-success w ef ew = record {
       sorted = sorted-insert t log (g .sorted);
@@ -150,8 +150,8 @@ module _ {W : ℕ} {v0 : List ℕ} {n S : ℕ} {Val : ℕ → ℕ → ℕ} {T : 
         linked q (same z) = sym (ap (upd (λ (q : ℕ). false) p false) z ∙ upd-same (λ (q : ℕ). false) p false)
         linked q (other ne) = sym (upd-other (λ (q : ℕ). false) p q false ne)
 
-        held : after o (insert t log) .words ≡ tab W (upd Val (suc S) w (suc S))
-        held = ap (λ o. o .words) (end-after ∙ ef) ∙ ap (tab W) (sym (upd-same Val (suc S) w))
+        held : after o (insert t log) .words ≡ wordsOf W (upd Val (suc S) w (suc S))
+        held = ap (λ o. o .words) (end-after ∙ ef) ∙ ap (wordsOf W) (sym (upd-same Val (suc S) w))
 
         counted : successes o (insert t log) ≡ suc S
         counted = let z = end-count 1 ew in omega arith
@@ -171,7 +171,7 @@ module _ {W : ℕ} {v0 : List ℕ} {n S : ℕ} {Val : ℕ → ℕ → ℕ} {T : 
             early (other q) = let x = rw (upd-other T (suc S) (suc i) n (λ z. q (omega arith))) at (d (omega arith)) in let y = successes-past (suc i) (omega arith) in omega arith
 
   -- an LL, at its moment: value number ver was held there; x is p's link, set if ver is the last
-  module _ (p : ℕ) (t : Timed) (of-p : t .call .process ≡ p) (is-ll : t .call .kind ≡ ll) (ver b : ℕ) (an : t .call .answer ≡ llWords (tab W (Val ver)))
+  module _ (p : ℕ) (t : Timed) (of-p : t .call .process ≡ p) (is-ll : t .call .kind ≡ ll) (ver b : ℕ) (an : t .call .answer ≡ llWords (wordsOf W (Val ver)))
       (lt : t .moment < n) (lv : ver ≤ S) (w1 : T ver ≤ t .moment) (w2 : ver < S → t .moment < T (suc ver)) (lb : last p ≤ b) (bl : b < t .moment)
       (x : Bool) (x1 : x ≡ true → ver ≡ S) (x2 : ver ≡ S → x ≡ true) where
     free : Free (t .call .process) (past (t .moment) log)
@@ -185,7 +185,7 @@ module _ {W : ℕ} {v0 : List ℕ} {n S : ℕ} {Val : ℕ → ℕ → ℕ} {T : 
     here = g .old (t .moment) ver lt lv w1 w2
 
     inserted : Inserted o log t
-    inserted = insert-ll o log t (tab W (Val ver)) is-ll an (g .served) free (here .0)
+    inserted = insert-ll o log t (wordsOf W (Val ver)) is-ll an (g .served) free (here .0)
 
     -- the successes behind it
     behind : ver + successes (after o (upto (t .moment) log)) (past (t .moment) log) ≡ S

@@ -9,6 +9,9 @@ use lib.Dec.{eqb}
 use borrow.Author.Tests.{ltb-false, eqb-true, eq-eqb, not-false}
 use lib.ListN.{length, getD, replicate, length-map, length-replicate, getD-replicate, length-append, List·getD-append}
 use lib.Seq.{sets, length-sets, getD-append-add}
+use Rattle.model.specs.Sizes.{halves}
+use Rattle.model.specs.Words.{wordOf, half}
+use Rattle.model.proofs.HalfLaws.{half-zero}
 use Rattle.model.specs.Tables.{noBank, noHelp}
 use Rattle.model.specs.Records.{noProcess}
 use Rattle.model.specs.Machine.{Memory, Shaped}
@@ -17,6 +20,7 @@ use Rattle.model.specs.SetUp.{setUp, setUpRefusal, atSetUp, numbers, bankAtSetU
 use Rattle.linearization.proofs.Updates.{ifb-ne}
 use Rattle.linearization.proofs.GhostMachine.{State}
 use Rattle.linearization.proofs.GhostRuns
+use Rattle.linearization.proofs.WordLists.{cells}
 use Rattle.linearization.proofs.ListFacts.{sets-front, map-at, numbers-length, numbers-at, zeros}
 use Rattle.linearization.proofs.RefusalFacts.{or-false, noRow, none-holds, inside}
 use Rattle.linearization.proofs.Relation.{Sizes, Related, links-none}
@@ -59,17 +63,17 @@ module _ (m : Memory) (N W : ℕ) (value : List ℕ) (shaped : Shaped m) (a : Ad
   rowS zero k h = absurd (omega arith)
   rowS (suc r) k h = ap (λ i. getD given i 0) (let y = a .value-length in let z : suc r * W + k ≡ length value + (r * W + k) = omega arith in z) ∙ getD-append-add value (replicate (5 * N * W - W) 0) (r * W + k) 0 ∙ zeros (5 * N * W - W) (r * W + k)
 
-  rows : (r k : ℕ) → k < W → getD given (r * W + k) 0 ≡ cond {A = ℕ → ℕ} (eqb r 0) (λ k. getD value k 0) (λ w. 0) k
-  rows zero k hk = row0 k hk
-  rows (suc r) k hk = rowS (suc r) k (omega arith) ∙ sym (ap (λ f. f k) (ifb-ne {A = ℕ → ℕ} (suc r) 0 (λ k. getD value k 0) (λ w. 0) (λ e. omega arith)))
+  rows : (r k : ℕ) → k < halves W → half k (getD given (r * W + wordOf k) 0) ≡ cond {A = ℕ → ℕ} (eqb r 0) (cells value) (λ w. 0) k
+  rows zero k hk = ap (half k) (row0 (wordOf k) (omega arith))
+  rows (suc r) k hk = ap (half k) (rowS (suc r) (wordOf k) (omega arith)) ∙ half-zero k ∙ sym (ap (λ f. f k) (ifb-ne {A = ℕ → ℕ} (suc r) 0 (cells value) (λ w. 0) (λ e. omega arith)))
 
-  word : (r k : ℕ) → r < 5 * N → k < W → getD (sets (m .words) 0 given) (r * W + k) 0 ≡ getD given (r * W + k) 0
+  word : (r k : ℕ) → r < 5 * N → k < halves W → half k (getD (sets (m .words) 0 given) (r * W + wordOf k) 0) ≡ half k (getD given (r * W + wordOf k) 0)
   word r k hr hk =
       let z : suc r * W ≤ 5 * N * W = mul-le-mul-right W hr in let y = given-length in let x = a .words in
-      sets-front given (m .words) (r * W + k) 0 (omega arith) (omega arith)
+      ap (half k) (sets-front given (m .words) (r * W + wordOf k) 0 (omega arith) (omega arith))
 
   abbrev state : State
-  state = GhostRuns.setup N W (λ k. getD value k 0)
+  state = GhostRuns.setup N (halves W) (cells value)
 
   -- the three tables
   bank-at : (i : ℕ) → i < 2 * N → getD (sets (m .bench .bank) 0 (map bankAtSetUp (numbers 0 (2 * N)))) i noBank ≡ bankAtSetUp i
@@ -105,11 +109,15 @@ module _ (m : Memory) (N W : ℕ) (value : List ℕ) (shaped : Shaped m) (a : Ad
       words = record {
         len = let y = length-sets (m .words) 0 given in let v = a .words in omega arith;
         buf = λ r k hr hk. word r k (omega arith) hk ∙ rows r k hk;
-        returned = λ q k hq hk. word (3 * N + q) k (omega arith) hk ∙ rowS (3 * N + q) k (omega arith);
-        offered = λ q k hq hk. word (4 * N + q) k (omega arith) hk ∙ rowS (4 * N + q) k (omega arith);
+        returned = λ q k hq hk. word (3 * N + q) k (omega arith) hk ∙ ap (half k) (rowS (3 * N + q) (wordOf k) (omega arith)) ∙ half-zero k;
+        offered = λ q k hq hk. word (4 * N + q) k (omega arith) hk ∙ ap (half k) (rowS (4 * N + q) (wordOf k) (omega arith)) ∙ half-zero k;
       };
     };
   }
 
-pub set-up-related : (m : Memory) (n w : ℕ) (value : List ℕ) → Shaped m → setUp m n w value .0 ≡ 0 → Related n w (setUp m n w value .1) (GhostRuns.setup n w (λ k. getD value k 0))
+pub set-up-related : (m : Memory) (n w : ℕ) (value : List ℕ) → Shaped m → setUp m n w value .0 ≡ 0 → Related n w (setUp m n w value .1) (GhostRuns.setup n (halves w) (cells value))
 set-up-related m n w value shaped e = rw (set-up-memory m n w value e) (at-set-up-related m n w value shaped (set-up-admits m n w value e))
+
+-- there is a half word
+pub set-up-halves : (m : Memory) (n w : ℕ) (value : List ℕ) → setUp m n w value .0 ≡ 0 → 0 < halves w
+set-up-halves m n w value e = let a = set-up-admits m n w value e .sizes .w-low in omega arith

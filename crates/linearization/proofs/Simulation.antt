@@ -22,6 +22,8 @@ use Rattle.model.specs.declared.Order.the-variants.{StartLl, StartSc, StartVl, 
 use Rattle.model.specs.declared.Reply.the-variants.{Accepted, LlAnswered, ScAnswered, VlAnswered}
 use Rattle.model.specs.declared.Moved.{Moved}
 use Rattle.model.specs.Places.{linked, noLinks, writeHelp, llHelp, llBank}
+use Rattle.model.specs.Sizes.{halves}
+use Rattle.model.specs.Words.{wordOf, half, withHalf}
 use Rattle.model.specs.Tables.{noBank, noHelp}
 use Rattle.model.specs.Records
 use Rattle.model.specs.Machine
@@ -31,6 +33,7 @@ use Rattle.model.specs.Points.{Point, lineNumber, idle, line1, line2, line3, li
 use Rattle.linearization.proofs.Updates.{upd, upd-same, upd-other, Split, same, other, split, by-test, contra}
 use Rattle.linearization.proofs.GhostMachine
 use Rattle.linearization.proofs.GhostMachine.{Local, Shared, State, quiet, noisy}
+use Rattle.linearization.proofs.WordLists.{cells}
 use Rattle.linearization.proofs.Ranges.{ProcessRanges}
 use Rattle.linearization.proofs.Relation.{recordOf, XLike, BankLike, HelpLike, WordsLike, PlacesLike, links-set, links-none, x-same, bank-same, help-same, put-place, words-same, words-return, words-buffer, words-offer}
 
@@ -82,7 +85,7 @@ module _ (z : State) (p : ℕ) (u : Local → Local) (l : Local) where
 -- what a start makes of its process
 abbrev pub begun : Order → List ℕ → Local → Local
 begun StartLl v l = GhostMachine.begin line1 (l .offered) l
-begun StartSc v l = GhostMachine.begin line12 (λ k. getD v k 0) l
+begun StartSc v l = GhostMachine.begin line12 (cells v) l
 begun StartVl v l = GhostMachine.begin line23 (l .offered) l
 begun Step v l = l
 
@@ -111,7 +114,7 @@ ofHelp m = (m .linkX, m .linkBank, m .returned, m .offered)
 abbrev ofWords : Local → Bool × (ℕ → Bool) × (ℕ → Bool)
 ofWords m = (m .linkX, m .linkBank, m .linkHelp)
 
-module _ (N W : ℕ) (x : XPlace) (ks : List BankPlace) (hs : List HelpPlace) (ws : List ℕ) (p t : ℕ) (z : State) (hp : p < N) (r : PlacesLike N W x ks hs ws (z .sh) (z .loc)) (g : ProcessRanges N W (z .loc p)) where
+module _ (N W : ℕ) (x : XPlace) (ks : List BankPlace) (hs : List HelpPlace) (ws : List ℕ) (p t : ℕ) (z : State) (hp : p < N) (r : PlacesLike N W x ks hs ws (z .sh) (z .loc)) (g : ProcessRanges N (halves W) (z .loc p)) where
   abbrev h : Shared
   h = z .sh
 
@@ -252,29 +255,29 @@ module _ (N W : ℕ) (x : XPlace) (ks : List BankPlace) (hs : List HelpPlace) (w
         (record { flag = ap (λ b. cond b 1 0) (sym (ap (λ c. c i) hf ∙ upd-same (h .flag) i up)); buf = sym (ap (λ c. c i) hb ∙ upd-same (h .helpBuf) i v); links = links-none N _ (field z p (GhostMachine.setLinkHelp i false) l (λ m. m .linkHelp i) (λ q. false) (ap (λ c. c i) lh ∙ upd-same (f .linkHelp) i false) (λ q _. upd-same (z .loc q .linkHelp) i false)) })
         e sh own (λ _. refl) (λ _. refl) (λ j ne. (ap (λ c. c j) hf ∙ upd-other (h .flag) i j up ne, ap (λ c. c j) hb ∙ upd-other (h .helpBuf) i j v ne)) (λ j ne. ap (λ c. c j) lh ∙ upd-other (f .linkHelp) i j false ne) (λ j ne m. upd-other (m .linkHelp) i j false ne)
 
-  -- a word of BUF[b] into the return area; a word v into BUF[mybuf]
+  -- a half word of BUF[b] into the return area; a half of the word u into BUF[mybuf]
   read : (b : ℕ) → b < 3 * N → (q′ : Process) (a : Reply) (l : Local) → q′ ≡ recordOf l → l .returned ≡ upd (f .returned) (f .word) (h .buf b (f .word)) → l .offered ≡ f .offered → ofWords l ≡ ofWords f
-      → Made N W p z (record { bench = bench x ks hs; process = q′; reply = a }, set ws ((3 * N + p) * W + f .word) (getD ws (b * W + f .word) 0)) (quiet z p l)
+      → Made N W p z (record { bench = bench x ks hs; process = q′; reply = a }, set ws ((3 * N + p) * W + wordOf (f .word)) (withHalf (f .word) (getD ws (b * W + wordOf (f .word)) 0) (getD ws ((3 * N + p) * W + wordOf (f .word)) 0))) (quiet z p l)
   read b hb q′ a l e ret off own =
       on-words _ q′ a h l
       (words-return N W ws _ _ _ (r .words) _ _ p (f .word) _ (h .buf b (f .word)) hp (g .word) (r .words .buf b (f .word) hb (g .word)) (ap (λ m. m .returned) (upd-same (z .loc) p l) ∙ ret) (λ q ne. ap (λ m. m .returned) (upd-other (z .loc) p q l ne)) (keeps z p (λ m. m) l (λ m. m .offered) off (λ _. refl)))
       e refl own
 
-  write : (v v′ : ℕ) → v ≡ v′ → (q′ : Process) (a : Reply) (h′ : Shared) (l : Local) → q′ ≡ recordOf l → h′ .buf ≡ upd (h .buf) (f .mybuf) (upd (h .buf (f .mybuf)) (f .word) v′) → notWords h′ ≡ notWords h → l .returned ≡ f .returned → l .offered ≡ f .offered → ofWords l ≡ ofWords f
-      → Made N W p z (record { bench = bench x ks hs; process = q′; reply = a }, set ws (f .mybuf * W + f .word) v) (noisy z p h′ (λ m. m) l)
-  write v v′ ev q′ a h′ l e buf sh ret off own =
+  write : (u v : ℕ) → half (f .word) u ≡ v → (q′ : Process) (a : Reply) (h′ : Shared) (l : Local) → q′ ≡ recordOf l → h′ .buf ≡ upd (h .buf) (f .mybuf) (upd (h .buf (f .mybuf)) (f .word) v) → notWords h′ ≡ notWords h → l .returned ≡ f .returned → l .offered ≡ f .offered → ofWords l ≡ ofWords f
+      → Made N W p z (record { bench = bench x ks hs; process = q′; reply = a }, set ws (f .mybuf * W + wordOf (f .word)) (withHalf (f .word) u (getD ws (f .mybuf * W + wordOf (f .word)) 0))) (noisy z p h′ (λ m. m) l)
+  write u v ev q′ a h′ l e buf sh ret off own =
       on-words _ q′ a h′ l
-      (words-buffer N W ws _ _ _ (r .words) _ _ _ (f .mybuf) (f .word) v v′ (g .my) (g .word) ev buf (keeps z p (λ m. m) l (λ m. m .returned) ret (λ _. refl)) (keeps z p (λ m. m) l (λ m. m .offered) off (λ _. refl)))
+      (words-buffer N W ws _ _ _ (r .words) _ _ _ (f .mybuf) (f .word) u v (g .my) (g .word) ev buf (keeps z p (λ m. m) l (λ m. m .returned) ret (λ _. refl)) (keeps z p (λ m. m) l (λ m. m .offered) off (λ _. refl)))
       e sh own
 
   -- the next word of a run, or on to the line y′
-  k+1 : ltb (f .word + 1) W ≡ ltb (suc (f .word)) W
-  k+1 = ap (λ j. ltb j W) (add-one (f .word))
+  k+1 : ltb (f .word + 1) (halves W) ≡ ltb (suc (f .word)) (halves W)
+  k+1 = ap (λ j. ltb j (halves W)) (add-one (f .word))
 
   reads : (y y′ : Point) → f .point ≡ y → (b : ℕ) → b < 3 * N
-      → Made N W p z (Machine.onRead me (record { 0 = b }) (doWord W y′ (recordOf f)) (bench x ks hs) (recordOf f) ws) (quiet z p (GhostMachine.word W y y′ (GhostMachine.setReturned (f .word) (h .buf b (f .word)) f)))
+      → Made N W p z (Machine.onRead me (record { 0 = b }) (doWord (halves W) y′ (recordOf f)) (bench x ks hs) (recordOf f) ws) (quiet z p (GhostMachine.word (halves W) y y′ (GhostMachine.setReturned (f .word) (h .buf b (f .word)) f)))
   reads y y′ e b hb =
-      by-test (λ l. Made N W p z (Machine.onRead me (record { 0 = b }) (doWord W y′ (recordOf f)) (bench x ks hs) (recordOf f) ws) (quiet z p l)) (ltb (suc (f .word)) W)
+      by-test (λ l. Made N W p z (Machine.onRead me (record { 0 = b }) (doWord (halves W) y′ (recordOf f)) (bench x ks hs) (recordOf f) ws) (quiet z p l)) (ltb (suc (f .word)) (halves W))
       (λ t. rw (k+1 ∙ t) (read b hb _ Accepted (GhostMachine.setWord (suc (f .word)) (GhostMachine.to y (GhostMachine.setReturned (f .word) (h .buf b (f .word)) f))) (next-word y f e) refl refl refl))
       (λ t. rw (k+1 ∙ t) (read b hb _ Accepted (GhostMachine.setWord 0 (GhostMachine.to y′ (GhostMachine.setReturned (f .word) (h .buf b (f .word)) f))) (to-record y′ (GhostMachine.setWord 0 f)) refl refl refl))
 
@@ -298,7 +301,7 @@ module _ (N W : ℕ) (x : XPlace) (ks : List BankPlace) (hs : List HelpPlace) (w
   abbrev After : Point → State → Type 0
   After y z′ = Made N W p z (Machine.stepAt y me (bench x ks hs) (recordOf f) ws) z′
 
-  pub follow : (y : Point) → f .point ≡ y → After y (GhostMachine.stepAt N W y t p z)
+  pub follow : (y : Point) → f .point ≡ y → After y (GhostMachine.stepAt N (halves W) y t p z)
   unfolding GhostMachine.stepAt Machine.stepAt
   follow idle e = record { n = refl; w = refl; places = r; process = refl; kept = λ q ne. refl }
   follow line1 e = write-help p hp true (f .mybuf) _ (GhostMachine.wAsked p (h .successes) (GhostMachine.wHelp p true (f .mybuf) h)) (GhostMachine.to line2 (GhostMachine.setLinkHelp p false f)) (to-record line2 f) refl refl refl refl refl
@@ -325,7 +328,7 @@ module _ (N W : ℕ) (x : XPlace) (ks : List BankPlace) (hs : List HelpPlace) (w
       (λ t′. rw (r .help p hp .links .at p hp ∙ t′) (stay-help p hp _ (GhostMachine.to line10 f) (to-record line10 f) refl refl))
   follow line10 e = stay-help p hp _ (GhostMachine.to line11 (GhostMachine.setMybuf (h .helpBuf p) f)) (ap (λ c. Records.to line11 (Records.withMybuf c (recordOf f))) (helpBuffer p hp) ∙ to-record line11 (GhostMachine.setMybuf (h .helpBuf p) f)) refl refl
   follow line11 e =
-      by-test (After line11) (ltb (suc (f .word)) W)
+      by-test (After line11) (ltb (suc (f .word)) (halves W))
       (λ t′. rw (k+1 ∙ t′) (write _ (f .returned (f .word)) (r .words .returned p (f .word) hp (g .word)) _ Accepted (GhostMachine.wBuf (f .mybuf) (f .word) (f .returned (f .word)) h) (GhostMachine.setWord (suc (f .word)) (GhostMachine.to line11 f)) (next-word line11 f e) refl refl refl refl refl))
       (λ t′. rw (k+1 ∙ t′) (write _ (f .returned (f .word)) (r .words .returned p (f .word) hp (g .word)) _ (LlAnswered (f .count + 1)) (GhostMachine.wEnd p (f .linkX) (f .moment) (GhostMachine.wBuf (f .mybuf) (f .word) (f .returned (f .word)) h)) (GhostMachine.rest true (GhostMachine.setWord 0 f)) refl refl refl refl refl refl))
   follow line12 e =
@@ -354,7 +357,7 @@ module _ (N W : ℕ) (x : XPlace) (ks : List BankPlace) (hs : List HelpPlace) (w
       (GhostMachine.wGive (2 * N + p) (2 * N + f .copySeq % N) (f .copySeq % N) (f .checkedAt) (f .readVersion) (GhostMachine.wHelp (f .copySeq % N) false (f .mybuf) h)) (GhostMachine.to line17 (GhostMachine.setMybuf (f .d) (GhostMachine.setLinkHelp (f .copySeq % N) false f))) (to-record line17 (GhostMachine.setMybuf (f .d) f)) refl refl refl refl refl))
       (λ t′. rw (r .help (f .copySeq % N) hu .links .at p hp ∙ t′) (stay-help (f .copySeq % N) hu _ (GhostMachine.to line17 f) (to-record line17 f) refl refl))
   follow line17 e =
-      by-test (λ l. After line17 (noisy z p (GhostMachine.wBuf (f .mybuf) (f .word) (f .offered (f .word)) h) (λ m. m) l)) (ltb (suc (f .word)) W)
+      by-test (λ l. After line17 (noisy z p (GhostMachine.wBuf (f .mybuf) (f .word) (f .offered (f .word)) h) (λ m. m) l)) (ltb (suc (f .word)) (halves W))
       (λ t′. rw (k+1 ∙ t′) (write _ (f .offered (f .word)) (r .words .offered p (f .word) hp (g .word)) _ Accepted (GhostMachine.wBuf (f .mybuf) (f .word) (f .offered (f .word)) h) (GhostMachine.setWord (suc (f .word)) (GhostMachine.to line17 f)) (next-word line17 f e) refl refl refl refl refl))
       (λ t′. rw (k+1 ∙ t′) (write _ (f .offered (f .word)) (r .words .offered p (f .word) hp (g .word)) _ Accepted (GhostMachine.wBuf (f .mybuf) (f .word) (f .offered (f .word)) h) (GhostMachine.setWord 0 (GhostMachine.to line18 f)) (to-record line18 (GhostMachine.setWord 0 f)) refl refl refl refl refl))
   follow line18 e =
@@ -382,7 +385,7 @@ module _ (N W : ℕ) (x : XPlace) (ks : List BankPlace) (hs : List HelpPlace) (w
   follow-start StartLl v n zero s e = start line1 n zero
   follow-start StartVl v n zero s e = start line23 n zero
   follow-start StartSc v n zero s e =
-      let l : Local = GhostMachine.begin line12 (λ k. getD v k 0) f in
+      let l : Local = GhostMachine.begin line12 (cells v) f in
       on-words _ _ Accepted (GhostMachine.wStart p n h) l
-      (words-offer N W ws _ _ _ (r .words) _ _ p v hp (e refl) (keeps z p (λ m. m) l (λ m. m .returned) refl (λ _. refl)) (ap (λ m. m .offered) (upd-same (z .loc) p l)) (λ q ne. ap (λ m. m .offered) (upd-other (z .loc) p q l ne))) (begins line12 (λ k. getD v k 0) zero) refl refl
+      (words-offer N W ws _ _ _ (r .words) _ _ p v hp (e refl) (keeps z p (λ m. m) l (λ m. m .returned) refl (λ _. refl)) (ap (λ m. m .offered) (upd-same (z .loc) p l)) (λ q ne. ap (λ m. m .offered) (upd-other (z .loc) p q l ne))) (begins line12 (cells v) zero) refl refl
   follow-start Step v n zero s e = absurd (contra s refl)

@@ -8,7 +8,7 @@ use lib.Dec.{ltb, eqb}
 use Rattle.linearization.proofs.Updates.{upd, upd-same, upd-other, by-test, by-test₂}
 use Rattle.linearization.proofs.GhostMachine
 use Rattle.linearization.proofs.GhostMachine.{Local, Shared, State, quiet, noisy}
-use Rattle.linearization.proofs.WordLists.{tab}
+use Rattle.linearization.proofs.WordLists.{wordsOf}
 use Rattle.model.specs.Points.{Point, idle, line1, line2, line3, line4, line5, line6, line7, line7copy, line8, line9, line10, line11, line12, line12valid, line13, line14, line14valid, line15, line17, line18, line19, line23}
 use Rattle.model.specs.Object.{Kind, ll, sc, vl}
 use Rattle.model.specs.History.{Slot, none, running, stepped}
@@ -40,7 +40,7 @@ slotOf line19 st c w = running (sc w) st c
 slotOf line23 st c w = running vl st c
 
 abbrev pub slotIn : ℕ → State → ℕ → Slot
-slotIn W s p = slotOf (s .loc p .point) (s .sh .start p) (s .loc p .count) (tab W (s .loc p .offered))
+slotIn W s p = slotOf (s .loc p .point) (s .sh .start p) (s .loc p .count) (wordsOf W (s .loc p .offered))
 
 -- the slot after a step at point y of a process whose word place is k: one step more, or none where the step answers
 abbrev pub slotAfterStep : ℕ → Point → ℕ → Slot → Slot
@@ -76,13 +76,13 @@ pub record SlotStep (W p : ℕ) (slot : Slot) (s s′ : State) : Type 0 where
 module _ (N W p t : ℕ) (s : State) where
   -- g changes links only
   on-write : (h : Shared) (g : Local → Local) (k : Local) (own : Slot) → h .start ≡ s .sh .start → ((l : Local) → g l .point ≡ l .point) → ((l : Local) → g l .count ≡ l .count) → ((l : Local) → g l .offered ≡ l .offered)
-      → slotOf (k .point) (s .sh .start p) (k .count) (tab W (k .offered)) ≡ own → SlotStep W p own s (noisy s p h g k)
+      → slotOf (k .point) (s .sh .start p) (k .count) (wordsOf W (k .offered)) ≡ own → SlotStep W p own s (noisy s p h g k)
   on-write h g k own e a b c o = record {
     others = λ q ne. rw (upd-other (λ q. g (s .loc q)) p q k ne, e, a (s .loc q), b (s .loc q), c (s .loc q));
     own = rw (upd-same (λ q. g (s .loc q)) p k, e) o;
   }
 
-  on-quiet : (k : Local) (own : Slot) → slotOf (k .point) (s .sh .start p) (k .count) (tab W (k .offered)) ≡ own → SlotStep W p own s (quiet s p k)
+  on-quiet : (k : Local) (own : Slot) → slotOf (k .point) (s .sh .start p) (k .count) (wordsOf W (k .offered)) ≡ own → SlotStep W p own s (quiet s p k)
   on-quiet k own o = on-write (s .sh) (λ l. l) k own refl (λ _. refl) (λ _. refl) (λ _. refl) o
 
   abbrev l : Local
@@ -94,14 +94,14 @@ module _ (N W p t : ℕ) (s : State) where
   abbrev more-ll : running ll (s .sh .start p) (suc (l .count)) ≡ running ll (s .sh .start p) (l .count + 1)
   more-ll = more ll
 
-  abbrev more-sc : running (sc (tab W (l .offered))) (s .sh .start p) (suc (l .count)) ≡ running (sc (tab W (l .offered))) (s .sh .start p) (l .count + 1)
-  more-sc = more (sc (tab W (l .offered)))
+  abbrev more-sc : running (sc (wordsOf W (l .offered))) (s .sh .start p) (suc (l .count)) ≡ running (sc (wordsOf W (l .offered))) (s .sh .start p) (l .count + 1)
+  more-sc = more (sc (wordsOf W (l .offered)))
 
   abbrev after : Point → Slot
-  after y = slotAfterStep W y (l .word) (slotOf y (s .sh .start p) (l .count) (tab W (l .offered)))
+  after y = slotAfterStep W y (l .word) (slotOf y (s .sh .start p) (l .count) (wordsOf W (l .offered)))
 
   -- a run of words, read
-  on-words : (y z : Point) (k : Local) (own : Slot) → slotOf y (s .sh .start p) (suc (k .count)) (tab W (k .offered)) ≡ own → slotOf z (s .sh .start p) (suc (k .count)) (tab W (k .offered)) ≡ own → SlotStep W p own s (quiet s p (GhostMachine.word W y z k))
+  on-words : (y z : Point) (k : Local) (own : Slot) → slotOf y (s .sh .start p) (suc (k .count)) (wordsOf W (k .offered)) ≡ own → slotOf z (s .sh .start p) (suc (k .count)) (wordsOf W (k .offered)) ≡ own → SlotStep W p own s (quiet s p (GhostMachine.word W y z k))
   on-words y z k own a b = by-test (λ j. SlotStep W p own s (quiet s p j)) (ltb (suc (k .word)) W) (λ _. on-quiet _ own a) (λ _. on-quiet _ own b)
 
   slot-at : (y : Point) → l .point ≡ y → SlotStep W p (after y) s (GhostMachine.stepAt N W y t p s)
@@ -135,7 +135,7 @@ module _ (N W p t : ℕ) (s : State) where
   slot-step = slot-at (l .point) refl
 
 -- a start opens p's call, at command n and with no step, and leaves the others'
-pub slot-start : (W p n : ℕ) (y : Point) (w : ℕ → ℕ) (s : State) → SlotStep W p (slotOf y n 0 (tab W w)) s (noisy s p (GhostMachine.wStart p n (s .sh)) (λ l. l) (GhostMachine.begin y w (s .loc p)))
+pub slot-start : (W p n : ℕ) (y : Point) (w : ℕ → ℕ) (s : State) → SlotStep W p (slotOf y n 0 (wordsOf W w)) s (noisy s p (GhostMachine.wStart p n (s .sh)) (λ l. l) (GhostMachine.begin y w (s .loc p)))
 slot-start W p n y w s = record {
   others = λ q ne. rw (upd-other (λ q. s .loc q) p q (GhostMachine.begin y w (s .loc p)) ne, upd-other (s .sh .start) p q n ne);
   own = rw (upd-same (λ q. s .loc q) p (GhostMachine.begin y w (s .loc p)), upd-same (s .sh .start) p n);

@@ -15,7 +15,7 @@ use Rattle.linearization.specs.Buffers.{written, lastWritten, succeeds, 
 use Rattle.linearization.proofs.Updates.{upd, upd-same, by-test, by-test₂}
 use Rattle.linearization.proofs.GhostMachine
 use Rattle.linearization.proofs.GhostMachine.{Local, State}
-use Rattle.linearization.proofs.WordLists.{tab}
+use Rattle.linearization.proofs.WordLists.{wordsOf}
 use Rattle.linearization.proofs.ListFacts.{map-append}
 use Rattle.linearization.proofs.GhostRuns.{Cmd, exec, starts, scCall, callAt, callF, callsF}
 use Rattle.linearization.proofs.PointFacts.{isIdle}
@@ -36,11 +36,11 @@ lastWritten-append v (c ∷ cs) ds = lastWritten-append (written (c .kind) (c .a
 -- from the state s to s′ the calls ts were answered
 pub record Wrote (W : ℕ) (s : State) (ts : List Timed) (s′ : State) : Type 0 where
   pub number : successes (callsOf ts) + s .sh .successes ≡ s′ .sh .successes
-  pub words : lastWritten (tab W (s .sh .values (s .sh .successes))) (callsOf ts) ≡ tab W (s′ .sh .values (s′ .sh .successes))
+  pub words : lastWritten (wordsOf W (s .sh .values (s .sh .successes))) (callsOf ts) ≡ wordsOf W (s′ .sh .values (s′ .sh .successes))
 
 -- nothing answered, and the shared ghosts as before
 quiet-call : (W : ℕ) (s s′ : State) → s′ .sh .successes ≡ s .sh .successes → s′ .sh .values ≡ s .sh .values → Wrote W s [] s′
-quiet-call W s s′ a b = record { number = zero-add (s .sh .successes) ∙ sym a; words = ap₂ (λ v i. tab W (v i)) (sym b) (sym a) }
+quiet-call W s s′ a b = record { number = zero-add (s .sh .successes) ∙ sym a; words = ap₂ (λ v i. wordsOf W (v i)) (sym b) (sym a) }
 
 module _ (N W n p : ℕ) (s : State) where
   abbrev l : Local
@@ -52,11 +52,11 @@ module _ (N W n p : ℕ) (s : State) where
       (GhostMachine.noisy s p (GhostMachine.wEnd p (l .linkX) n (s .sh)) (λ l. l) (GhostMachine.rest (l .answered) l)))
   success true e = record {
     number = ap (λ t. succeeds (scTruth t) + 0 + s .sh .successes) e ∙ (let z : 1 + 0 + s .sh .successes ≡ suc (s .sh .successes) = omega arith in z);
-    words = ap (λ t. written (sc (tab W (l .offered))) (scTruth t) (tab W (s .sh .values (s .sh .successes)))) e ∙ ap (tab W) (sym (upd-same (s .sh .values) (suc (s .sh .successes)) (l .offered)));
+    words = ap (λ t. written (sc (wordsOf W (l .offered))) (scTruth t) (wordsOf W (s .sh .values (s .sh .successes)))) e ∙ ap (wordsOf W) (sym (upd-same (s .sh .values) (suc (s .sh .successes)) (l .offered)));
   }
   success false e = record {
     number = ap (λ t. succeeds (scTruth t) + 0 + s .sh .successes) e ∙ (let z : 0 + 0 + s .sh .successes ≡ s .sh .successes = omega arith in z);
-    words = ap (λ t. written (sc (tab W (l .offered))) (scTruth t) (tab W (s .sh .values (s .sh .successes)))) e;
+    words = ap (λ t. written (sc (wordsOf W (l .offered))) (scTruth t) (wordsOf W (s .sh .values (s .sh .successes)))) e;
   }
 
   at-point : (y : Point) → Wrote W s (callAt N W y n p s) (GhostMachine.stepAt N W y n p s)
@@ -103,7 +103,7 @@ module _ (N W : ℕ) where
   then : (s t u : State) (now rest : List Timed) → Wrote W s now t → Wrote W t rest u → Wrote W s (now ++ rest) u
   then s t u now rest a b = record {
     number = ap (λ cs. successes cs + s .sh .successes) (map-append (λ (t : Timed). t .call) now rest) ∙ ap (λ k. k + s .sh .successes) (successes-append (callsOf now) (callsOf rest)) ∙ (let x = a .number in let y = b .number in omega arith);
-    words = ap (lastWritten (tab W (s .sh .values (s .sh .successes)))) (map-append (λ (t : Timed). t .call) now rest) ∙ lastWritten-append _ (callsOf now) (callsOf rest) ∙ ap (λ v. lastWritten v (callsOf rest)) (a .words) ∙ b .words;
+    words = ap (lastWritten (wordsOf W (s .sh .values (s .sh .successes)))) (map-append (λ (t : Timed). t .call) now rest) ∙ lastWritten-append _ (callsOf now) (callsOf rest) ∙ ap (λ v. lastWritten v (callsOf rest)) (a .words) ∙ b .words;
   }
 
   -- over every list of commands

@@ -3,7 +3,7 @@ use Rattle.model.specs.Linearizable.{Demand3}
 use Rattle.linearization.specs.OwnDoing.{NeverForItsOwnDoing}
 use Rattle.linearization.specs.Buffers.{EveryBufferOnce, WordsStay}
 use Rattle.linearization.proofs.BufferTheorems
-use Rattle.linearization.proofs.SetUpSimulation.{set-up-admits}
+use Rattle.linearization.proofs.SetUpSimulation.{set-up-halves}
 use Rattle.linearization.proofs.CommandRuns.{holds-along, sound}
 use Rattle.linearization.proofs.DemandThree.{demand-three}
 
@@ -13,7 +13,7 @@ demand-3 = demand-three
 
 -- After a set-up no command is refused by rows 1, 2, 3 or 9.
 pub never-for-its-own-doing : NeverForItsOwnDoing
-never-for-its-own-doing m shaped n w value cs e c = let hW = set-up-admits m n w value e .sizes .w-low in sound n w hW _ _ _ (holds-along m shaped n w value e hW cs) c
+never-for-its-own-doing m shaped n w value cs e c = let hW = set-up-halves m n w value e in sound n w hW _ _ _ (holds-along m shaped n w value e hW cs) c
 
 -- After a set-up and any commands the 3N buffer numbers are each found exactly once among owned and kept.
 pub every-buffer-once : EveryBufferOnce

@@ -28,7 +28,7 @@ doLine2Number k p x q = record { place = llX x p; process = toNumber k (withX (x
 
 -- `doWord` by number
 abbrev pub doWordNumber : ℕ → ℕ → Process → WordStep
-doWordNumber w k q = record { process = cond (ltb (q .word + 1) w) (nextWord q) (toNumber k (firstWord q)); reply = Accepted }
+doWordNumber m k q = record { process = cond (ltb (q .word + 1) m) (nextWord q) (toNumber k (firstWord q)); reply = Accepted }
 
 -- At a point's number each is `model`'s definition at the point.
 pub to-at : (y : Point) (q : Process) → toNumber (lineNumber y) q ≡ to y q

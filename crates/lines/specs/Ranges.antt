@@ -8,9 +8,9 @@ pub record Stepping (p : ProcessNumber) (q : Process) : Type 0 where
   pub link : p .0 < 16
   pub count : q .count < 4294967296
 
--- A line that moves a word: its word place is one of W.
-pub record Moving (w : ℕ) (q : Process) : Type 0 where
-  pub word : q .word < w
+-- A line that moves a half word: its word place is one of a run's m.
+pub record Moving (m : ℕ) (q : Process) : Type 0 where
+  pub word : q .word < m
   pub count : q .count < 4294967296
 
 -- N processes have places.

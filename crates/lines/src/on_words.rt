@@ -1,4 +1,4 @@
-// The lines of Figure 2 that move words, one word to a step: what they make of their own process. w is W.
+// The lines of Figure 2 that move words, one half word to a step: what they make of their own process. `moves` is how many a run has.
 ghost use mathlib.Core.Path.{_≡_};
 ghost use Rattle.model.specs.Lines.{doLine11};
 ghost use Rattle.lines.specs.Numbered.{doWordNumber};
@@ -8,13 +8,13 @@ use model::Process;
 use model::Reply;
 use model::WordStep;
 
-// Lines 3, 6, 7's copy and 17: another line follows the last word.
-pub fn do_word(w: usize, line: u8, process: Process) -> WordStep
-    requires { ⌜ Moving w process ⌝ }
-    ensures { λ r. ⌜ r ≡ doWordNumber w line process ⌝ }
+// Lines 3, 6, 7's copy and 17: another line follows the last move.
+pub fn do_word(moves: usize, line: u8, process: Process) -> WordStep
+    requires { ⌜ Moving moves process ⌝ }
+    ensures { λ r. ⌜ r ≡ doWordNumber moves line process ⌝ }
 {
     let word = process.word;
-    if word + 1 < w {
+    if word + 1 < moves {
         return WordStep {
             process: records::next_word(process),
             reply: Reply::Accepted,
@@ -27,14 +27,14 @@ pub fn do_word(w: usize, line: u8, process: Process) -> WordStep
     }
 }
 
-// Line 11: the last word answers.
-pub fn do_line_11(w: usize, process: Process) -> WordStep
-    requires { ⌜ Moving w process ⌝ }
-    ensures { λ r. ⌜ r ≡ doLine11 w process ⌝ }
+// Line 11: the last move answers.
+pub fn do_line_11(moves: usize, process: Process) -> WordStep
+    requires { ⌜ Moving moves process ⌝ }
+    ensures { λ r. ⌜ r ≡ doLine11 moves process ⌝ }
 {
     let word = process.word;
     let count = process.count;
-    if word + 1 < w {
+    if word + 1 < moves {
         return WordStep {
             process: records::next_word(process),
             reply: Reply::Accepted,

@@ -19,7 +19,7 @@ unfolding quoted llLine truthLine endLine answerHead wordsOf decimal digits
 case-A = refl
 
 -- two words
-two-words : llLine 15 263 (0 ∷ 4294967295 ∷ []) ≡ quoted "15 L 263 0 4294967295\n"
+two-words : llLine 15 519 (0 ∷ 4294967295 ∷ []) ≡ quoted "15 L 519 0 4294967295\n"
 unfolding quoted llLine answerHead wordsOf decimal digits
 two-words = refl
 

@@ -14,7 +14,7 @@ process-digits : (p : ℕ) → p < 16 → length (decimal p) ≤ 2
 unfolding tens
 process-digits p h = at-most 2 p (omega arith) (omega arith)
 
-pub count-digits : (n : ℕ) → n ≤ 263 → length (decimal n) ≤ 3
+pub count-digits : (n : ℕ) → n ≤ 519 → length (decimal n) ≤ 3
 unfolding tens
 count-digits n h = at-most 3 n (omega arith) (omega arith)
 
@@ -30,7 +30,7 @@ entries-digits e h = at-most 5 e (omega arith) (omega arith)
 pub joined : (a b : List ℕ) (m n : ℕ) → length a ≤ m → length b ≤ n → length (a ++ b) ≤ m + n
 joined a b m n p q = omega (arith, length-append a b)
 
-pub head-length : (p letter count : ℕ) → p < 16 → count ≤ 263 → length (answerHead p letter count) ≤ 8
+pub head-length : (p letter count : ℕ) → p < 16 → count ≤ 519 → length (answerHead p letter count) ≤ 8
 unfolding answerHead
 head-length p letter count h k = joined (decimal p) (space ∷ letter ∷ space ∷ decimal count) 2 6 (process-digits p h) (omega (arith, count-digits count k))
 
@@ -39,7 +39,7 @@ unfolding wordsOf
 words-length [] h = omega arith
 words-length (w ∷ ws) h = omega (arith, length-append (decimal w) (wordsOf ws), word-digits w (h 0), words-length ws (λ i. h (suc i)))
 
-pub ll-length : (p count : ℕ) (ws : List ℕ) → p < 16 → count ≤ 263 → length ws ≤ 64 → ((i : ℕ) → getD ws i 0 ≤ 4294967295) → length (llLine p count ws) ≤ 713
+pub ll-length : (p count : ℕ) (ws : List ℕ) → p < 16 → count ≤ 519 → length ws ≤ 64 → ((i : ℕ) → getD ws i 0 ≤ 4294967295) → length (llLine p count ws) ≤ 713
 unfolding llLine
 ll-length p count ws h k l m = joined (answerHead p letterL count) (wordsOf ws ++ lineFeed ∷ []) 8 705 (head-length p letterL count h k) (joined (wordsOf ws) (lineFeed ∷ []) 704 1 (omega (arith, words-length ws m)) (omega arith))
 
@@ -47,7 +47,7 @@ truth-three : (b : Bool) → length (truth b) ≤ 3
 truth-three true = omega arith
 truth-three false = omega arith
 
-pub truth-length : (p letter count : ℕ) (b : Bool) → p < 16 → count ≤ 263 → length (truthLine p letter count b) ≤ 11
+pub truth-length : (p letter count : ℕ) (b : Bool) → p < 16 → count ≤ 519 → length (truthLine p letter count b) ≤ 11
 unfolding truthLine
 truth-length p letter count b h k = joined (answerHead p letter count) (truth b) 8 3 (head-length p letter count h k) (truth-three b)
 

@@ -18,8 +18,8 @@ digits-of k n p h = at-most k n p h
 
 -- an answer line of a text run, with its process, its count of own steps and what was answered
 pub data Answer : List ℕ → Type 0 where
-  ll : (p count : ℕ) (ws : List ℕ) → p < 16 → count ≤ 263 → length ws ≤ 64 → ((i : ℕ) → getD ws i 0 ≤ 4294967295) → Answer (llLine p count ws)
-  truth : (p letter count : ℕ) (b : Bool) → p < 16 → count ≤ 263 → Answer (truthLine p letter count b)
+  ll : (p count : ℕ) (ws : List ℕ) → p < 16 → count ≤ 519 → length ws ≤ 64 → ((i : ℕ) → getD ws i 0 ≤ 4294967295) → Answer (llLine p count ws)
+  truth : (p letter count : ℕ) (b : Bool) → p < 16 → count ≤ 519 → Answer (truthLine p letter count b)
 
 -- a last line of a text run
 pub data Last : List ℕ → Type 0 where

@@ -10,6 +10,7 @@ use Rattle.model.specs.declared.Bench.{Bench}
 use Rattle.model.specs.declared.Process.{Process}
 use Rattle.model.specs.declared.Order.{Order}
 use Rattle.model.specs.Records.{recordAt}
+use Rattle.model.specs.Sizes.{halves, busyMost}
 use Rattle.model.specs.Refusals.{row1, row2, row4, row5, row6, row7, row9, inRange, processOk, bufferOk, sequenceOk, xOk, lineOk, countOk, isIdle, bringsValue}
 use Rattle.machine.specs.Lengths.{row3Lent, row8Lent}
 use Rattle.machine.specs.Decision.{decisionNumber, lateNumber, InOrder}
@@ -52,17 +53,17 @@ pub record InRange (n w : ℕ) (q : Process) : Type 0 where
   pub x-buf : q .x .buf .0 < 3 * n
   pub x-seq : q .x .seq .0 < 2 * n
   pub b-buf : q .b .0 < 3 * n
-  pub word : q .word < w
+  pub word : q .word < halves w
   pub count : q .count < 4294967296
 
-count-small : (idle : Bool) (k w : ℕ) → w ≤ 64 → leb k (cond idle 0 (4 * w + 6)) ≡ true → k < 4294967296
+count-small : (idle : Bool) (k w : ℕ) → w ≤ 64 → leb k (cond idle 0 (busyMost w)) ≡ true → k < 4294967296
 count-small true k w h e = omega (arith, leb-true k 0 e)
-count-small false k w h e = omega (arith, leb-true k (4 * w + 6) e)
+count-small false k w h e = omega (arith, leb-true k (busyMost w) e)
 
 pub in-range : (n w : ℕ) (q : Process) → w ≤ 64 → processOk n w q ≡ true → InRange n w q
 in-range n w q h e =
     let k = countOk w q in
-    let lt = ltb (q .word) w in
+    let lt = ltb (q .word) (halves w) in
     let l = lineOk q in
     let be = bufferOk n (q .e) in
     let bd = bufferOk n (q .d) in
@@ -83,7 +84,7 @@ in-range n w q h e =
       x-buf = ltb-true (q .x .buf .0) (3 * n) (left (bufferOk n (q .x .buf)) (sequenceOk n (q .x .seq)) ex);
       x-seq = ltb-true (q .x .seq .0) (2 * n) (right (bufferOk n (q .x .buf)) (sequenceOk n (q .x .seq)) ex);
       b-buf = ltb-true (q .b .0) (3 * n) (left bb (bc && (bd && (be && (l && (lt && k))))) e2);
-      word = ltb-true (q .word) w (left lt k e7);
+      word = ltb-true (q .word) (halves w) (left lt k e7);
       count = count-small (isIdle q) (q .count) w h (right lt k e7);
     }
 

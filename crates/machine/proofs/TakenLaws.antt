@@ -17,6 +17,7 @@ use Rattle.model.specs.declared.HelpStep.{HelpStep}
 use Rattle.model.specs.declared.WordStep.{WordStep}
 use Rattle.model.specs.declared.Moved.{Moved}
 use Rattle.model.specs.Tables.{noBank, noHelp, bankAt, helpAt}
+use Rattle.model.specs.Sizes.{halves}
 use Rattle.model.specs.Points.{Point, idle, line1, line2, line3, line4, line5, line6, line7, line7copy, line8, line9, line10, line11, line12, line12valid, line13, line14, line14valid, line15, line17, line18, line19, line23}
 use Rattle.model.specs.Lines.{doLine1, doLine2, doLine4, doLine7, doLine8, doLine9, doLine10, doLine12, doLine12Valid, doLine13, doLine14, doLine14Valid, doLine15, doLine18, doLine19, doLine23, doWord, doLine11}
 use Rattle.model.specs.Machine.{stepAt, onX, onBank, onHelp}
@@ -43,23 +44,23 @@ module _ (p : ProcessNumber) (b : Bench) (q : Process) (ws : List ℕ) where
   step-by-taken idle = word-law idle (record { process = q; reply = Accepted }) ws
   step-by-taken line1 = help-law line1 doLine1
   step-by-taken line2 = x-law line2 (doLine2 line3 p)
-  step-by-taken line3 = word-law line3 (doWord (b .w) line4 q) _
+  step-by-taken line3 = word-law line3 (doWord (halves (b .w)) line4 q) _
   step-by-taken line4 = help-law line4 (doLine4 p)
   step-by-taken line5 = x-law line5 (doLine2 line6 p)
-  step-by-taken line6 = word-law line6 (doWord (b .w) line7 q) _
+  step-by-taken line6 = word-law line6 (doWord (halves (b .w)) line7 q) _
   step-by-taken line7 = x-law line7 (doLine7 p)
-  step-by-taken line7copy = word-law line7copy (doWord (b .w) line8 q) _
+  step-by-taken line7copy = word-law line7copy (doWord (halves (b .w)) line8 q) _
   step-by-taken line8 = help-law line8 (doLine8 p)
   step-by-taken line9 = help-law line9 (doLine9 p)
   step-by-taken line10 = help-law line10 doLine10
-  step-by-taken line11 = word-law line11 (doLine11 (b .w) q) _
+  step-by-taken line11 = word-law line11 (doLine11 (halves (b .w)) q) _
   step-by-taken line12 = bank-law line12 (doLine12 p)
   step-by-taken line12valid = x-law line12valid (doLine12Valid p)
   step-by-taken line13 = bank-law line13 (doLine13 p)
   step-by-taken line14 = help-law line14 (doLine14 p)
   step-by-taken line14valid = x-law line14valid (doLine14Valid p)
   step-by-taken line15 = help-law line15 (doLine15 p)
-  step-by-taken line17 = word-law line17 (doWord (b .w) line18 q) _
+  step-by-taken line17 = word-law line17 (doWord (halves (b .w)) line18 q) _
   step-by-taken line18 = bank-law line18 doLine18
   step-by-taken line19 = x-law line19 (doLine19 (b .n) p)
   step-by-taken line23 = x-law line23 (doLine23 p)

@@ -8,6 +8,7 @@ use Rattle.model.specs.declared.ProcessNumber.{ProcessNumber}
 use Rattle.model.specs.declared.Bench.{Bench}
 use Rattle.model.specs.declared.Process.{Process}
 use Rattle.model.specs.declared.Order.{Order}
+use Rattle.model.specs.Sizes.{halves}
 use Rattle.model.specs.Refusals.{bringsValue}
 
 -- N, W and the lent words are as rows 1 to 3 ask, the process is one of N
@@ -25,7 +26,7 @@ pub record Ready (n w : ℕ) (q : Process) (p : ProcessNumber) (ws : List ℕ) :
   pub x-buf : q .x .buf .0 < 3 * n
   pub x-seq : q .x .seq .0 < 2 * n
   pub b-buf : q .b .0 < 3 * n
-  pub word : q .word < w
+  pub word : q .word < halves w
   pub count : q .count < 4294967296
 
 -- and an SC's value has W words

@@ -4,6 +4,7 @@ ghost use Prim.Native.Nat.{_*_, _≤_};
 ghost use mathlib.Core.Bool.{_&&_};
 ghost use lib.Dec.{ltb};
 ghost use lib.ListN.{take};
+ghost use Rattle.model.specs.Sizes.{halves};
 ghost use Rattle.model.specs.Refusals.{every, bufferOk, sequenceOk, xOk, linksOk, xPlaceOk, bankPlaceOk, helpPlaceOk, lineOk, countOk, processOk, benchOk};
 use crate::records::Records;
 use lines::points;
@@ -113,7 +114,7 @@ pub fn line_ok(process: Process) -> bool
     line <= points::LINE_14_VALID
 }
 
-// An idle process has count 0, a busy one at most 4W+6.
+// An idle process has count 0, a busy one at most 8W+6.
 pub fn count_ok(w: usize, process: Process) -> bool
     requires { ⌜ w ≤ 64 ⌝ }
     ensures { λ r. ⌜ r ≡ countOk w process ⌝ }
@@ -122,19 +123,19 @@ pub fn count_ok(w: usize, process: Process) -> bool
     if process.line == points::IDLE {
         return count <= 0;
     }
-    count <= 4 * w + 6
+    count <= 8 * w + 6
 }
 
 // The line, the word place and the count of a process.
 fn progress_ok(w: usize, process: Process) -> bool
     requires { ⌜ w ≤ 64 ⌝ }
-    ensures { λ r. ⌜ r ≡ (lineOk process && (ltb (process .word) w && countOk w process)) ⌝ }
+    ensures { λ r. ⌜ r ≡ (lineOk process && (ltb (process .word) (halves w) && countOk w process)) ⌝ }
 {
     let word = process.word;
     if !line_ok(process) {
         return false;
     }
-    if word >= w {
+    if word >= 2 * w {
         return false;
     }
     count_ok(w, process)

@@ -2,7 +2,7 @@
 ghost use mathlib.Core.Path.{_≡_};
 ghost use Prim.Native.Nat.{_+_, _*_, _<_, _≤_};
 ghost use lib.ListN.{length};
-ghost use Rattle.model.specs.Words.{bufferWord, returnWord, offerWord, copied};
+ghost use Rattle.model.specs.Words.{bufferWord, returnWord, offerWord, half, withHalf, copiedHalf};
 use model::BufferNumber;
 use model::ProcessNumber;
 
@@ -30,10 +30,33 @@ pub fn offer_word(n: usize, w: usize, p: ProcessNumber, k: usize) -> usize
     (4 * n + p.0 as usize) * w + k
 }
 
-// One word is copied whole. Both are places that the functions above give.
-pub fn copy_word(words: &mut [u64], from: usize, to: usize)
-    requires { ⌜ (from < length (now words)) × (to < length (now words)) ⌝ }
-    ensures { λ _. ⌜ now (words .exit) ≡ copied (now (words .entry)) from to ⌝ }
+// How many values a half word has.
+pub const HALF_VALUES: u64 = 4294967296;
+
+// The half of place k, low where k is even, of the word v.
+pub fn half(k: usize, v: u64) -> u64
+    ensures { λ r. ⌜ r ≡ half k v ⌝ }
 {
-    words[to] = words[from];
+    if k % 2 == 0 {
+        return v % HALF_VALUES;
+    }
+    v / HALF_VALUES
+}
+
+// The word v with the half of place k taken from u.
+pub fn with_half(k: usize, u: u64, v: u64) -> u64
+    ensures { λ r. ⌜ r ≡ withHalf k u v ⌝ }
+{
+    if k % 2 == 0 {
+        return v / HALF_VALUES * HALF_VALUES + u % HALF_VALUES;
+    }
+    u / HALF_VALUES * HALF_VALUES + v % HALF_VALUES
+}
+
+// One half of a word is copied. Both words are places that the functions above give.
+pub fn copy_half(words: &mut [u64], k: usize, from: usize, to: usize)
+    requires { ⌜ (from < length (now words)) × (to < length (now words)) ⌝ }
+    ensures { λ _. ⌜ now (words .exit) ≡ copiedHalf (now (words .entry)) k from to ⌝ }
+{
+    words[to] = with_half(k, words[from], words[to]);
 }

@@ -1,14 +1,17 @@
--- The bench runs A to J of 01, over the definitions: one list, and one theorem that runs through it.
+-- The bench runs A to J of 01, with the counts of half moves (02, CR 4), over the definitions: one list, and one theorem that runs through it.
 use mathlib.Core.Path.{_≡_, refl}
 use mathlib.Core.List.{List, [], _∷_, _++_}
 use mathlib.Core.Bool.{true, false}
+use mathlib.Core.Logic.{inl, inr}
+use native.Mathlib.Omega.{arith}
 use Rattle.model.specs.Machine.{stepAt, obey}
 use Rattle.model.specs.Refusals.{inRange}
 use Rattle.model.specs.Command.{command, refusal}
 use Rattle.model.specs.SetUp.{setUp, setUpRefusal}
 use Rattle.model.specs.Replies.{llWords, scTruth, vlTruth}
-use Rattle.model.specs.History.{events}
-use Rattle.model.proofs.Schedules.{l, v, s, steps, answer, refusal as no, Run, Right}
+use Rattle.model.specs.History.{events, calls, callsFrom}
+use Rattle.model.specs.Linearizable.{All, Counted}
+use Rattle.model.proofs.Schedules.{l, v, s, steps, answer, refusal as no, Run, Right, eventsOf}
 
 -- 0l 0! 0s7 0! 1l 1! 0v 0!
 abbrev runA : Run
@@ -16,9 +19,9 @@ runA = record {
   n = 2;
   w = 1;
   k = 5;
-  entries = 26;
-  commands = l 0 ++ steps 8 0 ++ s 1 0 7 ++ steps 5 0 ++ l 1 ++ steps 8 1 ++ v 0 ++ steps 1 0;
-  shows = answer 0 (llWords (5 ∷ [])) 8 ∷ answer 0 (scTruth true) 5 ∷ answer 1 (llWords (7 ∷ [])) 8 ∷ answer 0 (vlTruth false) 1 ∷ [];
+  entries = 31;
+  commands = l 0 ++ steps 10 0 ++ s 1 0 7 ++ steps 6 0 ++ l 1 ++ steps 10 1 ++ v 0 ++ steps 1 0;
+  shows = answer 0 (llWords (5 ∷ [])) 10 ∷ answer 0 (scTruth true) 6 ∷ answer 1 (llWords (7 ∷ [])) 10 ∷ answer 0 (vlTruth false) 1 ∷ [];
 }
 
 -- 0l 2(0.) 1l 1! 1s7 1! 0! 0v 0!
@@ -27,20 +30,20 @@ runB = record {
   n = 2;
   w = 1;
   k = 5;
-  entries = 30;
-  commands = l 0 ++ steps 2 0 ++ l 1 ++ steps 8 1 ++ s 1 1 7 ++ steps 7 1 ++ steps 8 0 ++ v 0 ++ steps 1 0;
-  shows = answer 1 (llWords (5 ∷ [])) 8 ∷ answer 1 (scTruth true) 7 ∷ answer 0 (llWords (7 ∷ [])) 10 ∷ answer 0 (vlTruth true) 1 ∷ [];
+  entries = 36;
+  commands = l 0 ++ steps 2 0 ++ l 1 ++ steps 10 1 ++ s 1 1 7 ++ steps 8 1 ++ steps 11 0 ++ v 0 ++ steps 1 0;
+  shows = answer 1 (llWords (5 ∷ [])) 10 ∷ answer 1 (scTruth true) 8 ∷ answer 0 (llWords (7 ∷ [])) 13 ∷ answer 0 (vlTruth true) 1 ∷ [];
 }
 
--- 0l 2(0.) 1l 1! 1s7 1! 4(0.) 1l 1! 1s9 1! 0! 0v 0!
+-- 0l 2(0.) 1l 1! 1s7 1! 6(0.) 1l 1! 1s9 1! 0! 0v 0!
 abbrev runC : Run
 runC = record {
   n = 2;
   w = 1;
   k = 5;
-  entries = 48;
-  commands = l 0 ++ steps 2 0 ++ l 1 ++ steps 8 1 ++ s 1 1 7 ++ steps 7 1 ++ steps 4 0 ++ l 1 ++ steps 8 1 ++ s 1 1 9 ++ steps 7 1 ++ steps 5 0 ++ v 0 ++ steps 1 0;
-  shows = answer 1 (llWords (5 ∷ [])) 8 ∷ answer 1 (scTruth true) 7 ∷ answer 1 (llWords (7 ∷ [])) 8 ∷ answer 1 (scTruth true) 7 ∷ answer 0 (llWords (5 ∷ [])) 11 ∷ answer 0 (vlTruth false) 1 ∷ [];
+  entries = 58;
+  commands = l 0 ++ steps 2 0 ++ l 1 ++ steps 10 1 ++ s 1 1 7 ++ steps 8 1 ++ steps 6 0 ++ l 1 ++ steps 10 1 ++ s 1 1 9 ++ steps 8 1 ++ steps 7 0 ++ v 0 ++ steps 1 0;
+  shows = answer 1 (llWords (5 ∷ [])) 10 ∷ answer 1 (scTruth true) 8 ∷ answer 1 (llWords (7 ∷ [])) 10 ∷ answer 1 (scTruth true) 8 ∷ answer 0 (llWords (5 ∷ [])) 15 ∷ answer 0 (vlTruth false) 1 ∷ [];
 }
 
 -- 1 1 5: 0l 0! 0s6 0! 0s7 0!
@@ -49,9 +52,9 @@ runD = record {
   n = 1;
   w = 1;
   k = 5;
-  entries = 21;
-  commands = l 0 ++ steps 8 0 ++ s 1 0 6 ++ steps 5 0 ++ s 1 0 7 ++ steps 5 0;
-  shows = answer 0 (llWords (5 ∷ [])) 8 ∷ answer 0 (scTruth true) 5 ∷ answer 0 (scTruth false) 5 ∷ [];
+  entries = 25;
+  commands = l 0 ++ steps 10 0 ++ s 1 0 6 ++ steps 6 0 ++ s 1 0 7 ++ steps 6 0;
+  shows = answer 0 (llWords (5 ∷ [])) 10 ∷ answer 0 (scTruth true) 6 ∷ answer 0 (scTruth false) 6 ∷ [];
 }
 
 -- 0l 0! 1l 1! 0s6 0! 1s7 1!
@@ -60,9 +63,9 @@ runE = record {
   n = 2;
   w = 1;
   k = 5;
-  entries = 30;
-  commands = l 0 ++ steps 8 0 ++ l 1 ++ steps 8 1 ++ s 1 0 6 ++ steps 5 0 ++ s 1 1 7 ++ steps 5 1;
-  shows = answer 0 (llWords (5 ∷ [])) 8 ∷ answer 1 (llWords (5 ∷ [])) 8 ∷ answer 0 (scTruth true) 5 ∷ answer 1 (scTruth false) 5 ∷ [];
+  entries = 36;
+  commands = l 0 ++ steps 10 0 ++ l 1 ++ steps 10 1 ++ s 1 0 6 ++ steps 6 0 ++ s 1 1 7 ++ steps 6 1;
+  shows = answer 0 (llWords (5 ∷ [])) 10 ∷ answer 1 (llWords (5 ∷ [])) 10 ∷ answer 0 (scTruth true) 6 ∷ answer 1 (scTruth false) 6 ∷ [];
 }
 
 -- 0l 0! 0s7 0! 1l 1! 1s9 1!
@@ -71,9 +74,9 @@ runF = record {
   n = 2;
   w = 1;
   k = 5;
-  entries = 32;
-  commands = l 0 ++ steps 8 0 ++ s 1 0 7 ++ steps 5 0 ++ l 1 ++ steps 8 1 ++ s 1 1 9 ++ steps 7 1;
-  shows = answer 0 (llWords (5 ∷ [])) 8 ∷ answer 0 (scTruth true) 5 ∷ answer 1 (llWords (7 ∷ [])) 8 ∷ answer 1 (scTruth true) 7 ∷ [];
+  entries = 38;
+  commands = l 0 ++ steps 10 0 ++ s 1 0 7 ++ steps 6 0 ++ l 1 ++ steps 10 1 ++ s 1 1 9 ++ steps 8 1;
+  shows = answer 0 (llWords (5 ∷ [])) 10 ∷ answer 0 (scTruth true) 6 ∷ answer 1 (llWords (7 ∷ [])) 10 ∷ answer 1 (scTruth true) 8 ∷ [];
 }
 
 -- 0s1, 0., 0l 0l, 2l
@@ -92,3 +95,17 @@ runJ = record { n = 2; w = 1; k = 5; entries = 0; commands = l 2; shows = no 4 �
 pub runs-A-to-J : Right (runA ∷ runB ∷ runC ∷ runD ∷ runE ∷ runF ∷ runG ∷ runH ∷ runI ∷ runJ ∷ [])
 unfolding command refusal inRange stepAt obey setUp setUpRefusal events
 runs-A-to-J = (refl, (refl, (refl, (refl, (refl, (refl, (refl, (refl, (refl, (refl, (refl, (refl, (refl, (refl, (refl, (refl, (refl, (refl, (refl, (refl, tt))))))))))))))))))))
+
+-- The answers of run B are counted as demand 3 says, at W = 1: 4W+6, 2W+6, 6W+7 and 1.
+pub run-B-counted : All (Counted 1) (calls (eventsOf runB))
+unfolding command refusal inRange stepAt obey setUp setUpRefusal events callsFrom
+run-B-counted = (
+  record { true-count = refl; own-steps = inr (inl refl) },
+  (
+    record { true-count = refl; own-steps = (omega arith, omega arith) },
+    (
+      record { true-count = refl; own-steps = inr (inr (inl refl)) },
+      (record { true-count = refl; own-steps = refl }, tt),
+    ),
+  ),
+)

@@ -6,6 +6,7 @@ use mathlib.Core.List.{List, [], _∷_, map}
 use mathlib.Core.Bool.{cond}
 use lib.Dec.{leb}
 use lib.ListN.{length}
+use Rattle.model.specs.Sizes.{llMost, scMost}
 use Rattle.model.specs.Machine.{Memory, Shaped}
 use Rattle.model.specs.SetUp.{setUp}
 use Rattle.model.specs.Replies.{Answer}
@@ -17,10 +18,10 @@ abbrev pub All {ℓ} : {A : Type ℓ} → (A → Type 0) → List A → Type 0
 All P [] = Unit {0}
 All P (a ∷ rest) = P a × All P rest
 
--- "2W+5, 2W+6, 3W+7 or 4W+7 for LL, W+4 to W+8 for SC, 1 for VL"
+-- "4W+5, 4W+6, 6W+7 and 8W+7 for LL, and 2W+4 to 2W+8 for SC; VL stays 1"
 abbrev pub OwnSteps : ℕ → Kind → ℕ → Type 0
-OwnSteps w ll s = (s ≡ 2 * w + 5) ⊎ ((s ≡ 2 * w + 6) ⊎ ((s ≡ 3 * w + 7) ⊎ (s ≡ 4 * w + 7)))
-OwnSteps w (sc offered) s = (w + 4 ≤ s) × (s ≤ w + 8)
+OwnSteps w ll s = (s ≡ 4 * w + 5) ⊎ ((s ≡ 4 * w + 6) ⊎ ((s ≡ 6 * w + 7) ⊎ (s ≡ llMost w)))
+OwnSteps w (sc offered) s = (2 * w + 4 ≤ s) × (s ≤ scMost w)
 OwnSteps w vl s = s ≡ 1
 
 -- "each answer brings the true count of own steps"
@@ -30,8 +31,8 @@ pub record Counted (w : ℕ) (c : Call) : Type 0 where
 
 -- "open calls have fewer than their kind's largest"
 abbrev pub largest : ℕ → Kind → ℕ
-largest w ll = 4 * w + 7
-largest w (sc offered) = w + 8
+largest w ll = llMost w
+largest w (sc offered) = scMost w
 largest w vl = 1
 
 abbrev pub OpenCounted : ℕ → Slot → Type 0

@@ -87,14 +87,14 @@ doLine19 n p x q = record {
 abbrev pub doLine23 : ProcessNumber → XPlace → Process → XStep
 doLine23 p x q = record { place = x; process = rest q; reply = VlAnswered (linked (x .links) p) (q .count + 1) }
 
--- The lines that move words, one word to a step: 3, 6, 7's copy and 17. "A run of W word steps goes on from the word place it finds ..
--- and leaves it at 0 after its last word." y is the line that follows the last word, w is W.
+-- The lines that move words, one half word to a step: 3, 6, 7's copy and 17. "A run of .. word steps goes on from the word place it finds ..
+-- and leaves it at 0 after its last word." y is the line that follows the last move, m is the moves of a run.
 abbrev pub doWord : ℕ → Point → Process → WordStep
-doWord w y q = record { process = cond (ltb (q .word + 1) w) (nextWord q) (to y (firstWord q)); reply = Accepted }
+doWord m y q = record { process = cond (ltb (q .word + 1) m) (nextWord q) (to y (firstWord q)); reply = Accepted }
 
 -- Line 11: "The last word answers.", and leaves the mark that an LL was answered.
 abbrev pub doLine11 : ℕ → Process → WordStep
-doLine11 w q = record {
-  process = cond (ltb (q .word + 1) w) (nextWord q) (rest (marked (firstWord q)));
-  reply = cond (ltb (q .word + 1) w) Accepted (LlAnswered (q .count + 1));
+doLine11 m q = record {
+  process = cond (ltb (q .word + 1) m) (nextWord q) (rest (marked (firstWord q)));
+  reply = cond (ltb (q .word + 1) m) Accepted (LlAnswered (q .count + 1));
 }

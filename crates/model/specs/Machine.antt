@@ -21,7 +21,8 @@ use Rattle.model.specs.declared.HelpStep.{HelpStep}
 use Rattle.model.specs.declared.WordStep.{WordStep}
 use Rattle.model.specs.declared.Moved.{Moved}
 use Rattle.model.specs.Tables.{bankAt, helpAt, putX, putBank, putHelp, next, helped}
-use Rattle.model.specs.Words.{bufferWord, returnWord, offerWord, copied}
+use Rattle.model.specs.Sizes.{halves}
+use Rattle.model.specs.Words.{bufferWord, returnWord, offerWord, wordOf, copiedHalf}
 use Rattle.model.specs.Points.{Point, pointOf, idle, line1, line2, line3, line4, line5, line6, line7, line7copy, line8, line9, line10, line11, line12, line12valid, line13, line14, line14valid, line15, line17, line18, line19, line23}
 use Rattle.model.specs.Records.{begin}
 use Rattle.model.specs.Lines.{doLine1, doLine2, doLine4, doLine7, doLine8, doLine9, doLine10, doLine12, doLine12Valid, doLine13, doLine14, doLine14Valid, doLine15, doLine18, doLine19, doLine23, doWord, doLine11}
@@ -37,7 +38,7 @@ pub record Shaped (m : Memory) : Type 0 where
   pub bank : length (m .bench .bank) ≡ 32
   pub help : length (m .bench .help) ≡ 16
 
--- A step touches one shared item: X, Bank[i], Help[i] or one word of a buffer. Each of these takes the item out, lets the line work on it
+-- A step touches one shared item: X, Bank[i], Help[i] or one half word of a buffer. Each of these takes the item out, lets the line work on it
 -- and on the own process, and puts it back; b is the bench, q the own record, ws the lent words.
 abbrev pub onX : (XPlace → Process → XStep) → Bench → Process → List ℕ → Moved × List ℕ
 onX line b q ws = (record { bench = putX b (line (b .x) q .place); process = line (b .x) q .process; reply = line (b .x) q .reply }, ws)
@@ -48,36 +49,36 @@ onBank i line b q ws = (record { bench = putBank b i (line (bankAt b i) q .place
 abbrev pub onHelp : ProcessNumber → (HelpPlace → Process → HelpStep) → Bench → Process → List ℕ → Moved × List ℕ
 onHelp i line b q ws = (record { bench = putHelp b i (line (helpAt b i) q .place); process = line (helpAt b i) q .process; reply = Accepted }, ws)
 
--- a word of BUF[f], at the word place, into p's return area
+-- a half word of BUF[f], at the word place, into p's return area
 abbrev pub onRead : ProcessNumber → BufferNumber → WordStep → Bench → Process → List ℕ → Moved × List ℕ
-onRead p f step b q ws = (record { bench = b; process = step .process; reply = step .reply }, copied ws (bufferWord (b .w) f (q .word)) (returnWord (b .n) (b .w) p (q .word)))
+onRead p f step b q ws = (record { bench = b; process = step .process; reply = step .reply }, copiedHalf ws (q .word) (bufferWord (b .w) f (wordOf (q .word))) (returnWord (b .n) (b .w) p (wordOf (q .word))))
 
--- the word at `from`, of p's return or offer area, into BUF[mybuf] at the word place
+-- a half of the word at `from`, of p's return or offer area, into BUF[mybuf] at the word place
 abbrev pub onWrite : ℕ → WordStep → Bench → Process → List ℕ → Moved × List ℕ
-onWrite from step b q ws = (record { bench = b; process = step .process; reply = step .reply }, copied ws from (bufferWord (b .w) (q .mybuf) (q .word)))
+onWrite from step b q ws = (record { bench = b; process = step .process; reply = step .reply }, copiedHalf ws (q .word) from (bufferWord (b .w) (q .mybuf) (wordOf (q .word))))
 
 -- Figure 2, point by point. (A step at an idle process is refused, row 6.)
 unfoldable pub stepAt : Point → ProcessNumber → Bench → Process → List ℕ → Moved × List ℕ
 stepAt idle p b q ws = (record { bench = b; process = q; reply = Accepted }, ws)
 stepAt line1 p b q ws = onHelp p doLine1 b q ws
 stepAt line2 p b q ws = onX (doLine2 line3 p) b q ws
-stepAt line3 p b q ws = onRead p (q .x .buf) (doWord (b .w) line4 q) b q ws
+stepAt line3 p b q ws = onRead p (q .x .buf) (doWord (halves (b .w)) line4 q) b q ws
 stepAt line4 p b q ws = onHelp p (doLine4 p) b q ws
 stepAt line5 p b q ws = onX (doLine2 line6 p) b q ws
-stepAt line6 p b q ws = onRead p (q .x .buf) (doWord (b .w) line7 q) b q ws
+stepAt line6 p b q ws = onRead p (q .x .buf) (doWord (halves (b .w)) line7 q) b q ws
 stepAt line7 p b q ws = onX (doLine7 p) b q ws
-stepAt line7copy p b q ws = onRead p (q .b) (doWord (b .w) line8 q) b q ws
+stepAt line7copy p b q ws = onRead p (q .b) (doWord (halves (b .w)) line8 q) b q ws
 stepAt line8 p b q ws = onHelp p (doLine8 p) b q ws
 stepAt line9 p b q ws = onHelp p (doLine9 p) b q ws
 stepAt line10 p b q ws = onHelp p doLine10 b q ws
-stepAt line11 p b q ws = onWrite (returnWord (b .n) (b .w) p (q .word)) (doLine11 (b .w) q) b q ws
+stepAt line11 p b q ws = onWrite (returnWord (b .n) (b .w) p (wordOf (q .word))) (doLine11 (halves (b .w)) q) b q ws
 stepAt line12 p b q ws = onBank (q .x .seq) (doLine12 p) b q ws
 stepAt line12valid p b q ws = onX (doLine12Valid p) b q ws
 stepAt line13 p b q ws = onBank (q .x .seq) (doLine13 p) b q ws
 stepAt line14 p b q ws = onHelp (helped (b .n) (q .x .seq)) (doLine14 p) b q ws
 stepAt line14valid p b q ws = onX (doLine14Valid p) b q ws
 stepAt line15 p b q ws = onHelp (helped (b .n) (q .x .seq)) (doLine15 p) b q ws
-stepAt line17 p b q ws = onWrite (offerWord (b .n) (b .w) p (q .word)) (doWord (b .w) line18 q) b q ws
+stepAt line17 p b q ws = onWrite (offerWord (b .n) (b .w) p (wordOf (q .word))) (doWord (halves (b .w)) line18 q) b q ws
 stepAt line18 p b q ws = onBank (next (b .n) (q .x .seq)) doLine18 b q ws
 stepAt line19 p b q ws = onX (doLine19 (b .n) p) b q ws
 stepAt line23 p b q ws = onX (doLine23 p) b q ws

@@ -14,6 +14,7 @@ use Rattle.model.specs.declared.Bench.{Bench}
 use Rattle.model.specs.declared.Process.{Process}
 use Rattle.model.specs.declared.Order.{Order}
 use Rattle.model.specs.declared.Order.the-variants.{StartLl, StartSc, StartVl, Step}
+use Rattle.model.specs.Sizes.{halves, busyMost}
 use Rattle.model.specs.Points.{Point, lineNumber, idle, busyPoints}
 use Rattle.model.specs.Records.{recordAt}
 use Rattle.model.specs.Machine.{Memory}
@@ -77,7 +78,7 @@ bankPlaceOk n k = bufferOk n (k .content) && linksOk n (k .links)
 abbrev pub helpPlaceOk : ℕ → HelpPlace → Bool
 helpPlaceOk n h = leb (h .content .flag) 1 && (bufferOk n (h .content .buf) && linksOk n (h .links))
 
--- "a line that is neither idle nor a step named above", "a busy count above 4W+6, an idle count above 0"
+-- "a line that is neither idle nor a step named above", "a busy count above 8W+6, an idle count above 0"
 abbrev pub isIdle : Process → Bool
 isIdle q = eqb (q .line) (lineNumber idle)
 
@@ -85,13 +86,13 @@ abbrev pub lineOk : Process → Bool
 lineOk q = isIdle q || some (λ y. eqb (q .line) (lineNumber y)) busyPoints
 
 abbrev pub countOk : ℕ → Process → Bool
-countOk w q = leb (q .count) (cond (isIdle q) 0 (4 * w + 6))
+countOk w q = leb (q .count) (cond (isIdle q) 0 (busyMost w))
 
--- a process record; "a word place not below W"
+-- a process record; the word place counts halves, "below 2W"
 abbrev pub processOk : ℕ → ℕ → Process → Bool
 processOk n w q =
     bufferOk n (q .mybuf) && (xOk n (q .x) && (bufferOk n (q .b) && (bufferOk n (q .c) && (bufferOk n (q .d) && (bufferOk n (q .e) &&
-    (lineOk q && (ltb (q .word) w && countOk w q)))))))
+    (lineOk q && (ltb (q .word) (halves w) && countOk w q)))))))
 
 abbrev pub benchOk : Bench → Bool
 benchOk b = xPlaceOk (b .n) (b .x) && (every (bankPlaceOk (b .n)) (take (2 * b .n) (b .bank)) && every (helpPlaceOk (b .n)) (take (b .n) (b .help)))

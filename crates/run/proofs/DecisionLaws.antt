@@ -8,6 +8,7 @@ use lib.Dec.{leb, ltb}
 use lib.ListN.{length, getD, take, drop, length-take, List·getD-eq-default}
 use lib.Seq.{getD-take, getD-drop}
 use borrow.Author.Tests.{leb-true, ltb-true, ltb-false}
+use Rattle.model.specs.Sizes.{halves, busyMost}
 use Rattle.model.specs.Replies.{numberOf}
 use Rattle.model.specs.declared.Bench.{Bench}
 use Rattle.model.specs.declared.Process.{Process}
@@ -28,20 +29,20 @@ use Rattle.run.proofs.WordLaws.{Below}
 use Rattle.run.proofs.ObeyLaws.{Plain, accepted, ll, sc, vl, plain-none}
 use Rattle.run.proofs.CommandLaws.{Decides, obeys, refuses}
 
--- row 9: "a busy count above 4W+6"
-count-most : (idle : Bool) (k w : ℕ) → leb k (cond idle 0 (4 * w + 6)) ≡ true → k ≤ 4 * w + 6
+-- row 9: "a busy count above 8W+6"
+count-most : (idle : Bool) (k w : ℕ) → leb k (cond idle 0 (busyMost w)) ≡ true → k ≤ busyMost w
 count-most true k w e = omega (arith, leb-true k 0 e)
-count-most false k w e = leb-true k (4 * w + 6) e
+count-most false k w e = leb-true k (busyMost w) e
 
 last-of : (a b c d e f g h k : Bool) → (a && (b && (c && (d && (e && (f && (g && (h && k)))))))) ≡ true → k ≡ true
 last-of a b c d e f g h k t =
     right h k (right g (h && k) (right f (g && (h && k)) (right e (f && (g && (h && k))) (right d (e && (f && (g && (h && k))))
     (right c (d && (e && (f && (g && (h && k))))) (right b (c && (d && (e && (f && (g && (h && k)))))) (right a (b && (c && (d && (e && (f && (g && (h && k))))))) t)))))))
 
-count-in : (n w : ℕ) (q : Process) → processOk n w q ≡ true → q .count ≤ 4 * w + 6
+count-in : (n w : ℕ) (q : Process) → processOk n w q ≡ true → q .count ≤ busyMost w
 count-in n w q e =
     count-most (isIdle q) (q .count) w
-    (last-of (bufferOk n (q .mybuf)) (xOk n (q .x)) (bufferOk n (q .b)) (bufferOk n (q .c)) (bufferOk n (q .d)) (bufferOk n (q .e)) (lineOk q) (ltb (q .word) w) (countOk w q) e)
+    (last-of (bufferOk n (q .mybuf)) (xOk n (q .x)) (bufferOk n (q .b)) (bufferOk n (q .c)) (bufferOk n (q .d)) (bufferOk n (q .e)) (lineOk q) (ltb (q .word) (halves w)) (countOk w q) e)
 
 -- the words of an LL's answer are words of the 5N rows
 module _ (n w p : ℕ) (ws : List ℕ) (h : p < n) (b : Below (5 * n * w) ws) where
@@ -60,7 +61,7 @@ module _ (n w p : ℕ) (ws : List ℕ) (h : p < n) (b : Below (5 * n * w) ws) wh
       let k = ltb-false i w t in
       rw (List·getD-eq-default area 0 {n = i} (omega (arith, length-take w (drop from ws)))) (omega arith)
 
-  pub answer-fits : (k : ℕ) (r : Reply) → Plain k r → p < 16 → w ≤ 64 → k ≤ 263 → length (answerLine n w ws p r) ≤ 713
+  pub answer-fits : (k : ℕ) (r : Reply) → Plain k r → p < 16 → w ≤ 64 → k ≤ 519 → length (answerLine n w ws p r) ≤ 713
   answer-fits k _ accepted l m c = omega arith
   answer-fits k _ ll l m c = ll-length p k area l c (omega (arith, length-take w (drop from ws))) (λ i. area-at i (ltb i w) refl)
   answer-fits k _ (sc {t = t}) l m c = omega (arith, truth-length p 83 k t l c)
@@ -86,7 +87,7 @@ module _ (b : Bench) (list : List Process) (len p : ℕ) (o : Order) (v ws : Lis
     pub few : numberOf (x .0 .reply) ≤ 15
 
   module _ (sixteen : length list ≡ 16) where
-    own-count : Cleared b list len p o (length v) (length ws) → getD list p noProcess .count ≤ 4 * b .w + 6
+    own-count : Cleared b list len p o (length v) (length ws) → getD list p noProcess .count ≤ busyMost (b .w)
     unfolding inRange
     own-count c =
         let e : every (processOk (b .n) (b .w)) (take (b .n) list) ≡ true = right (benchOk b) (every (processOk (b .n) (b .w)) (take (b .n) list)) (c .range) in

@@ -9,6 +9,7 @@ use types.Run.{OneOf, miss}
 use denote.Enum.Declared.{tagOf}
 use lib.Dec.{eqb}
 use borrow.Author.Tests.{eq-eqb, ne-eqb, eqb-true, not-false}
+use Rattle.model.specs.Sizes.{llMost}
 use Rattle.model.specs.Records.{recordAt}
 use Rattle.model.specs.Refusals.{isIdle, isStart}
 use Rattle.notation.specs.declared.Entry.{Entry}
@@ -91,7 +92,7 @@ carry-single (Step p) o b = record { same = b .same; kept = b .kept }
 carry-single (Finish p) o b = absurd (miss (0 ∷ 1 ∷ 2 ∷ 3 ∷ []) 4 tt o)
 
 -- `!` is steps until an answer, `.` is one
-pub carry-finish : {len p : ℕ} {h h′ : Held} (e : Entry) → e ≡ Finish p → h .run .stop ≡ 0 → Becomes len (steps 13 (4 * h .run .bench .w + 7) p) h h′ → Becomes len (carry e) h h′
+pub carry-finish : {len p : ℕ} {h h′ : Held} (e : Entry) → e ≡ Finish p → h .run .stop ≡ 0 → Becomes len (steps 13 (llMost (h .run .bench .w)) p) h h′ → Becomes len (carry e) h h′
 unfolding carry
 carry-finish {h = h} e q z b = rw q (record { same = b .same ∙ simp (eq-eqb (h .run .stop) 0 z); kept = b .kept })
 

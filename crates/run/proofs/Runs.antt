@@ -20,7 +20,7 @@ use Rattle.notation.specs.FirstLine.{starting, inside, step, whole, proceed, re
 use Rattle.listing.specs.Decimal.{digits, decimal}
 use Rattle.listing.specs.Lines.{answerHead, wordsOf, llLine, truthLine, endLine, refusedLine}
 use Rattle.access.specs.Accesses.{accessOf}
-use Rattle.access.specs.TraceLines.{quoted, spaced, bracketed, headText, itemText, valuesText, truthText, storedText, writtenText, actText, endText, stepLine, broughtText, startLine}
+use Rattle.access.specs.TraceLines.{quoted, spaced, bracketed, headText, halfText, halfPlaceText, itemText, valuesText, truthText, storedText, writtenText, actText, endText, stepLine, broughtText, startLine}
 use Rattle.run.specs.TextRun.{single, steps, carry, carryAll, runWith}
 
 -- a text, and what a run of it writes
@@ -77,17 +77,17 @@ should room r = let bs = quoted (r .shows) in record { written = length bs; list
 pub runs : List Run
 runs =
     -- A
-    record { text = "2 1 5\n0l 0! 0s7 0! 1l 1! 0v 0!\n"; shows = "0 L 8 5\n0 S 5 1\n1 L 8 7\n0 V 1 0\nend 26\n" } ∷
+    record { text = "2 1 5\n0l 0! 0s7 0! 1l 1! 0v 0!\n"; shows = "0 L 10 5\n0 S 6 1\n1 L 10 7\n0 V 1 0\nend 31\n" } ∷
     -- B
-    record { text = "2 1 5\n0l 2(0.) 1l 1! 1s7 1! 0! 0v 0!\n"; shows = "1 L 8 5\n1 S 7 1\n0 L 10 7\n0 V 1 1\nend 30\n" } ∷
+    record { text = "2 1 5\n0l 2(0.) 1l 1! 1s7 1! 0! 0v 0!\n"; shows = "1 L 10 5\n1 S 8 1\n0 L 13 7\n0 V 1 1\nend 36\n" } ∷
     -- C
-    record { text = "2 1 5\n0l 2(0.) 1l 1! 1s7 1! 4(0.) 1l 1! 1s9 1! 0! 0v 0!\n"; shows = "1 L 8 5\n1 S 7 1\n1 L 8 7\n1 S 7 1\n0 L 11 5\n0 V 1 0\nend 48\n" } ∷
+    record { text = "2 1 5\n0l 2(0.) 1l 1! 1s7 1! 6(0.) 1l 1! 1s9 1! 0! 0v 0!\n"; shows = "1 L 10 5\n1 S 8 1\n1 L 10 7\n1 S 8 1\n0 L 15 5\n0 V 1 0\nend 58\n" } ∷
     -- D
-    record { text = "1 1 5\n0l 0! 0s6 0! 0s7 0!\n"; shows = "0 L 8 5\n0 S 5 1\n0 S 5 0\nend 21\n" } ∷
+    record { text = "1 1 5\n0l 0! 0s6 0! 0s7 0!\n"; shows = "0 L 10 5\n0 S 6 1\n0 S 6 0\nend 25\n" } ∷
     -- E
-    record { text = "2 1 5\n0l 0! 1l 1! 0s6 0! 1s7 1!\n"; shows = "0 L 8 5\n1 L 8 5\n0 S 5 1\n1 S 5 0\nend 30\n" } ∷
+    record { text = "2 1 5\n0l 0! 1l 1! 0s6 0! 1s7 1!\n"; shows = "0 L 10 5\n1 L 10 5\n0 S 6 1\n1 S 6 0\nend 36\n" } ∷
     -- F
-    record { text = "2 1 5\n0l 0! 0s7 0! 1l 1! 1s9 1!\n"; shows = "0 L 8 5\n0 S 5 1\n1 L 8 7\n1 S 7 1\nend 32\n" } ∷
+    record { text = "2 1 5\n0l 0! 0s7 0! 1l 1! 1s9 1!\n"; shows = "0 L 10 5\n0 S 6 1\n1 L 10 7\n1 S 8 1\nend 38\n" } ∷
     -- G
     record { text = "2 1 5\n0s1\n"; shows = "refused 7 0\n" } ∷
     -- H
@@ -108,9 +108,9 @@ traces =
     -- a refused entry has no line
     record { text = "2 1 5\n0l 0l\n"; shows = "1 0 start L\nrefused 5 1\n" } ∷
     -- A
-    record { text = "2 1 5\n0l 0! 0s7 0! 1l 1! 0v 0!\n"; shows = "1 0 start L\n2 0 1 Help[0] write 1 4 links cleared\n3 0 2 X LL 0 0 link set\n4 0 3 BUF[0][0] read 5\n5 0 4 Help[0] LL 1 4 link set\n6 0 8 Help[0] LL 1 4 link set\n7 0 9 Help[0] SC 0 4 true links cleared\n8 0 10 Help[0] read 0 4\n9 0 11 BUF[4][0] write 5 answers 0 L 8 5\n10 0 start S 7\n11 0 12 Bank[0] LL 0 link set\n12 0 14 Help[0] LL 0 4 link set\n13 0 17 BUF[4][0] write 7\n14 0 18 Bank[1] read 1\n15 0 19 X SC 4 1 true links cleared answers 0 S 5 1\n16 1 start L\n17 1 1 Help[1] write 1 5 links cleared\n18 1 2 X LL 4 1 link set\n19 1 3 BUF[4][0] read 7\n20 1 4 Help[1] LL 1 5 link set\n21 1 8 Help[1] LL 1 5 link set\n22 1 9 Help[1] SC 0 5 true links cleared\n23 1 10 Help[1] read 0 5\n24 1 11 BUF[5][0] write 7 answers 1 L 8 7\n25 0 start V\n26 0 23 X VL false answers 0 V 1 0\nend 26\n" } ∷
+    record { text = "2 1 5\n0l 0! 0s7 0! 1l 1! 0v 0!\n"; shows = "1 0 start L\n2 0 1 Help[0] write 1 4 links cleared\n3 0 2 X LL 0 0 link set\n4 0 3 BUF[0][0] low read 5\n5 0 3 BUF[0][0] high read 0\n6 0 4 Help[0] LL 1 4 link set\n7 0 8 Help[0] LL 1 4 link set\n8 0 9 Help[0] SC 0 4 true links cleared\n9 0 10 Help[0] read 0 4\n10 0 11 BUF[4][0] low write 5\n11 0 11 BUF[4][0] high write 0 answers 0 L 10 5\n12 0 start S 7\n13 0 12 Bank[0] LL 0 link set\n14 0 14 Help[0] LL 0 4 link set\n15 0 17 BUF[4][0] low write 7\n16 0 17 BUF[4][0] high write 0\n17 0 18 Bank[1] read 1\n18 0 19 X SC 4 1 true links cleared answers 0 S 6 1\n19 1 start L\n20 1 1 Help[1] write 1 5 links cleared\n21 1 2 X LL 4 1 link set\n22 1 3 BUF[4][0] low read 7\n23 1 3 BUF[4][0] high read 0\n24 1 4 Help[1] LL 1 5 link set\n25 1 8 Help[1] LL 1 5 link set\n26 1 9 Help[1] SC 0 5 true links cleared\n27 1 10 Help[1] read 0 5\n28 1 11 BUF[5][0] low write 7\n29 1 11 BUF[5][0] high write 0 answers 1 L 10 7\n30 0 start V\n31 0 23 X VL false answers 0 V 1 0\nend 31\n" } ∷
     []
 
 pub traces-line-by-line : map (runs-to true 2000) traces ≡ map (should 2000) traces
-unfolding dirtyX dirtyBank dirtyHelp dirtyProcess lent dirtyBytes runs-to should traces runWith read readFrom proceed step starting inside whole scan go move said more onDigit atEnd kindOf times carryAll carry steps single command refusal obey stepAt inRange setUp setUpRefusal llLine truthLine endLine refusedLine answerHead wordsOf decimal digits accessOf spaced bracketed headText itemText valuesText truthText storedText writtenText actText endText stepLine broughtText startLine
+unfolding dirtyX dirtyBank dirtyHelp dirtyProcess lent dirtyBytes runs-to should traces runWith read readFrom proceed step starting inside whole scan go move said more onDigit atEnd kindOf times carryAll carry steps single command refusal obey stepAt inRange setUp setUpRefusal llLine truthLine endLine refusedLine answerHead wordsOf decimal digits accessOf spaced bracketed headText halfText halfPlaceText itemText valuesText truthText storedText writtenText actText endText stepLine broughtText startLine
 traces-line-by-line = refl

@@ -9,6 +9,7 @@ use lib.Dec.{eqb, ltb, leb}
 use borrow.Author.Tests.{eqb-true, eqb-false}
 use lib.ListN.{length, take, drop, take-append-drop, drop-of-length-le, replicate}
 use lib.Seq.{length-take-le, take-all}
+use Rattle.model.specs.Sizes.{llMost}
 use Rattle.model.specs.Replies.{numberOf}
 use Rattle.model.specs.declared.Process.{Process}
 use Rattle.model.specs.declared.Reply.{Reply}
@@ -144,8 +145,8 @@ module _ (t : List Process) where
   carry-frame (Step p) s h = single-frame s h (Step p)
   carry-frame (Finish p) s h = go (eqb (s .stop) 0)
     where
-      go : (b : Bool) → cond b (finish (4 * s .memory .bench .w + 7) p (longer t s)) (longer t s) ≡ longer t (cond b (finish (4 * s .memory .bench .w + 7) p s) s)
-      go true = steps-frame 13 (4 * s .memory .bench .w + 7) p s h
+      go : (b : Bool) → cond b (finish (llMost (s .memory .bench .w)) p (longer t s)) (longer t s) ≡ longer t (cond b (finish (llMost (s .memory .bench .w)) p s) s)
+      go true = steps-frame 13 (llMost (s .memory .bench .w)) p s h
       go false = refl
 
   carry-sixteen : (e : Entry) (s : Progress) → Sixteen s → Sixteen (carry e s)
@@ -156,8 +157,8 @@ module _ (t : List Process) where
   carry-sixteen (Step p) s h = single-sixteen s h (Step p)
   carry-sixteen (Finish p) s h = go (eqb (s .stop) 0)
     where
-      go : (b : Bool) → Sixteen (cond b (finish (4 * s .memory .bench .w + 7) p s) s)
-      go true = steps-sixteen 13 (4 * s .memory .bench .w + 7) p s h
+      go : (b : Bool) → Sixteen (cond b (finish (llMost (s .memory .bench .w)) p s) s)
+      go true = steps-sixteen 13 (llMost (s .memory .bench .w)) p s h
       go false = h
 
   carry-all-frame : (es : List Entry) (s : Progress) → Sixteen s → carryAll es (longer t s) ≡ longer t (carryAll es s)

@@ -8,6 +8,7 @@ use lib.ListN.{length, getD, take}
 use Rattle.model.specs.declared.Process.{Process}
 use Rattle.model.specs.declared.Reply.{Reply}
 use Rattle.model.specs.declared.Reply.the-variants.{Refused, Accepted, LlAnswered, ScAnswered, VlAnswered}
+use Rattle.model.specs.Sizes.{llMost}
 use Rattle.model.specs.Words.{returnArea}
 use Rattle.model.specs.Records.{noProcess, recordAt}
 use Rattle.model.specs.Refusals.{isStart}
@@ -124,7 +125,7 @@ mostSteps w (StartLl p) = 1
 mostSteps w (StartVl p) = 1
 mostSteps w (StartSc p k) = 1
 mostSteps w (Step p) = 1
-mostSteps w (Finish p) = 4 * w + 7
+mostSteps w (Finish p) = llMost w
 
 abbrev pub lastNumber : Entry → ℕ
 lastNumber (StartLl p) = 0

@@ -10,6 +10,7 @@ use Rattle.model.specs.declared.Order.{Order}
 use Rattle.model.specs.declared.Order.the-variants
 use Rattle.model.specs.declared.Reply.{Reply}
 use Rattle.model.specs.declared.Reply.the-variants.{Refused, Accepted, LlAnswered, ScAnswered, VlAnswered}
+use Rattle.model.specs.Sizes.{llMost}
 use Rattle.model.specs.Words.{returnArea}
 use Rattle.model.specs.Records.{recordAt}
 use Rattle.model.specs.Points.{pointOf}
@@ -137,7 +138,7 @@ unfoldable pub steps : ℕ → ℕ → ℕ → Progress → Progress
 steps k zero p s = stopped k s
 steps k (suc left) p s = cond (unanswered p (single (Step p) s)) (steps k left p (single (Step p) s)) (single (Step p) s)
 
--- row 13: "`!` unanswered after 4W+7 steps"
+-- row 13: "`!` unanswered after 8W+7 steps"
 abbrev pub finish : ℕ → ℕ → Progress → Progress
 finish left p s = steps 13 left p s
 
@@ -147,7 +148,7 @@ carry (StartLl p) s = single (StartLl p) s
 carry (StartVl p) s = single (StartVl p) s
 carry (StartSc p k) s = single (StartSc p k) s
 carry (Step p) s = single (Step p) s
-carry (Finish p) s = cond (eqb (s .stop) 0) (finish (4 * s .memory .bench .w + 7) p s) s
+carry (Finish p) s = cond (eqb (s .stop) 0) (finish (llMost (s .memory .bench .w)) p s) s
 
 unfoldable pub carryAll : List Entry → Progress → Progress
 carryAll [] s = s

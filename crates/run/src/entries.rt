@@ -78,7 +78,7 @@ pub fn is_beside(e: Entry, stop: u8, traced: bool) -> bool
     model::is_start(order_of(e))
 }
 
-// How many steps an entry makes at most: `.` one, `!` 4W+7.
+// How many steps an entry makes at most: `.` one, `!` 8W+7.
 pub fn most_steps(e: Entry, w: usize) -> usize
     requires { ⌜ w ≤ 64 ⌝ }
     ensures { λ r. ⌜ r ≡ mostSteps w e ⌝ }
@@ -88,7 +88,7 @@ pub fn most_steps(e: Entry, w: usize) -> usize
         Entry::StartVl(_) => 1,
         Entry::StartSc(_, _) => 1,
         Entry::Step(_) => 1,
-        Entry::Finish(_) => 4 * w + 7,
+        Entry::Finish(_) => 8 * w + 7,
     }
 }
 

@@ -1,6 +1,7 @@
 // `!` and the other entries.
 ghost use Prim.Native.Nat.{_+_, _*_};
 ghost use mathlib.Core.Path.{_≡_};
+ghost use Rattle.model.specs.Sizes.{llMost};
 ghost use Rattle.run.specs.TextRun.{finish, carry};
 ghost use Rattle.run.specs.Held.{held, Sound, Becomes, Small, smallProcess};
 use crate::answers;
@@ -19,10 +20,10 @@ use notation::Entry;
 // The steps of `!` in a traced run, each a command of its own.
 fn finish(run: Run, len: usize, p: u64, words: &mut [u64], list: &mut [u8]) -> Run
     requires { ⌜ (smallProcess p) × (Sound len (held run (now words) (now list))) × (run .stop ≡ 0) ⌝ }
-    ensures { λ r. ⌜ Becomes len (finish (4 * run .bench .w + 7) p) (held run (now (words .entry)) (now (list .entry))) (held r (now (words .exit)) (now (list .exit))) ⌝ }
+    ensures { λ r. ⌜ Becomes len (finish (llMost (run .bench .w)) p) (held run (now (words .entry)) (now (list .entry))) (held r (now (words .exit)) (now (list .exit))) ⌝ }
 {
     let mut r = run;
-    let mut left = 4 * run.bench.w + 7;
+    let mut left = 8 * run.bench.w + 7;
     while 0 < left {
         r = commands::single(r, len, Entry::Step(p), words, list);
         if r.stop != 0 {

@@ -1,4 +1,4 @@
-//! Case A and the bench runs B to N, typed from document 01.
+//! Case A and the bench runs B to N of document 01, over half moves (02, CR 4).
 
 mod common;
 use common::listing;
@@ -13,7 +13,7 @@ fn check(schedule: &str, expected: &str) {
 #[test]
 fn case_a_whole() {
     let text = "2 1 5\n0l 0! 0s7 0! 1l 1! 0v 0!\n";
-    let expected = "0 L 8 5\n0 S 5 1\n1 L 8 7\n0 V 1 0\nend 26\n";
+    let expected = "0 L 10 5\n0 S 6 1\n1 L 10 7\n0 V 1 0\nend 31\n";
     assert_eq!(listing_of(text.as_bytes(), None).0, expected.as_bytes());
 }
 
@@ -21,21 +21,21 @@ fn case_a_whole() {
 fn run_b() {
     check(
         "0l 2(0.) 1l 1! 1s7 1! 0! 0v 0!",
-        "1 L 8 5 / 1 S 7 1 / 0 L 10 7 / 0 V 1 1 / end 30",
+        "1 L 10 5 / 1 S 8 1 / 0 L 13 7 / 0 V 1 1 / end 36",
     );
 }
 
 #[test]
 fn run_c() {
     check(
-        "0l 2(0.) 1l 1! 1s7 1! 4(0.) 1l 1! 1s9 1! 0! 0v 0!",
-        "1 L 8 5 / 1 S 7 1 / 1 L 8 7 / 1 S 7 1 / 0 L 11 5 / 0 V 1 0 / end 48",
+        "0l 2(0.) 1l 1! 1s7 1! 6(0.) 1l 1! 1s9 1! 0! 0v 0!",
+        "1 L 10 5 / 1 S 8 1 / 1 L 10 7 / 1 S 8 1 / 0 L 15 5 / 0 V 1 0 / end 58",
     );
 }
 
 #[test]
 fn run_d() {
-    let expected = "0 L 8 5 / 0 S 5 1 / 0 S 5 0 / end 21";
+    let expected = "0 L 10 5 / 0 S 6 1 / 0 S 6 0 / end 25";
     assert_eq!(listing("1 1 5\n0l 0! 0s6 0! 0s7 0!"), expected);
 }
 
@@ -43,7 +43,7 @@ fn run_d() {
 fn run_e() {
     check(
         "0l 0! 1l 1! 0s6 0! 1s7 1!",
-        "0 L 8 5 / 1 L 8 5 / 0 S 5 1 / 1 S 5 0 / end 30",
+        "0 L 10 5 / 1 L 10 5 / 0 S 6 1 / 1 S 6 0 / end 36",
     );
 }
 
@@ -51,7 +51,7 @@ fn run_e() {
 fn run_f() {
     check(
         "0l 0! 0s7 0! 1l 1! 1s9 1!",
-        "0 L 8 5 / 0 S 5 1 / 1 L 8 7 / 1 S 7 1 / end 32",
+        "0 L 10 5 / 0 S 6 1 / 1 L 10 7 / 1 S 8 1 / end 38",
     );
 }
 

@@ -42,15 +42,15 @@ fn entries_in_row_order() {
     assert_eq!(listing("2 1 5\n2v"), "refused 4 0");
     assert_eq!(listing("2 1 5\n0!"), "refused 6 0");
     assert_eq!(listing("2 1 5\n0l 0s1"), "refused 5 1");
-    assert_eq!(listing("2 1 5\n0l 0! 1v"), "0 L 8 5 / refused 7 9");
-    assert_eq!(listing("2 1 5\n0l 8(0.) 0!"), "0 L 8 5 / refused 6 9");
-    let many = "1 L 8 5 / ".repeat(255) + "refused 5 2296";
+    assert_eq!(listing("2 1 5\n0l 0! 1v"), "0 L 10 5 / refused 7 11");
+    assert_eq!(listing("2 1 5\n0l 10(0.) 0!"), "0 L 10 5 / refused 6 11");
+    let many = "1 L 10 5 / ".repeat(255) + "refused 5 2806";
     assert_eq!(listing("2 1 5\n0l 255(255(1l 1!) 0l)"), many);
 }
 
 #[test]
 fn sixty_thousand_entries() {
-    let most = format!("1 64 5\n{} 0l 59(0.)", repeat("0l 0!", 444));
+    let most = format!("1 64 5\n{} 0l 35(0.)", repeat("0l 0!", 228));
     assert_eq!(last_line(&most), "end 60000");
     for more in ["0.", "0!", "0l", "9l"] {
         assert_eq!(last_line(&format!("{most} {more}")), "refused 12 60000");
@@ -61,14 +61,14 @@ fn sixty_thousand_entries() {
 
 #[test]
 fn room_of_744_bytes() {
-    // 8,099 lines of 8 bytes: 744 bytes are left.
-    let edge = format!("1 1 5\n0l 0! {}", repeat("0v 0!", 8098));
+    // A line of 16 bytes and 8,097 of 8: 744 bytes are left.
+    let edge = format!("1 1 55555555\n0l 0! {}", repeat("0v 0!", 8097));
     assert_eq!(last_line(&edge), "end 16205");
     assert_eq!(last_line(&format!("{edge} 0v")), "end 16206");
     assert_eq!(last_line(&format!("{edge} 0v 0!")), "end 16207");
     assert_eq!(last_line(&format!("{edge} 0v 0! 0v")), "refused 14 16207");
     assert_eq!(last_line(&format!("{edge} 0.")), "refused 6 16205");
-    let past = edge.replacen(" 5\n", " 55\n", 1);
+    let past = edge.replacen(" 55555555\n", " 555555555\n", 1);
     assert_eq!(last_line(&past), "end 16205");
     for more in ["0v", "0.", "9l"] {
         assert_eq!(last_line(&format!("{past} {more}")), "refused 14 16205");
@@ -79,13 +79,13 @@ fn room_of_744_bytes() {
 #[test]
 fn entries_before_room() {
     let text = |steps: usize, end: &str| {
-        let lines = format!("{} 0s10 0! 71(0l 0!)", repeat("0l 0!", 372));
-        format!("2 64 5\n1l {steps}(1.) {lines}{end}")
+        let lines = format!("{} 0s1000 0! 76(0l 0!)", repeat("0l 0!", 151));
+        format!("2 64 555\n1l {steps}(1.) {lines}{end}")
     };
-    assert_eq!(last_line(&text(125, "")), "end 60000");
-    assert_eq!(last_line(&text(125, " 0v")), "refused 12 60000");
-    assert_eq!(last_line(&text(124, " 0v")), "refused 14 59999");
-    assert_eq!(last_line(&text(126, "")), "refused 12 60000");
+    assert_eq!(last_line(&text(165, "")), "end 60000");
+    assert_eq!(last_line(&text(165, " 0v")), "refused 12 60000");
+    assert_eq!(last_line(&text(164, " 0v")), "refused 14 59999");
+    assert_eq!(last_line(&text(166, "")), "refused 12 60000");
 }
 
 /// Number, entries done and bytes written, with this much listing lent.
@@ -106,7 +106,7 @@ fn small_listings() {
     assert_eq!(run(0, "x"), (14, 0, 0));
     assert_eq!(run(743, &" ".repeat(16_385)), (14, 0, 0));
     assert_eq!(run(744, "2 1 5\n"), (0, 0, 6));
-    assert_eq!(run(744, "2 1 5\n0l 0!"), (0, 9, 14));
-    assert_eq!(run(744, "2 1 5\n0l 0! 0v"), (14, 9, 21));
+    assert_eq!(run(744, "2 1 5\n0l 0!"), (0, 11, 16));
+    assert_eq!(run(744, "2 1 5\n0l 0! 0v"), (14, 11, 23));
     assert_eq!(run(744, "x"), (10, 0, 13));
 }

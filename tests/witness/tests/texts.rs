@@ -26,6 +26,7 @@ fn random_texts_reach_every_count() {
     );
     let pairs = [sum.line7, sum.line9, sum.line13, sum.line15];
     assert!(pairs.concat().iter().all(|times| *times > 0), "{sum:?}");
+    assert!(sum.halts.iter().all(|times| *times > 0), "{sum:?}");
     assert_eq!(sum.strange, 0);
 }
 

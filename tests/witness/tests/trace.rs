@@ -17,44 +17,49 @@ fn last_line(text: &str) -> String {
     trace.lines().last().expect("a last line").to_string()
 }
 
-/// The 15 lines of the format text.
+/// The lines of the format text, and on to the end of the SC.
 const CASE_A_BEGINS: &str = "\
 1 0 start L
 2 0 1 Help[0] write 1 4 links cleared
 3 0 2 X LL 0 0 link set
-4 0 3 BUF[0][0] read 5
-5 0 4 Help[0] LL 1 4 link set
-6 0 8 Help[0] LL 1 4 link set
-7 0 9 Help[0] SC 0 4 true links cleared
-8 0 10 Help[0] read 0 4
-9 0 11 BUF[4][0] write 5 answers 0 L 8 5
-10 0 start S 7
-11 0 12 Bank[0] LL 0 link set
-12 0 14 Help[0] LL 0 4 link set
-13 0 17 BUF[4][0] write 7
-14 0 18 Bank[1] read 1
-15 0 19 X SC 4 1 true links cleared answers 0 S 5 1
+4 0 3 BUF[0][0] low read 5
+5 0 3 BUF[0][0] high read 0
+6 0 4 Help[0] LL 1 4 link set
+7 0 8 Help[0] LL 1 4 link set
+8 0 9 Help[0] SC 0 4 true links cleared
+9 0 10 Help[0] read 0 4
+10 0 11 BUF[4][0] low write 5
+11 0 11 BUF[4][0] high write 0 answers 0 L 10 5
+12 0 start S 7
+13 0 12 Bank[0] LL 0 link set
+14 0 14 Help[0] LL 0 4 link set
+15 0 17 BUF[4][0] low write 7
+16 0 17 BUF[4][0] high write 0
+17 0 18 Bank[1] read 1
+18 0 19 X SC 4 1 true links cleared answers 0 S 6 1
 ";
 
 /// Process 1 reads what process 0 wrote.
 const CASE_A_READS: &str = "\
-16 1 start L
-17 1 1 Help[1] write 1 5 links cleared
-18 1 2 X LL 4 1 link set
-19 1 3 BUF[4][0] read 7
-20 1 4 Help[1] LL 1 5 link set
-21 1 8 Help[1] LL 1 5 link set
-22 1 9 Help[1] SC 0 5 true links cleared
-23 1 10 Help[1] read 0 5
-24 1 11 BUF[5][0] write 7 answers 1 L 8 7
+19 1 start L
+20 1 1 Help[1] write 1 5 links cleared
+21 1 2 X LL 4 1 link set
+22 1 3 BUF[4][0] low read 7
+23 1 3 BUF[4][0] high read 0
+24 1 4 Help[1] LL 1 5 link set
+25 1 8 Help[1] LL 1 5 link set
+26 1 9 Help[1] SC 0 5 true links cleared
+27 1 10 Help[1] read 0 5
+28 1 11 BUF[5][0] low write 7
+29 1 11 BUF[5][0] high write 0 answers 1 L 10 7
 ";
 
 #[test]
 fn case_a() {
     let ends = "\
-25 0 start V
-26 0 23 X VL false answers 0 V 1 0
-end 26
+30 0 start V
+31 0 23 X VL false answers 0 V 1 0
+end 31
 ";
     check(
         "0l 0! 0s7 0! 1l 1! 0v 0!",
@@ -71,37 +76,43 @@ const HELP_BEFORE_LINE_3: &str = "\
 4 1 start L
 5 1 1 Help[1] write 1 5 links cleared
 6 1 2 X LL 0 0 link set
-7 1 3 BUF[0][0] read 5
-8 1 4 Help[1] LL 1 5 link set
-9 1 8 Help[1] LL 1 5 link set
-10 1 9 Help[1] SC 0 5 true links cleared
-11 1 10 Help[1] read 0 5
-12 1 11 BUF[5][0] write 5 answers 1 L 8 5
-13 1 start S 7
-14 1 12 Bank[0] LL 0 link set
-15 1 14 Help[0] LL 1 4 link set
-16 1 14 X VL true
-17 1 15 Help[0] SC 0 5 true links cleared
-18 1 17 BUF[4][0] write 7
-19 1 18 Bank[1] read 1
-20 1 19 X SC 4 1 true links cleared answers 1 S 7 1
-21 0 3 BUF[0][0] read 5
-22 0 4 Help[0] LL 0 5 link set
-23 0 5 X LL 4 1 link set
-24 0 6 BUF[4][0] read 7
+7 1 3 BUF[0][0] low read 5
+8 1 3 BUF[0][0] high read 0
+9 1 4 Help[1] LL 1 5 link set
+10 1 8 Help[1] LL 1 5 link set
+11 1 9 Help[1] SC 0 5 true links cleared
+12 1 10 Help[1] read 0 5
+13 1 11 BUF[5][0] low write 5
+14 1 11 BUF[5][0] high write 0 answers 1 L 10 5
+15 1 start S 7
+16 1 12 Bank[0] LL 0 link set
+17 1 14 Help[0] LL 1 4 link set
+18 1 14 X VL true
+19 1 15 Help[0] SC 0 5 true links cleared
+20 1 17 BUF[4][0] low write 7
+21 1 17 BUF[4][0] high write 0
+22 1 18 Bank[1] read 1
+23 1 19 X SC 4 1 true links cleared answers 1 S 8 1
+24 0 3 BUF[0][0] low read 5
+25 0 3 BUF[0][0] high read 0
+26 0 4 Help[0] LL 0 5 link set
+27 0 5 X LL 4 1 link set
+28 0 6 BUF[4][0] low read 7
+29 0 6 BUF[4][0] high read 0
 ";
 
 /// Run B: VL(X) is true, so the words of line 6 stay.
 #[test]
 fn a_helped_reader() {
     let ends = "\
-25 0 7 X VL true
-26 0 8 Help[0] LL 0 5 link set
-27 0 10 Help[0] read 0 5
-28 0 11 BUF[5][0] write 7 answers 0 L 10 7
-29 0 start V
-30 0 23 X VL true answers 0 V 1 1
-end 30
+30 0 7 X VL true
+31 0 8 Help[0] LL 0 5 link set
+32 0 10 Help[0] read 0 5
+33 0 11 BUF[5][0] low write 7
+34 0 11 BUF[5][0] high write 0 answers 0 L 13 7
+35 0 start V
+36 0 23 X VL true answers 0 V 1 1
+end 36
 ";
     check(
         "0l 2(0.) 1l 1! 1s7 1! 0! 0v 0!",
@@ -114,34 +125,39 @@ end 30
 #[test]
 fn a_helped_reader_takes_the_handed_words() {
     let ends = "\
-25 1 start L
-26 1 1 Help[1] write 1 1 links cleared
-27 1 2 X LL 4 1 link set
-28 1 3 BUF[4][0] read 7
-29 1 4 Help[1] LL 1 1 link set
-30 1 8 Help[1] LL 1 1 link set
-31 1 9 Help[1] SC 0 1 true links cleared
-32 1 10 Help[1] read 0 1
-33 1 11 BUF[1][0] write 7 answers 1 L 8 7
-34 1 start S 9
-35 1 12 Bank[1] LL 1 link set
-36 1 12 X VL true
-37 1 13 Bank[1] SC 4 true links cleared
-38 1 14 Help[1] LL 0 1 link set
-39 1 17 BUF[1][0] write 9
-40 1 18 Bank[2] read 2
-41 1 19 X SC 1 2 true links cleared answers 1 S 7 1
-42 0 7 X VL false
-43 0 7 BUF[5][0] read 5
-44 0 8 Help[0] LL 0 5 link set
-45 0 10 Help[0] read 0 5
-46 0 11 BUF[5][0] write 5 answers 0 L 11 5
-47 0 start V
-48 0 23 X VL false answers 0 V 1 0
-end 48
+30 1 start L
+31 1 1 Help[1] write 1 1 links cleared
+32 1 2 X LL 4 1 link set
+33 1 3 BUF[4][0] low read 7
+34 1 3 BUF[4][0] high read 0
+35 1 4 Help[1] LL 1 1 link set
+36 1 8 Help[1] LL 1 1 link set
+37 1 9 Help[1] SC 0 1 true links cleared
+38 1 10 Help[1] read 0 1
+39 1 11 BUF[1][0] low write 7
+40 1 11 BUF[1][0] high write 0 answers 1 L 10 7
+41 1 start S 9
+42 1 12 Bank[1] LL 1 link set
+43 1 12 X VL true
+44 1 13 Bank[1] SC 4 true links cleared
+45 1 14 Help[1] LL 0 1 link set
+46 1 17 BUF[1][0] low write 9
+47 1 17 BUF[1][0] high write 0
+48 1 18 Bank[2] read 2
+49 1 19 X SC 1 2 true links cleared answers 1 S 8 1
+50 0 7 X VL false
+51 0 7 BUF[5][0] low read 5
+52 0 7 BUF[5][0] high read 0
+53 0 8 Help[0] LL 0 5 link set
+54 0 10 Help[0] read 0 5
+55 0 11 BUF[5][0] low write 5
+56 0 11 BUF[5][0] high write 0 answers 0 L 15 5
+57 0 start V
+58 0 23 X VL false answers 0 V 1 0
+end 58
 ";
     check(
-        "0l 2(0.) 1l 1! 1s7 1! 4(0.) 1l 1! 1s9 1! 0! 0v 0!",
+        "0l 2(0.) 1l 1! 1s7 1! 6(0.) 1l 1! 1s9 1! 0! 0v 0!",
         &[HELP_BEFORE_LINE_3, ends],
     );
 }
@@ -152,53 +168,60 @@ const BEFORE_LINES_9_AND_15: &str = "\
 1 0 start L
 2 0 1 Help[0] write 1 4 links cleared
 3 0 2 X LL 0 0 link set
-4 0 3 BUF[0][0] read 5
-5 0 4 Help[0] LL 1 4 link set
-6 0 8 Help[0] LL 1 4 link set
-7 1 start L
-8 1 1 Help[1] write 1 5 links cleared
-9 1 2 X LL 0 0 link set
-10 1 3 BUF[0][0] read 5
-11 1 4 Help[1] LL 1 5 link set
-12 1 8 Help[1] LL 1 5 link set
-13 1 9 Help[1] SC 0 5 true links cleared
-14 1 10 Help[1] read 0 5
-15 1 11 BUF[5][0] write 5 answers 1 L 8 5
-16 1 start S 7
-17 1 12 Bank[0] LL 0 link set
-18 1 14 Help[0] LL 1 4 link set
-19 1 14 X VL true
+4 0 3 BUF[0][0] low read 5
+5 0 3 BUF[0][0] high read 0
+6 0 4 Help[0] LL 1 4 link set
+7 0 8 Help[0] LL 1 4 link set
+8 1 start L
+9 1 1 Help[1] write 1 5 links cleared
+10 1 2 X LL 0 0 link set
+11 1 3 BUF[0][0] low read 5
+12 1 3 BUF[0][0] high read 0
+13 1 4 Help[1] LL 1 5 link set
+14 1 8 Help[1] LL 1 5 link set
+15 1 9 Help[1] SC 0 5 true links cleared
+16 1 10 Help[1] read 0 5
+17 1 11 BUF[5][0] low write 5
+18 1 11 BUF[5][0] high write 0 answers 1 L 10 5
+19 1 start S 7
+20 1 12 Bank[0] LL 0 link set
+21 1 14 Help[0] LL 1 4 link set
+22 1 14 X VL true
 ";
 
 #[test]
 fn line_9_fails_and_line_10_finds_the_handed_buffer() {
     let ends = "\
-20 1 15 Help[0] SC 0 5 true links cleared
-21 1 17 BUF[4][0] write 7
-22 1 18 Bank[1] read 1
-23 1 19 X SC 4 1 true links cleared answers 1 S 7 1
-24 0 9 Help[0] SC 0 4 false
-25 0 10 Help[0] read 0 5
-26 0 11 BUF[5][0] write 5 answers 0 L 8 5
-end 26
+23 1 15 Help[0] SC 0 5 true links cleared
+24 1 17 BUF[4][0] low write 7
+25 1 17 BUF[4][0] high write 0
+26 1 18 Bank[1] read 1
+27 1 19 X SC 4 1 true links cleared answers 1 S 8 1
+28 0 9 Help[0] SC 0 4 false
+29 0 10 Help[0] read 0 5
+30 0 11 BUF[5][0] low write 5
+31 0 11 BUF[5][0] high write 0 answers 0 L 10 5
+end 31
 ";
-    check("0l 5(0.) 1l 1! 1s7 1! 0!", &[BEFORE_LINES_9_AND_15, ends]);
+    check("0l 6(0.) 1l 1! 1s7 1! 0!", &[BEFORE_LINES_9_AND_15, ends]);
 }
 
 #[test]
 fn line_15_fails_and_the_helper_keeps_its_buffer() {
     let ends = "\
-20 0 9 Help[0] SC 0 4 true links cleared
-21 1 15 Help[0] SC 0 5 false
-22 1 17 BUF[5][0] write 7
-23 1 18 Bank[1] read 1
-24 1 19 X SC 5 1 true links cleared answers 1 S 7 1
-25 0 10 Help[0] read 0 4
-26 0 11 BUF[4][0] write 5 answers 0 L 8 5
-end 26
+23 0 9 Help[0] SC 0 4 true links cleared
+24 1 15 Help[0] SC 0 5 false
+25 1 17 BUF[5][0] low write 7
+26 1 17 BUF[5][0] high write 0
+27 1 18 Bank[1] read 1
+28 1 19 X SC 5 1 true links cleared answers 1 S 8 1
+29 0 10 Help[0] read 0 4
+30 0 11 BUF[4][0] low write 5
+31 0 11 BUF[4][0] high write 0 answers 0 L 10 5
+end 31
 ";
     check(
-        "0l 5(0.) 1l 1! 1s7 3(1.) 0. 1! 0!",
+        "0l 6(0.) 1l 1! 1s7 3(1.) 0. 1! 0!",
         &[BEFORE_LINES_9_AND_15, ends],
     );
 }
@@ -206,37 +229,41 @@ end 26
 /// After case A's beginning and reading process 0 reads again: it got
 /// buffer 1 from Bank[1] in line 18. Both have x = (4, 1), Bank[1] is 1.
 const BOTH_HAVE_READ: &str = "\
-25 0 start L
-26 0 1 Help[0] write 1 1 links cleared
-27 0 2 X LL 4 1 link set
-28 0 3 BUF[4][0] read 7
-29 0 4 Help[0] LL 1 1 link set
-30 0 8 Help[0] LL 1 1 link set
-31 0 9 Help[0] SC 0 1 true links cleared
-32 0 10 Help[0] read 0 1
-33 0 11 BUF[1][0] write 7 answers 0 L 8 7
+30 0 start L
+31 0 1 Help[0] write 1 1 links cleared
+32 0 2 X LL 4 1 link set
+33 0 3 BUF[4][0] low read 7
+34 0 3 BUF[4][0] high read 0
+35 0 4 Help[0] LL 1 1 link set
+36 0 8 Help[0] LL 1 1 link set
+37 0 9 Help[0] SC 0 1 true links cleared
+38 0 10 Help[0] read 0 1
+39 0 11 BUF[1][0] low write 7
+40 0 11 BUF[1][0] high write 0 answers 0 L 10 7
 ";
 
 #[test]
 fn line_13_fails_where_another_did_it() {
     let ends = "\
-34 1 start S 8
-35 1 12 Bank[1] LL 1 link set
-36 1 12 X VL true
-37 0 start S 9
-38 0 12 Bank[1] LL 1 link set
-39 0 12 X VL true
-40 0 13 Bank[1] SC 4 true links cleared
-41 1 13 Bank[1] SC 4 false
-42 0 14 Help[1] LL 0 5 link set
-43 0 17 BUF[1][0] write 9
-44 0 18 Bank[2] read 2
-45 0 19 X SC 1 2 true links cleared answers 0 S 7 1
-46 1 14 Help[1] LL 0 5 link set
-47 1 17 BUF[5][0] write 8
-48 1 18 Bank[2] read 2
-49 1 19 X SC 5 2 false answers 1 S 7 0
-end 49
+41 1 start S 8
+42 1 12 Bank[1] LL 1 link set
+43 1 12 X VL true
+44 0 start S 9
+45 0 12 Bank[1] LL 1 link set
+46 0 12 X VL true
+47 0 13 Bank[1] SC 4 true links cleared
+48 1 13 Bank[1] SC 4 false
+49 0 14 Help[1] LL 0 5 link set
+50 0 17 BUF[1][0] low write 9
+51 0 17 BUF[1][0] high write 0
+52 0 18 Bank[2] read 2
+53 0 19 X SC 1 2 true links cleared answers 0 S 8 1
+54 1 14 Help[1] LL 0 5 link set
+55 1 17 BUF[5][0] low write 8
+56 1 17 BUF[5][0] high write 0
+57 1 18 Bank[2] read 2
+58 1 19 X SC 5 2 false answers 1 S 8 0
+end 58
 ";
     check(
         "0l 0! 0s7 0! 1l 1! 0l 0! 1s8 2(1.) 0s9 3(0.) 1. 0! 1!",
@@ -247,22 +274,24 @@ end 49
 #[test]
 fn line_12_finds_x_changed() {
     let ends = "\
-34 1 start S 8
-35 1 12 Bank[1] LL 1 link set
-36 0 start S 9
-37 0 12 Bank[1] LL 1 link set
-38 0 12 X VL true
-39 0 13 Bank[1] SC 4 true links cleared
-40 0 14 Help[1] LL 0 5 link set
-41 0 17 BUF[1][0] write 9
-42 0 18 Bank[2] read 2
-43 0 19 X SC 1 2 true links cleared answers 0 S 7 1
-44 1 12 X VL false
-45 1 14 Help[1] LL 0 5 link set
-46 1 17 BUF[5][0] write 8
-47 1 18 Bank[2] read 2
-48 1 19 X SC 5 2 false answers 1 S 6 0
-end 48
+41 1 start S 8
+42 1 12 Bank[1] LL 1 link set
+43 0 start S 9
+44 0 12 Bank[1] LL 1 link set
+45 0 12 X VL true
+46 0 13 Bank[1] SC 4 true links cleared
+47 0 14 Help[1] LL 0 5 link set
+48 0 17 BUF[1][0] low write 9
+49 0 17 BUF[1][0] high write 0
+50 0 18 Bank[2] read 2
+51 0 19 X SC 1 2 true links cleared answers 0 S 8 1
+52 1 12 X VL false
+53 1 14 Help[1] LL 0 5 link set
+54 1 17 BUF[5][0] low write 8
+55 1 17 BUF[5][0] high write 0
+56 1 18 Bank[2] read 2
+57 1 19 X SC 5 2 false answers 1 S 7 0
+end 57
 ";
     check(
         "0l 0! 0s7 0! 1l 1! 0l 0! 1s8 1. 0s9 0! 1!",
@@ -278,57 +307,86 @@ fn line_14_finds_x_changed() {
 1 1 start L
 2 1 1 Help[1] write 1 5 links cleared
 3 1 2 X LL 0 0 link set
-4 1 3 BUF[0][0] read 5
-5 1 4 Help[1] LL 1 5 link set
-6 1 8 Help[1] LL 1 5 link set
-7 1 9 Help[1] SC 0 5 true links cleared
-8 1 10 Help[1] read 0 5
-9 1 11 BUF[5][0] write 5 answers 1 L 8 5
-10 1 start S 7
-11 1 12 Bank[0] LL 0 link set
-12 1 14 Help[0] LL 0 0 link set
-13 1 17 BUF[5][0] write 7
-14 1 18 Bank[1] read 1
-15 1 19 X SC 5 1 true links cleared answers 1 S 5 1
-16 0 start L
-17 0 1 Help[0] write 1 4 links cleared
-18 1 start S 8
-19 1 12 Bank[0] LL 0 link set
-20 1 14 Help[0] LL 1 4 link set
-21 1 14 X VL false
-22 1 17 BUF[1][0] write 8
-23 1 18 Bank[1] read 1
-24 1 19 X SC 1 1 false answers 1 S 6 0
-end 24
+4 1 3 BUF[0][0] low read 5
+5 1 3 BUF[0][0] high read 0
+6 1 4 Help[1] LL 1 5 link set
+7 1 8 Help[1] LL 1 5 link set
+8 1 9 Help[1] SC 0 5 true links cleared
+9 1 10 Help[1] read 0 5
+10 1 11 BUF[5][0] low write 5
+11 1 11 BUF[5][0] high write 0 answers 1 L 10 5
+12 1 start S 7
+13 1 12 Bank[0] LL 0 link set
+14 1 14 Help[0] LL 0 0 link set
+15 1 17 BUF[5][0] low write 7
+16 1 17 BUF[5][0] high write 0
+17 1 18 Bank[1] read 1
+18 1 19 X SC 5 1 true links cleared answers 1 S 6 1
+19 0 start L
+20 0 1 Help[0] write 1 4 links cleared
+21 1 start S 8
+22 1 12 Bank[0] LL 0 link set
+23 1 14 Help[0] LL 1 4 link set
+24 1 14 X VL false
+25 1 17 BUF[1][0] low write 8
+26 1 17 BUF[1][0] high write 0
+27 1 18 Bank[1] read 1
+28 1 19 X SC 1 1 false answers 1 S 7 0
+end 28
 ";
     check("1l 1! 1s7 1! 0l 0. 1s8 1!", &[whole]);
 }
 
 /// One process, two words: its buffer is 2.
 #[test]
-fn words_one_by_one() {
+fn words_one_by_one_in_halves() {
     let whole = "\
 1 0 start L
 2 0 1 Help[0] write 1 2 links cleared
 3 0 2 X LL 0 0 link set
-4 0 3 BUF[0][0] read 5
-5 0 3 BUF[0][1] read 5
-6 0 4 Help[0] LL 1 2 link set
-7 0 8 Help[0] LL 1 2 link set
-8 0 9 Help[0] SC 0 2 true links cleared
-9 0 10 Help[0] read 0 2
-10 0 11 BUF[2][0] write 5
-11 0 11 BUF[2][1] write 5 answers 0 L 10 5 5
-12 0 start S 4294967295
-13 0 12 Bank[0] LL 0 link set
-14 0 14 Help[0] LL 0 2 link set
-15 0 17 BUF[2][0] write 4294967295
-16 0 17 BUF[2][1] write 4294967295
-17 0 18 Bank[1] read 1
-18 0 19 X SC 2 1 true links cleared answers 0 S 6 1
-end 18
+4 0 3 BUF[0][0] low read 5
+5 0 3 BUF[0][0] high read 0
+6 0 3 BUF[0][1] low read 5
+7 0 3 BUF[0][1] high read 0
+8 0 4 Help[0] LL 1 2 link set
+9 0 8 Help[0] LL 1 2 link set
+10 0 9 Help[0] SC 0 2 true links cleared
+11 0 10 Help[0] read 0 2
+12 0 11 BUF[2][0] low write 5
+13 0 11 BUF[2][0] high write 0
+14 0 11 BUF[2][1] low write 5
+15 0 11 BUF[2][1] high write 0 answers 0 L 14 5 5
+16 0 start S 4294967295
+17 0 12 Bank[0] LL 0 link set
+18 0 14 Help[0] LL 0 2 link set
+19 0 17 BUF[2][0] low write 4294967295
+20 0 17 BUF[2][0] high write 0
+21 0 17 BUF[2][1] low write 4294967295
+22 0 17 BUF[2][1] high write 0
+23 0 18 Bank[1] read 1
+24 0 19 X SC 2 1 true links cleared answers 0 S 8 1
+end 24
 ";
     assert_eq!(trace("1 2 5\n0l 0! 0s4294967295 0!"), whole);
+}
+
+/// Between the halves of a word another process may move.
+#[test]
+fn a_halt_between_two_halves() {
+    let whole = "\
+1 0 start L
+2 0 1 Help[0] write 1 4 links cleared
+3 0 2 X LL 0 0 link set
+4 0 3 BUF[0][0] low read 4294967295
+5 1 start L
+6 1 1 Help[1] write 1 5 links cleared
+7 0 3 BUF[0][0] high read 0
+8 1 2 X LL 0 0 link set
+9 1 3 BUF[0][0] low read 4294967295
+10 0 4 Help[0] LL 1 4 link set
+end 10
+";
+    assert_eq!(trace("2 1 4294967295\n0l 3(0.) 1l 1. 0. 2(1.) 0."), whole);
 }
 
 #[test]
@@ -363,7 +421,7 @@ fn sixty_thousand_entries() {
 /// Here a listing would be refused with 14 at entry 16,206.
 #[test]
 fn the_listing_room_is_no_limit() {
-    let text = format!("1 1 55\n0l 0! {} 0v", repeat("0v 0!", 8098));
+    let text = format!("1 1 555555555\n0l 0! {} 0v", repeat("0v 0!", 8097));
     assert_eq!(last_line(&text), "end 16206");
 }
 

@@ -1,5 +1,5 @@
-//! The shortest schedules that show the five wrong readings of Figure 2,
-//! typed from the last table of the proof plan: right last lines and wrong.
+//! Short schedules that show the five wrong readings of Figure 2, over half
+//! moves (02, CR 4): right last lines and wrong ones, worked out by hand.
 
 mod common;
 use common::listing_when;
@@ -19,30 +19,30 @@ fn check(schedule: &str, right_end: &str, wrong: Wrong, wrong_lines: &str) {
 #[test]
 fn line_9_a_plain_write() {
     check(
-        "0l 5(0.) 1l 1! 1s7 1! 0! 0l 0!",
-        "0 L 8 5 / 0 L 8 7 / end 35",
+        "0l 6(0.) 1l 1! 1s7 1! 0! 0l 0!",
+        "0 L 10 5 / 0 L 10 7 / end 42",
         Wrong::Line9Plain,
-        "0 L 8 5 / 0 L 8 5",
+        "0 L 10 5 / 0 L 10 5",
     );
 }
 
 #[test]
 fn line_10_keeps_mybuf() {
     check(
-        "0l 4(0.) 1l 1! 1s7 1! 0! 0l 0!",
-        "0 L 7 5 / 0 L 8 7 / end 34",
+        "0l 5(0.) 1l 1! 1s7 1! 0! 0l 0!",
+        "0 L 9 5 / 0 L 10 7 / end 41",
         Wrong::Line10Keeps,
-        "0 L 7 5 / 0 L 8 5",
+        "0 L 9 5 / 0 L 10 5",
     );
 }
 
 #[test]
 fn no_vl_in_line_14() {
     check(
-        "1l 1! 1s7 1! 0l 0. 1s8 1! 4(0.) 1l 1! 1s9 1! 0!",
-        "1 S 7 1 / 0 L 8 7 / end 48",
+        "1l 1! 1s7 1! 0l 0. 1s8 1! 5(0.) 1l 1! 1s9 1! 0!",
+        "1 S 8 1 / 0 L 10 7 / end 57",
         Wrong::NoCheck14,
-        "1 S 7 1 / 0 L 11 0",
+        "1 S 8 1 / 0 L 15 0",
     );
 }
 
@@ -50,19 +50,19 @@ fn no_vl_in_line_14() {
 fn lines_6_and_7_skipped() {
     check(
         "0l 0. 1l 1! 1s7 1! 0! 0v 0!",
-        "0 L 10 7 / 0 V 1 1 / end 30",
+        "0 L 13 7 / 0 V 1 1 / end 36",
         Wrong::Skip6And7,
-        "0 L 9 5 / 0 V 1 1",
+        "0 L 12 5 / 0 V 1 1",
     );
 }
 
 #[test]
 fn sequence_number_modulo_n() {
     check(
-        "1l 1! 1s7 2(1.) 0l 2(0.) 1! 1l 1! 1s8 1! 1s9 3(1.) 0!",
-        "1 S 7 1 / 0 L 8 5 / end 45",
+        "1l 1! 1s7 2(1.) 0l 2(0.) 1! 1l 1! 1s8 1! 1s9 4(1.) 0!",
+        "1 S 8 1 / 0 L 10 5 / end 54",
         Wrong::SequenceModN,
-        "1 S 7 1 / 0 L 8 9",
+        "1 S 8 1 / 0 L 10 9",
     );
 }
 

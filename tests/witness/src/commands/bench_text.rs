@@ -40,16 +40,17 @@ fn stores(processes: std::ops::Range<usize>) -> String {
 /// can be without.
 fn turns(n: usize, w: usize) -> String {
     let each = |sign: &str| joined((0..n).map(|p| format!("{p}{sign}")));
-    let (loads, stores) = (2 * w + 4, w + 3);
-    let load = format!("{} {loads}({}) {}", each("l"), each("."), each("!"));
-    let store = format!("{} {stores}({}) {}", each("s7"), each("."), each("!"));
-    format!("{load} {store}")
+    let call = |start, steps| {
+        let all_step = repeat(&each("."), steps);
+        format!("{} {all_step} {}", each(start), each("!"))
+    };
+    format!("{} {}", call("l", 4 * w + 4), call("s7", 2 * w + 3))
 }
 
 /// The longest LL there is: help comes before line 4, a write before line 7.
 fn helped(n: usize, w: usize) -> String {
     let write = stores(n - 1..n);
-    format!("0l 2(0.) {}({write}) {}(0.) {write} 0!", 2 * n, w + 2)
+    format!("0l 2(0.) {}({write}) {}(0.) {write} 0!", 2 * n, 2 * w + 2)
 }
 
 /// Groups to the full depth, all but the innermost carried out twice.
@@ -65,7 +66,7 @@ fn deep(times: usize) -> String {
 
 /// No groups, only items: the most text for its entries.
 fn flat(n: usize, w: usize) -> String {
-    let call = |p: usize| format!("{p}l {}{p}!\n", format!("{p}. ").repeat(2 * w + 4));
+    let call = |p: usize| format!("{p}l {}{p}!\n", format!("{p}. ").repeat(4 * w + 4));
     (0..n).map(call).collect()
 }
 
@@ -102,9 +103,10 @@ fn filled(text: String, n: usize, w: usize) -> String {
     let mut more = text.clone();
     let mut left = ENTRY_LIMIT - ends(&text).unwrap_or(ENTRY_LIMIT);
     for p in 0..n {
-        let steps = left.saturating_sub(1).min(2 * w as u64 + 4);
+        let steps = left.saturating_sub(1).min(4 * w as u64 + 4);
         if steps > 0 {
-            more.push_str(&format!(" {p}l {steps}({p}.)"));
+            let halted = repeat(&format!("{p}."), steps as usize);
+            more.push_str(&format!(" {p}l {halted}"));
             left -= steps + 1;
         }
     }

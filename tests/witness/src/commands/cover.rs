@@ -73,11 +73,11 @@ impl Sums {
 
     fn counts(&self) -> Vec<(String, u64)> {
         let mut rows = Vec::new();
-        for (name, times) in ["2W+5", "2W+6", "3W+7", "4W+7"].iter().zip(self.tally.ll) {
+        for (name, times) in ["4W+5", "4W+6", "6W+7", "8W+7"].iter().zip(self.tally.ll) {
             rows.push((format!("LL in {name} steps"), times));
         }
         for (more, times) in (4..).zip(self.tally.sc) {
-            rows.push((format!("SC in W+{more} steps"), times));
+            rows.push((format!("SC in 2W+{more} steps"), times));
         }
         rows.push(("VL in 1 step".to_string(), self.tally.vl));
         pair(
@@ -131,6 +131,9 @@ impl Sums {
             tally.line14_validate,
         );
         pair(&mut rows, "line 15, help", ["fails", "given"], tally.line15);
+        for (line, times) in [3, 6, 7, 11, 17].iter().zip(tally.halts) {
+            rows.push((format!("line {line}, halt in a word"), times));
+        }
         rows
     }
 }

@@ -29,7 +29,7 @@ fn is_served(history: &History) -> bool {
 fn report(index: u64, history: &History) -> String {
     let mut lines = format!("history {index} has no order that is served\n");
     lines += &format!(
-        "the k-th value has the words 10k+10 and 10k+11\n{}\n",
+        "the k-th value has the half words 10k+10, 10k+11, and so on\n{}\n",
         history.script
     );
     for call in &history.calls {

@@ -22,7 +22,7 @@ pub struct History {
     pub script: String,
 }
 
-const MOST_COMMANDS: u64 = 400;
+const MOST_COMMANDS: u64 = 600;
 
 /// One process is slow: it stops at any place of its call while the others
 /// get on, and at the end its call goes on first.
@@ -40,9 +40,9 @@ pub fn record(rng: &mut Rng, wrong: Option<Wrong>) -> History {
             (slow + rng.between(1, n - 1)) % n
         };
         let length = if is_slow {
-            rng.between(1, 4)
+            rng.between(1, 6)
         } else {
-            rng.pick(&[1, 2, 4, 6, 30])
+            rng.pick(&[1, 2, 5, 9, 30])
         };
         for _ in 0..length {
             if recorder.command(p, rng) {
@@ -167,8 +167,10 @@ impl Recorder {
     }
 }
 
-/// The k-th value. Its words differ, so that a torn value shows, and none
-/// of them is 0, so that a buffer never written shows too.
+/// The k-th value. All its half words differ, so that a torn value shows,
+/// and none of them is 0, so that a buffer never written shows too.
 fn value(k: u64, w: usize) -> Vec<u64> {
-    (0..w as u64).map(|i| 10 * (k + 1) + i).collect()
+    let half = |i: u64| 10 * (k + 1) + i;
+    let word = |i: u64| (half(2 * i + 1) << 32) | half(2 * i);
+    (0..w as u64).map(word).collect()
 }

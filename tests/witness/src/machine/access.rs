@@ -1,14 +1,15 @@
 //! An access to a shared place, noted where it is made.
 
+use super::half::Half;
 use super::process::{Line, Request, Tag};
 
-/// A shared place; a word is that of a buffer, by both their numbers.
+/// A shared place; a half word by its buffer, its word and which half it is.
 #[derive(Clone, Copy, PartialEq, Eq, Debug)]
 pub enum Place {
     X,
     Bank(usize),
     Help(usize),
-    Word(usize, usize),
+    HalfWord(usize, usize, Half),
 }
 
 /// What a place holds.
@@ -17,7 +18,7 @@ pub enum Values {
     Tag(Tag),
     Buffer(usize),
     Request(Request),
-    Word(u64),
+    Half(u32),
 }
 
 impl From<Tag> for Values {

@@ -18,6 +18,8 @@ pub struct Bench {
     pub(super) wrong: Option<Wrong>,
     pub(super) tally: Tally,
     pub(super) seen: Seen,
+    /// The process of the last command carried out.
+    pub(super) latest: usize,
 }
 
 impl Bench {
@@ -56,6 +58,7 @@ impl Bench {
             wrong,
             tally: Tally::default(),
             seen: Seen::nothing_yet(Line::Idle),
+            latest: 0,
         })
     }
 

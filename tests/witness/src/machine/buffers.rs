@@ -1,6 +1,7 @@
-//! BUF: words without links.
+//! BUF: words without links, read and written half by half.
 
 use super::access::{Act, Links, Place, Seen, Values};
+use super::half::Half;
 
 pub struct Buffers(Vec<Vec<u64>>);
 
@@ -12,16 +13,22 @@ impl Buffers {
         Buffers(buffers)
     }
 
-    pub fn read(&self, buffer: usize, k: usize, seen: &mut Seen) -> u64 {
-        let word = self.0[buffer][k];
-        let act = Act::Read(Values::Word(word));
-        seen.note(Place::Word(buffer, k), act, Links::Untouched);
-        word
+    pub fn read(&self, buffer: usize, (word, half): (usize, Half), seen: &mut Seen) -> u32 {
+        let bits = half.of(self.0[buffer][word]);
+        let act = Act::Read(Values::Half(bits));
+        seen.note(Place::HalfWord(buffer, word, half), act, Links::Untouched);
+        bits
     }
 
-    pub fn write(&mut self, buffer: usize, k: usize, word: u64, seen: &mut Seen) {
-        self.0[buffer][k] = word;
-        let act = Act::Write(Values::Word(word));
-        seen.note(Place::Word(buffer, k), act, Links::Untouched);
+    pub fn write(
+        &mut self,
+        buffer: usize,
+        (word, half): (usize, Half),
+        bits: u32,
+        seen: &mut Seen,
+    ) {
+        half.put(&mut self.0[buffer][word], bits);
+        let act = Act::Write(Values::Half(bits));
+        seen.note(Place::HalfWord(buffer, word, half), act, Links::Untouched);
     }
 }

@@ -62,6 +62,7 @@ impl Bench {
         };
         me.count = 0;
         self.seen = Seen::nothing_yet(Line::Idle);
+        self.latest = p;
         Ok(())
     }
 }

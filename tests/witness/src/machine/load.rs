@@ -25,7 +25,7 @@ impl Bench {
 
     pub(super) fn line3(&mut self, p: usize) -> After {
         let from = self.processes[p].x.buffer;
-        self.read_word(p, from, Line::L3, Line::L4)
+        self.read_half(p, from, Line::L3, Line::L4)
     }
 
     pub(super) fn line4(&mut self, p: usize) -> After {
@@ -47,7 +47,7 @@ impl Bench {
 
     pub(super) fn line6(&mut self, p: usize) -> After {
         let from = self.processes[p].x.buffer;
-        self.read_word(p, from, Line::L6, Line::L7Validate)
+        self.read_half(p, from, Line::L6, Line::L7Validate)
     }
 
     pub(super) fn line7_validate(&mut self, p: usize) -> After {
@@ -58,7 +58,7 @@ impl Bench {
 
     pub(super) fn line7_copy(&mut self, p: usize) -> After {
         let from = self.processes[p].b;
-        self.read_word(p, from, Line::L7Copy, Line::L8)
+        self.read_half(p, from, Line::L7Copy, Line::L8)
     }
 
     pub(super) fn line8(&mut self, p: usize) -> After {
@@ -94,19 +94,22 @@ impl Bench {
 
     pub(super) fn line11(&mut self, p: usize) -> After {
         let me = &self.processes[p];
-        let word = me.return_area[me.word];
-        self.buf.write(me.mybuf, me.word, word, &mut self.seen);
-        if !self.was_last_word(p) {
+        let (word, half) = me.half_to_move();
+        let bits = half.of(me.return_area[word]);
+        self.buf.write(me.mybuf, (word, half), bits, &mut self.seen);
+        if !self.was_last_move(p) {
             return After::At(Line::L11);
         }
         self.processes[p].linked = true;
         After::Answer(Reply::Loaded(self.processes[p].return_area.clone()))
     }
 
-    /// One word of a buffer into the return area.
-    fn read_word(&mut self, p: usize, from: usize, same: Line, next: Line) -> After {
+    /// One half word of a buffer into the return area.
+    fn read_half(&mut self, p: usize, from: usize, same: Line, next: Line) -> After {
         let me = &mut self.processes[p];
-        me.return_area[me.word] = self.buf.read(from, me.word, &mut self.seen);
-        After::either(self.was_last_word(p), next, same)
+        let (word, half) = me.half_to_move();
+        let bits = self.buf.read(from, (word, half), &mut self.seen);
+        half.put(&mut me.return_area[word], bits);
+        After::either(self.was_last_move(p), next, same)
     }
 }

@@ -1,5 +1,7 @@
 //! What each process owns, and where it stands in Figure 2.
 
+use super::half::Half;
+
 /// The next access of a process. Lines with two accesses have two places.
 #[derive(Clone, Copy, PartialEq, Eq, Debug)]
 pub enum Line {
@@ -78,7 +80,8 @@ pub struct Process {
     pub return_area: Vec<u64>,
     pub offer_area: Vec<u64>,
     pub line: Line,
-    pub word: usize,
+    /// Half moves made in a run of words.
+    pub word_place: usize,
     /// Own steps since the start of the open call.
     pub count: u64,
     /// An LL of this process was answered.
@@ -100,7 +103,7 @@ impl Process {
             return_area: vec![0; words],
             offer_area: vec![0; words],
             line: Line::Idle,
-            word: 0,
+            word_place: 0,
             count: 0,
             linked: false,
             b: 0,
@@ -108,5 +111,10 @@ impl Process {
             d: 0,
             e: 0,
         }
+    }
+
+    /// The word and the half that its next move in a run of words is about.
+    pub fn half_to_move(&self) -> (usize, Half) {
+        Half::of_move(self.word_place)
     }
 }

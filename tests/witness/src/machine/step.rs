@@ -4,6 +4,7 @@
 use super::access::Seen;
 use super::bench::Bench;
 use super::command::{Answer, Reply};
+use super::half::Half;
 use super::process::Line;
 
 /// Where a step leaves its process.
@@ -22,6 +23,7 @@ impl After {
 impl Bench {
     pub(super) fn step(&mut self, p: usize) -> Option<Answer> {
         self.processes[p].count += 1;
+        self.note_stop(p);
         self.seen = Seen::nothing_yet(self.processes[p].line);
         let after = self.access(p);
         assert!(self.seen.access.is_some(), "a step makes an access");
@@ -75,15 +77,25 @@ impl Bench {
         }
     }
 
+    /// A word whose high half comes next may have been left so for others.
+    fn note_stop(&mut self, p: usize) {
+        let me = &self.processes[p];
+        if me.half_to_move().1 == Half::High && self.latest != p {
+            self.tally.halted(me.line);
+        }
+        self.latest = p;
+    }
+
     fn line23(&mut self, p: usize) -> After {
         let valid = self.x.vl(p, &mut self.seen);
         After::Answer(Reply::Validated(valid))
     }
 
-    /// Moves the word place on after a word; tells whether it was the last.
-    pub(super) fn was_last_word(&mut self, p: usize) -> bool {
+    /// Moves the word place on after a half; tells whether it was the last
+    /// of the 2W.
+    pub(super) fn was_last_move(&mut self, p: usize) -> bool {
         let me = &mut self.processes[p];
-        me.word = (me.word + 1) % self.w;
-        me.word == 0
+        me.word_place = (me.word_place + 1) % (2 * self.w);
+        me.word_place == 0
     }
 }

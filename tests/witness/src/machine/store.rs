@@ -63,9 +63,10 @@ impl Bench {
 
     pub(super) fn line17(&mut self, p: usize) -> After {
         let me = &self.processes[p];
-        let word = me.offer_area[me.word];
-        self.buf.write(me.mybuf, me.word, word, &mut self.seen);
-        After::either(self.was_last_word(p), Line::L18, Line::L17)
+        let (word, half) = me.half_to_move();
+        let bits = half.of(me.offer_area[word]);
+        self.buf.write(me.mybuf, (word, half), bits, &mut self.seen);
+        After::either(self.was_last_move(p), Line::L18, Line::L17)
     }
 
     pub(super) fn line18(&mut self, p: usize) -> After {

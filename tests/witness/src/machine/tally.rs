@@ -1,6 +1,7 @@
 //! How often a run came to the places that are hard to reach.
 
 use super::command::Reply;
+use super::process::Line;
 
 /// Pairs count false first, true second.
 #[derive(Clone, Default, PartialEq, Eq, Debug)]
@@ -11,14 +12,17 @@ pub struct Tally {
     pub line13: [u64; 2],
     pub line14_validate: [u64; 2],
     pub line15: [u64; 2],
-    /// LL answered in 2W+5, 2W+6, 3W+7 and 4W+7 own steps.
+    /// LL answered in 4W+5, 4W+6, 6W+7 and 8W+7 own steps.
     pub ll: [u64; 4],
-    /// SC answered in W+4 to W+8 own steps.
+    /// SC answered in 2W+4 to 2W+8 own steps.
     pub sc: [u64; 5],
     pub sc_answers: [u64; 2],
     /// VL answered in one step.
     pub vl: u64,
     pub vl_answers: [u64; 2],
+    /// Halts between the two halves of a word while another process moved,
+    /// in lines 3, 6, 7, 11 and 17.
+    pub halts: [u64; 5],
     /// Answers with any other count; there must be none.
     pub strange: u64,
 }
@@ -34,7 +38,7 @@ impl Tally {
         let w = words as u64;
         let slot = match reply {
             Reply::Loaded(_) => {
-                let counts = [2 * w + 5, 2 * w + 6, 3 * w + 7, 4 * w + 7];
+                let counts = [4 * w + 5, 4 * w + 6, 6 * w + 7, 8 * w + 7];
                 counts
                     .iter()
                     .position(|c| *c == count)
@@ -42,7 +46,7 @@ impl Tally {
             }
             Reply::Stored(success) => {
                 note(&mut self.sc_answers, *success);
-                (w + 4..=w + 8)
+                (2 * w + 4..=2 * w + 8)
                     .position(|c| c == count)
                     .map(|k| &mut self.sc[k])
             }
@@ -52,6 +56,19 @@ impl Tally {
             }
         };
         *slot.unwrap_or(&mut self.strange) += 1;
+    }
+
+    /// A move in this line finds its word half moved, and another process
+    /// has moved since.
+    pub fn halted(&mut self, line: Line) {
+        let slot = match line {
+            Line::L3 => 0,
+            Line::L6 => 1,
+            Line::L7Copy => 2,
+            Line::L11 => 3,
+            _ => 4,
+        };
+        self.halts[slot] += 1;
     }
 
     pub fn add(&mut self, other: &Tally) {
@@ -65,6 +82,7 @@ impl Tally {
         add_all(&mut self.sc, &other.sc);
         add_all(&mut self.sc_answers, &other.sc_answers);
         add_all(&mut self.vl_answers, &other.vl_answers);
+        add_all(&mut self.halts, &other.halts);
         self.vl += other.vl;
         self.strange += other.strange;
     }

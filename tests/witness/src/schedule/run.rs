@@ -136,7 +136,7 @@ impl Run<'_, '_> {
 
     /// `!`: each of its steps is an entry.
     fn finish(&mut self, p: u64) -> Result<(), u8> {
-        for _ in 0..4 * self.words + 7 {
+        for _ in 0..8 * self.words + 7 {
             if self.entry(p, Order::Step)? {
                 return Ok(());
             }

@@ -2,7 +2,7 @@
 
 use super::form::Entry;
 use super::listing::answer_line;
-use crate::machine::{Access, Act, Line, Links, Order, Place, Values};
+use crate::machine::{Access, Act, Half, Line, Links, Order, Place, Values};
 
 pub fn entry_line(entry: &Entry) -> Option<String> {
     let mut line = format!("{} {} ", entry.number, entry.process);
@@ -42,7 +42,8 @@ fn of_place(place: Place) -> String {
         Place::X => "X".to_string(),
         Place::Bank(i) => format!("Bank[{i}]"),
         Place::Help(i) => format!("Help[{i}]"),
-        Place::Word(b, k) => format!("BUF[{b}][{k}]"),
+        Place::HalfWord(b, k, Half::Low) => format!("BUF[{b}][{k}] low"),
+        Place::HalfWord(b, k, Half::High) => format!("BUF[{b}][{k}] high"),
     }
 }
 
@@ -63,6 +64,6 @@ fn of_values(values: Values) -> String {
         Values::Request(request) => {
             format!("{} {}", u8::from(request.helpme), request.buffer)
         }
-        Values::Word(word) => word.to_string(),
+        Values::Half(bits) => bits.to_string(),
     }
 }

@@ -53,27 +53,27 @@ fn lengths() -> Vec<Vec<u8>> {
     texts
 }
 
-/// An LL alone has 134 steps at W = 64: 444 of them are 59,940 entries.
+/// An LL alone has 262 steps at W = 64: 228 of them are 59,964 entries.
 fn entries() -> Vec<Vec<u8>> {
-    let most = format!("1 64 5\n{} ", repeat("0l 0!", 444));
+    let most = format!("1 64 5\n{} ", repeat("0l 0!", 228));
     let ends = [
-        "0l 58(0.)",
-        "0l 59(0.)",
-        "0l 60(0.)",
+        "0l 34(0.)",
+        "0l 35(0.)",
+        "0l 36(0.)",
         "0l 0!",
-        "0l 59(0.) 0!",
-        "0l 59(0.) 0l",
-        "0l 59(0.) 1l",
-        "0l 59(0.) 9(0.)",
-        "0l 58(0.) 0!",
-        "0l 58(0.) 0l",
+        "0l 35(0.) 0!",
+        "0l 35(0.) 0l",
+        "0l 35(0.) 1l",
+        "0l 35(0.) 9(0.)",
+        "0l 34(0.) 0!",
+        "0l 34(0.) 0l",
     ];
     let mut texts: Vec<Vec<u8>> = ends
         .iter()
         .map(|end| (most.clone() + end).into_bytes())
         .collect();
     // Here the last entry of the 60,000 answers.
-    let padding = format!("2 64 5\n1l 59(1.) {}", repeat("0l 0!", 444));
+    let padding = format!("2 64 5\n1l 35(1.) {}", repeat("0l 0!", 228));
     for end in ["", " 1.", " 0v", " 2v", " 0."] {
         texts.push((padding.clone() + end).into_bytes());
     }
@@ -82,9 +82,9 @@ fn entries() -> Vec<Vec<u8>> {
 
 fn room() -> Vec<Vec<u8>> {
     let mut texts = Vec::new();
-    // 8,099 lines of 8 bytes leave 744; a value of two digits makes it 743.
-    for initial in ["5", "55"] {
-        for times in [8097, 8098, 8099] {
+    // A line of 16 bytes and 8,097 of 8 leave 744; one more digit makes it 743.
+    for initial in ["55555555", "555555555"] {
+        for times in [8096, 8097, 8098] {
             let begin = format!("1 1 {initial}\n0l 0! {}", repeat("0v 0!", times));
             for end in ["", " 0v", " 0v 0!", " 0v 0! 0v", " 0l 0!", " 0.", " 1."] {
                 texts.push((begin.clone() + end).into_bytes());
@@ -102,10 +102,10 @@ fn room() -> Vec<Vec<u8>> {
 /// one a little earlier or later: 12 comes before 14.
 fn room_and_entries() -> Vec<Vec<u8>> {
     let mut texts = Vec::new();
-    for steps in [123, 124, 125, 126] {
-        let lines = format!("{} 0s10 0! 71(0l 0!)", repeat("0l 0!", 372));
+    for steps in [163, 164, 165, 166] {
+        let lines = format!("{} 0s1000 0! 76(0l 0!)", repeat("0l 0!", 151));
         for end in ["", " 0v", " 0.", " 9l"] {
-            texts.push(format!("2 64 5\n1l {steps}(1.) {lines}{end}").into_bytes());
+            texts.push(format!("2 64 555\n1l {steps}(1.) {lines}{end}").into_bytes());
         }
     }
     texts
@@ -161,7 +161,7 @@ fn huge_groups() -> Vec<Vec<u8>> {
         "0l 0! 0v 0!",
         "1l",
         "0l 0! 0s4294967295 0!",
-        "0l 9(0.)",
+        "0l 11(0.)",
     ];
     let all = |w: usize| {
         let texts = bodies

@@ -28,7 +28,7 @@ fn round(author: &mut Author) {
         author.start_some(slow);
     }
     for _ in 0..author.rng.between(1, 3) {
-        let most = author.rng.between(0, author.w + 4);
+        let most = author.rng.between(0, 2 * author.w + 4);
         author.steps(slow, most);
         between(author, slow);
     }
@@ -51,7 +51,7 @@ fn late_check(author: &mut Author) {
     writes(author, slow, times);
     for p in (0..author.n).filter(|p| *p != slow) {
         author.load(p);
-        let most = author.rng.between(0, author.w + 5);
+        let most = author.rng.between(0, 2 * author.w + 5);
         author.steps(p, most);
     }
     author.finish(slow);
@@ -75,7 +75,7 @@ fn between(author: &mut Author, slow: usize) {
         if author.is_idle(other) {
             author.start_some(other);
         }
-        let most = author.rng.between(0, author.w + 5);
+        let most = author.rng.between(0, 2 * author.w + 5);
         author.steps(other, most);
     }
 }

@@ -33,7 +33,7 @@ fn write(rng: &mut Rng, n: usize, w: usize, turns: usize) -> Vec<u8> {
         if p != slow && author.rng.once_in(patience) {
             author.finish(p);
         } else {
-            let most = author.rng.pick(&[0, 1, 1, 2, 3, w, w + 2]);
+            let most = author.rng.pick(&[0, 1, 1, 2, 3, w, 2 * w, 2 * w + 2]);
             author.steps(p, most);
         }
     }

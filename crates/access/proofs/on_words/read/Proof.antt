@@ -8,11 +8,11 @@ use Rattle.access.proofs.on_words.read.Tie as tie
 buffer-word-requires : tie.Need-buffer-word-requires
 buffer-word-requires c κs = search needs
 
-on-word-requires : tie.Need-on-word-requires
-on-word-requires c κs = let h = (c .before .before .pre .0) in simp (c .buffer-word .ensures) (lies (c .before .before .args .bench .n) (omega arith) (h .word) (h .lent .words))
+on-half-requires : tie.Need-on-half-requires
+on-half-requires c κs = let h = (c .before .before .pre .0) in simp (c .buffer-word .ensures) (lies (c .before .before .args .bench .n) (omega arith) (omega (arith, h .word)) (h .lent .words))
 
 returns : tie.Need-returns
-returns c = simp ((c .on-word .ensures), (c .before .buffer-word .ensures))
+returns c = simp ((c .on-half .ensures), (c .before .buffer-word .ensures))
 
 pub read-spec : {M : Type 1} → statement M
-read-spec = tie.close (tie.spec buffer-word-requires on-word-requires returns)
+read-spec = tie.close (tie.spec buffer-word-requires on-half-requires returns)

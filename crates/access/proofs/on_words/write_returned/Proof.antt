@@ -8,11 +8,11 @@ use Rattle.access.proofs.on_words.write_returned.Tie as tie
 return-word-requires : tie.Need-return-word-requires
 return-word-requires c κs = search needs
 
-on-word-requires : tie.Need-on-word-requires
-on-word-requires c κs = let h = (c .before .before .pre) in simp (c .return-word .ensures) (lies (c .before .before .args .bench .n) (omega (arith, h .lent .process)) (h .word) (h .lent .words))
+on-half-requires : tie.Need-on-half-requires
+on-half-requires c κs = let h = (c .before .before .pre) in simp (c .return-word .ensures) (lies (c .before .before .args .bench .n) (omega (arith, h .lent .process)) (omega (arith, h .word)) (h .lent .words))
 
 returns : tie.Need-returns
-returns c = simp ((c .on-word .ensures), (c .before .return-word .ensures))
+returns c = simp ((c .on-half .ensures), (c .before .return-word .ensures))
 
 pub write-returned-spec : {M : Type 1} → statement M
-write-returned-spec = tie.close (tie.spec return-word-requires on-word-requires returns)
+write-returned-spec = tie.close (tie.spec return-word-requires on-half-requires returns)

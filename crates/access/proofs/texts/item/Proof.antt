@@ -67,9 +67,9 @@ bracketed-requires-3 : tie.Need-bracketed-requires-3
 unfolding itemText
 bracketed-requires-3 c κs = room-first _ _ (room-then _ (room-same (ap itemText (c .before .before .before .before .before .before .before .before .item3 .given .1)) (c .before .before .before .before .before .before .before .before .before .before .before .pre)) (c .before .before .before .before .plain4 .ensures))
 
-bracketed-requires-4 : tie.Need-bracketed-requires-4
+half-place-requires : tie.Need-half-place-requires
 unfolding itemText
-bracketed-requires-4 c κs = room-then _ (room-then _ (room-same (ap itemText (c .before .before .before .before .before .before .before .before .before .before .before .before .item3 .given .1)) (c .before .before .before .before .before .before .before .before .before .before .before .before .before .before .before .pre)) (c .before .before .before .before .before .before .before .before .plain4 .ensures)) (c .before .before .before .bracketed3 .ensures)
+half-place-requires c κs = room-then _ (room-then _ (room-same (ap itemText (c .before .before .before .before .before .before .before .before .before .before .before .before .item3 .given .1)) (c .before .before .before .before .before .before .before .before .before .before .before .before .before .before .before .pre)) (c .before .before .before .before .before .before .before .before .plain4 .ensures)) (c .before .before .before .bracketed3 .ensures)
 
 same-length : tie.Need-same-length
 same-length c = search needs
@@ -97,7 +97,7 @@ same-length-4 c = search needs
 
 returns-4 : tie.Need-returns-4
 unfolding itemText
-returns-4 c = same (ap itemText (c .before .before .before .before .before .before .before .before .before .before .before .before .before .before .before .item3 .given .1)) (then (c .before .before .before .before .before .before .before .before .before .before .before .plain4 .ensures) (then (c .before .before .before .before .before .before .bracketed3 .ensures) (c .before .before .bracketed4 .ensures)))
+returns-4 c = same (ap itemText (c .before .before .before .before .before .before .before .before .before .before .before .before .before .before .before .item3 .given .1)) (then (c .before .before .before .before .before .before .before .before .before .before .before .plain4 .ensures) (then (c .before .before .before .before .before .before .bracketed3 .ensures) (c .before .before .half-place .ensures)))
 
 pub item-spec : {M : Type 1} → statement M
 item-spec =
@@ -121,7 +121,7 @@ item-spec =
     plain-requires-4
     cast-bracketed-3
     bracketed-requires-3
-    bracketed-requires-4
+    half-place-requires
     same-length
     returns
     same-length-2

@@ -13,6 +13,9 @@ line-ok-requires c κs = search needs
 returns : tie.Need-returns
 returns c = fail _ _ (sym (c .before .line-ok .ensures) ∙ not-true _ (c .if1 .taken))
 
+mul-if2 : tie.Need-mul-if2
+mul-if2 c = search needs
+
 returns-2 : tie.Need-returns-2
 returns-2 c = pass _ (sym (c .before .before .line-ok .ensures) ∙ not-false _ (c .before .if1 .left)) (fail _ _ (le-ltb _ _ (c .if2 .taken)))
 
@@ -24,4 +27,4 @@ returns-3 c = pass _ (sym (c .before .before .before .line-ok .ensures) ∙ not-
 
 pub progress-ok-spec : {M : Type 1} → statement M
 progress-ok-spec =
-    tie.close (tie.spec line-ok-requires returns returns-2 count-ok-requires returns-3)
+    tie.close (tie.spec line-ok-requires returns mul-if2 returns-2 count-ok-requires returns-3)

@@ -1,4 +1,4 @@
--- `machine::word_steps::step_11` meets its contract: both places are lent, and the word is copied.
+-- `machine::word_steps::step_11` meets its contract: both places are lent, and the half is copied.
 -- Assumes nothing.
 use native.Mathlib.Omega.{arith}
 use Rattle.machine.proofs.WordLaws.{lies}
@@ -12,8 +12,11 @@ return-word-requires c κs = search needs
 buffer-word-requires : tie.Need-buffer-word-requires
 buffer-word-requires c κs = search needs
 
-copy-word-requires : tie.Need-copy-word-requires
-copy-word-requires c κs = let h = c .before .before .before .before .pre in let a = c .before .before .before .before .args in (simp (c .before .before .return-word .ensures) (lies (a .n) (omega arith) (h .word) (h .lent .words)), simp (c .before .buffer-word .ensures) (lies (a .n) (omega arith) (h .word) (h .lent .words)))
+copy-half-requires : tie.Need-copy-half-requires
+copy-half-requires c κs = let h = c .before .before .before .before .pre in let a = c .before .before .before .before .args in (simp (c .before .before .return-word .ensures) (lies (a .n) (omega arith) (omega arith) (h .lent .words)), simp (c .before .buffer-word .ensures) (lies (a .n) (omega arith) (omega arith) (h .lent .words)))
+
+mul-do-line-11 : tie.Need-mul-do-line-11
+mul-do-line-11 c = search needs
 
 do-line-11-requires : tie.Need-do-line-11-requires
 do-line-11-requires c κs = search needs
@@ -22,7 +25,7 @@ same-length : tie.Need-same-length
 same-length c = search needs
 
 returns : tie.Need-returns
-returns c = simp (c .do-line-11 .ensures, c .before .before .before .copy-word .ensures, c .before .before .before .before .before .before .return-word .ensures, c .before .before .before .before .before .buffer-word .ensures)
+returns c = simp (c .do-line-11 .ensures, c .before .before .before .copy-half .ensures, c .before .before .before .before .before .before .return-word .ensures, c .before .before .before .before .before .buffer-word .ensures)
 
 pub step-11-spec : {M : Type 1} → statement M
 step-11-spec =
@@ -30,7 +33,8 @@ step-11-spec =
     (tie.spec
     return-word-requires
     buffer-word-requires
-    copy-word-requires
+    copy-half-requires
+    mul-do-line-11
     do-line-11-requires
     same-length
     returns)

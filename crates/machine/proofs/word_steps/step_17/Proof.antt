@@ -1,4 +1,4 @@
--- `machine::word_steps::step_17` meets its contract: both places are lent, and the word is copied.
+-- `machine::word_steps::step_17` meets its contract: both places are lent, and the half is copied.
 -- Assumes nothing.
 use native.Mathlib.Omega.{arith}
 use Rattle.machine.proofs.WordLaws.{lies}
@@ -12,8 +12,11 @@ offer-word-requires c κs = search needs
 buffer-word-requires : tie.Need-buffer-word-requires
 buffer-word-requires c κs = search needs
 
-copy-word-requires : tie.Need-copy-word-requires
-copy-word-requires c κs = let h = c .before .before .before .before .pre in let a = c .before .before .before .before .args in (simp (c .before .before .offer-word .ensures) (lies (a .n) (omega arith) (h .word) (h .lent .words)), simp (c .before .buffer-word .ensures) (lies (a .n) (omega arith) (h .word) (h .lent .words)))
+copy-half-requires : tie.Need-copy-half-requires
+copy-half-requires c κs = let h = c .before .before .before .before .pre in let a = c .before .before .before .before .args in (simp (c .before .before .offer-word .ensures) (lies (a .n) (omega arith) (omega arith) (h .lent .words)), simp (c .before .buffer-word .ensures) (lies (a .n) (omega arith) (omega arith) (h .lent .words)))
+
+mul-do-word : tie.Need-mul-do-word
+mul-do-word c = search needs
 
 do-word-requires : tie.Need-do-word-requires
 do-word-requires c κs = search needs
@@ -22,7 +25,7 @@ same-length : tie.Need-same-length
 same-length c = search needs
 
 returns : tie.Need-returns
-returns c = simp (c .do-word .ensures, c .before .before .before .copy-word .ensures, c .before .before .before .before .before .before .offer-word .ensures, c .before .before .before .before .before .buffer-word .ensures)
+returns c = simp (c .do-word .ensures, c .before .before .before .copy-half .ensures, c .before .before .before .before .before .before .offer-word .ensures, c .before .before .before .before .before .buffer-word .ensures)
 
 pub step-17-spec : {M : Type 1} → statement M
 step-17-spec =
@@ -30,7 +33,8 @@ step-17-spec =
     (tie.spec
     offer-word-requires
     buffer-word-requires
-    copy-word-requires
+    copy-half-requires
+    mul-do-word
     do-word-requires
     same-length
     returns)

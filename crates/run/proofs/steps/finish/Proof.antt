@@ -4,13 +4,14 @@ use Prim.Native.Nat.{_+_, _*_}
 use native.Mathlib.Omega.{arith}
 use borrow.Author.Needs.{needs}
 use borrow.Author.Tests.{not-true, not-false}
+use Rattle.model.specs.Sizes.{llMost}
 use Rattle.run.specs.Held.{held}
 use Rattle.run.proofs.FinishLaws.{Finishing, finish-start, finish-stopped, finish-answered, finish-on, finish-refused, finish-kept}
 use Rattle.run.proofs.steps.finish.Statement.{statement}
 use Rattle.run.proofs.steps.finish.Tie as tie
 
 abbrev Inv-loop : tie.InvT-loop
-Inv-loop len p words₀ list₀ r₀ left₀ words list r left = Finishing 13 len p (4 * r₀ .bench .w + 7) (held r₀ words₀ list₀) left (held r words list)
+Inv-loop len p words₀ list₀ r₀ left₀ words list r left = Finishing 13 len p (llMost (r₀ .bench .w)) (held r₀ words₀ list₀) left (held r words list)
 
 abbrev μ-loop : tie.MeasureT-loop
 μ-loop len p words₀ list₀ r₀ left₀ words list r left = left
