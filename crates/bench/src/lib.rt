@@ -124,11 +124,12 @@ pub fn view_number(w: usize, value: &[u64], written: &[u64], k: usize) -> u8
     machine::view::view_number(w, value, written, k)
 }
 
-// The words of success k, no copy: the set-up value for 0, else a part of the list; an empty part of the set-up value at a refusal.
-// Wrong programs that this rules out: one that always gives the set-up value;
-// one that counts the successes in the list from 0, so that success 1 shows the second.
+// The words of success k, no copy: the set-up value for 0, else a part of the list; an empty part of the set-up value at
+// a refusal. What it returns begins where the model says, and has those words.
+// Wrong programs that this rules out: one that counts the successes in the list from 0, so that 1 shows the second;
+// one that gives an empty part of the list at a refusal, or another place that happens to hold the same words.
 pub fn view<'a>(w: usize, value: &'a [u64], written: &'a [u64], k: usize) -> &'a [u64]
-    ensures { λ r. ⌜ now r ≡ view w (now (value .entry)) (now (written .entry)) k ⌝ }
+    ensures { λ r. ⌜ (r .ptr, now r) ≡ view w (value .entry) (written .entry) k ⌝ }
 {
     machine::view::view(w, value, written, k)
 }

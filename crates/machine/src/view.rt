@@ -23,10 +23,11 @@ pub fn view_number(w: usize, value: &[u64], written: &[u64], k: usize) -> u8
     0
 }
 
-// The words of success k, no copy: the set-up value for 0, else a part of the list; an empty part of the set-up value at a refusal.
-// Ruled out: one that always gives the set-up value, and one that counts the successes in the list from 0, so that success 1 shows the second.
+// The words of success k, no copy: the set-up value for 0, else a part of the list; an empty part of the set-up value at
+// a refusal.
+// Ruled out: one that counts the successes in the list from 0, and one that gives an empty part of the list when refused.
 pub fn view<'a>(w: usize, value: &'a [u64], written: &'a [u64], k: usize) -> &'a [u64]
-    ensures { λ r. ⌜ now r ≡ view w (now (value .entry)) (now (written .entry)) k ⌝ }
+    ensures { λ r. ⌜ (r .ptr, now r) ≡ view w (value .entry) (written .entry) k ⌝ }
 {
     let number = view_number(w, value, written, k);
     if number != 0 {

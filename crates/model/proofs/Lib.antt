@@ -5,3 +5,4 @@ pub mod Runs
 pub mod TornReadings
 pub mod RowOrder
 pub mod HalfMoves
+pub mod Views
