@@ -1,3 +1,4 @@
+pub mod BufferRuns
 pub mod Updates
 pub mod Residues
 pub mod PointFacts

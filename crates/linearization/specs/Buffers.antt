@@ -78,11 +78,15 @@ abbrev pub successes : List Call → ℕ
 successes [] = 0
 successes (c ∷ cs) = succeeds (c .answer) + successes cs
 
--- The buffer that X names after the commands `cs` holds the words of the last success among them (or the set-up value), and still holds
--- them after any further commands in which X changes fewer than 2N times.
-abbrev pub WordsStay : Type 0
-WordsStay =
+-- The buffer that X names after the commands `cs` holds the words of the last success among them (or the set-up value),
+-- and still holds them after any further commands in which X changes fewer times than `changes` of N.
+abbrev pub WordsStayFor : (ℕ → ℕ) → Type 0
+WordsStayFor changes =
     (m : Memory) → Shaped m → (n w : ℕ) (value : List ℕ) (cs more : List Command) → setUp m n w value .0 ≡ 0
-    → successes (calls (events (setUp m n w value .1) (cs ++ more))) < successes (calls (events (setUp m n w value .1) cs)) + 2 * n
+    → successes (calls (events (setUp m n w value .1) (cs ++ more))) < successes (calls (events (setUp m n w value .1) cs)) + changes n
     → bufferWords (after (setUp m n w value .1) (cs ++ more)) (after (setUp m n w value .1) cs .bench .x .content .buf)
     ≡ lastWritten value (calls (events (setUp m n w value .1) cs))
+
+-- "until X has changed 2N more times"
+abbrev pub WordsStay : Type 0
+WordsStay = WordsStayFor (λ n. 2 * n)
