@@ -20,3 +20,6 @@ pub mod RunLaws
 pub mod Runs
 pub mod CommandFrame
 pub mod TextFrame
+pub mod TableLengths
+pub mod AcceptedSteps
+pub mod TraceTruth
