@@ -21,8 +21,9 @@ use Rattle.listing.specs.Decimal.{digits, decimal}
 use Rattle.listing.specs.Lines.{letterL, letterS, letterV, answerHead, wordsOf, llLine, truthLine}
 use Rattle.access.specs.declared.Access.{Access}
 use Rattle.access.specs.declared.Act.the-variants.{Sc}
-use Rattle.access.specs.Accesses.{onBank, validX, accessOf}
-use Rattle.access.specs.TraceLines.{quoted, spaced, bracketed, headText, halfText, halfPlaceText, itemText, valuesText, truthText, storedText, writtenText, actText, endText, stepLine, broughtText, startLine}
+use Rattle.access.specs.Accesses.{bankAccess, vlOfX, accessOf}
+use Rattle.listing.specs.Quoted.{quoted}
+use Rattle.access.specs.TraceLines.{spaced, bracketed, headText, halfText, halfPlaceText, itemText, valuesText, truthText, storedText, writtenText, actText, endText, stepLine, broughtText, startLine}
 
 -- the line of a step of p, with its answer; ws are the words after it
 stepped : ℕ → ℕ → Access → ℕ → ℕ → List ℕ → Reply → List ℕ
@@ -50,20 +51,37 @@ traced entry m (c ∷ cs) =
 -- case A: `2 1 5`, `0l 0! 0s7 0! ..`
 case-A :
     traced 1 (setUp dirty 2 1 (5 ∷ []) .1) (l 0 ++ steps 10 0 ++ s 1 0 7 ++ steps 6 0)
-    ≡ quoted "1 0 start L\n2 0 1 Help[0] write 1 4 links cleared\n3 0 2 X LL 0 0 link set\n4 0 3 BUF[0][0] low read 5\n5 0 3 BUF[0][0] high read 0\n6 0 4 Help[0] LL 1 4 link set\n7 0 8 Help[0] LL 1 4 link set\n8 0 9 Help[0] SC 0 4 true links cleared\n9 0 10 Help[0] read 0 4\n10 0 11 BUF[4][0] low write 5\n11 0 11 BUF[4][0] high write 0 answers 0 L 10 5\n12 0 start S 7\n13 0 12 Bank[0] LL 0 link set\n14 0 14 Help[0] LL 0 4 link set\n15 0 17 BUF[4][0] low write 7\n16 0 17 BUF[4][0] high write 0\n17 0 18 Bank[1] read 1\n18 0 19 X SC 4 1 true links cleared answers 0 S 6 1\n"
+    ≡ quoted "1 0 start L\n"
+    ++ quoted "2 0 1 Help[0] write 1 4 links cleared\n"
+    ++ quoted "3 0 2 X LL 0 0 link set\n"
+    ++ quoted "4 0 3 BUF[0][0] low read 5\n"
+    ++ quoted "5 0 3 BUF[0][0] high read 0\n"
+    ++ quoted "6 0 4 Help[0] LL 1 4 link set\n"
+    ++ quoted "7 0 8 Help[0] LL 1 4 link set\n"
+    ++ quoted "8 0 9 Help[0] SC 0 4 true links cleared\n"
+    ++ quoted "9 0 10 Help[0] read 0 4\n"
+    ++ quoted "10 0 11 BUF[4][0] low write 5\n"
+    ++ quoted "11 0 11 BUF[4][0] high write 0 answers 0 L 10 5\n"
+    ++ quoted "12 0 start S 7\n"
+    ++ quoted "13 0 12 Bank[0] LL 0 link set\n"
+    ++ quoted "14 0 14 Help[0] LL 0 4 link set\n"
+    ++ quoted "15 0 17 BUF[4][0] low write 7\n"
+    ++ quoted "16 0 17 BUF[4][0] high write 0\n"
+    ++ quoted "17 0 18 Bank[1] read 1\n"
+    ++ quoted "18 0 19 X SC 4 1 true links cleared answers 0 S 6 1\n"
 unfolding traced entryLine stepped command refusal inRange obey stepAt accessOf setUp setUpRefusal spaced bracketed headText halfText halfPlaceText itemText valuesText storedText writtenText actText endText stepLine broughtText startLine llLine truthLine answerHead wordsOf decimal digits
 case-A = refl
 
 -- an SC that did nothing, a VL of each truth, and a start of a VL
-not-stored : stepLine 60000 15 (onBank 13 (record { 0 = 31 }) (Sc false) (record { 0 = 47 })) false ≡ quoted "60000 15 13 Bank[31] SC 47 false\n"
+not-stored : stepLine 60000 15 (bankAccess 13 (record { 0 = 31 }) (Sc false) (record { 0 = 47 })) false ≡ quoted "60000 15 13 Bank[31] SC 47 false\n"
 unfolding spaced bracketed headText itemText valuesText storedText actText endText stepLine decimal digits
 not-stored = refl
 
-valid : stepLine 3 1 (validX 23 true) true ++ truthLine 1 letterV 1 true ≡ quoted "3 1 23 X VL true answers 1 V 1 1\n"
+valid : stepLine 3 1 (vlOfX 23 true) true ++ truthLine 1 letterV 1 true ≡ quoted "3 1 23 X VL true answers 1 V 1 1\n"
 unfolding spaced headText itemText truthText actText endText stepLine truthLine answerHead decimal digits
 valid = refl
 
-not-valid : stepLine 4 1 (validX 7 false) false ≡ quoted "4 1 7 X VL false\n"
+not-valid : stepLine 4 1 (vlOfX 7 false) false ≡ quoted "4 1 7 X VL false\n"
 unfolding spaced headText itemText truthText actText endText stepLine decimal digits
 not-valid = refl
 

@@ -1,10 +1,22 @@
--- (s + 1) mod 2N is a place of Bank, s mod N a place of Help.
-use Prim.Native.Nat.{ℕ, _+_, _*_, _%_, _≤_, _<_}
-use native.Mathlib.Nat.{mod-lt}
+-- The words that a step reads are lent.
+use mathlib.Core.List.{List}
+use Prim.Native.Nat.{ℕ, _+_, _*_, _≤_, _<_}
 use native.Mathlib.Omega.{arith}
+use lib.ListN.{length}
+use Rattle.model.specs.declared.BufferNumber.{BufferNumber}
+use Rattle.model.specs.declared.ProcessNumber.{ProcessNumber}
+use Rattle.model.specs.declared.Process.{Process}
+use Rattle.model.specs.Sizes.{halves}
+use Rattle.model.specs.Words.{bufferWord, wordOf}
+use Rattle.machine.specs.Ranges.{Ready}
+use Rattle.machine.proofs.WordLaws.{lies}
 
-pub next-small : (n s : ℕ) → 0 < n → n ≤ 16 → (s + 1) % (2 * n) < 32
-next-small n s h l = omega (arith, mod-lt (s + 1) {m = 2 * n} (omega arith))
+module _ {n w : ℕ} {q : Process} {p : ProcessNumber} {ws : List ℕ} (h : Ready n w q p ws) where
+  -- in any of the 5N rows, at the word place
+  pub word-lies : (row : ℕ) → row < 5 * n → row * w + wordOf (q .word) < length ws
+  word-lies row l = lies n l (omega (arith, h .word)) (h .lent .words)
 
-pub helped-small : (n s : ℕ) → 0 < n → n ≤ 16 → s % n < 16
-helped-small n s h l = omega (arith, mod-lt s {m = n} h)
+  -- what a read of BUF[f] needs
+  pub read-lies : (f : BufferNumber) → f .0 < 3 * n
+      → (w ≤ 64) × ((q .word < halves w) × (bufferWord w f (wordOf (q .word)) < length ws))
+  read-lies f l = (h .lent .w-most, (h .word, word-lies (f .0) (omega arith)))

@@ -4,7 +4,7 @@ use mathlib.Core.List.{List, [], _∷_}
 use mathlib.Core.Bool.{Bool, true, false, _&&_}
 use Prim.Native.Nat.{ℕ, zero, suc, _+_, _*_, _≤_, _<_}
 use native.Mathlib.Omega.{arith}
-use native.Mathlib.Nat.{le-of-suc-le-suc, not-suc-le-zero, mod-lt}
+use native.Mathlib.Nat.{le-of-suc-le-suc, not-suc-le-zero}
 use lib.Dec.{ltb, leb}
 use lib.ListN.{length, getD, take, length-take}
 use lib.Seq.{getD-take}
@@ -22,7 +22,7 @@ use Rattle.model.specs.Records.{noProcess, recordAt}
 use Rattle.model.specs.Places.{linked}
 use Rattle.model.specs.Tables.{noBank, noHelp, bankAt, helpAt, next, helped}
 use Rattle.model.specs.Sizes.{halves}
-use Rattle.model.specs.Words.{bufferWord, returnWord, offerWord, wordOf, half}
+use Rattle.model.specs.Words.{bufferWord, wordOf, half}
 use Rattle.model.proofs.HalfLaws.{half-small}
 use Rattle.model.specs.Points.{Point, idle, line1, line2, line3, line4, line5, line6, line7, line7copy, line8, line9, line10, line11, line12, line12valid, line13, line14, line14valid, line15, line17, line18, line19, line23}
 use Rattle.model.specs.Machine.{Memory}
@@ -31,13 +31,15 @@ use Rattle.machine.specs.Ranges.{Ready}
 use Rattle.machine.proofs.AndLaws.{left, right}
 use Rattle.machine.proofs.ListLaws.{every-at}
 use Rattle.machine.proofs.WordLaws.{within}
+use Rattle.machine.proofs.IndexLaws.{bank-index-in, help-index-in}
 use Rattle.access.specs.declared.Act.{Act}
 use Rattle.access.specs.declared.Act.the-variants.{Read, Write, Ll, Sc}
-use Rattle.access.specs.Accesses.{onX, onBank, onHelp, onHalf, validX, readHalf, accessOf}
+use Rattle.access.specs.Accesses.{xAccess, bankAccess, helpAccess, halfAccess, vlOfX, scAtHelp, readHalf, writeHalf, accessOf}
 use Rattle.access.proofs.Lengths.{SmallAccess}
 
 -- what a test of the first k places shows of each of them, and of what stands past the end
-found : {A : Type 0} (P : A → Type 0) (f : A → Bool) → ((a : A) → f a ≡ true → P a) → (l : List A) (k i : ℕ) (d : A) → every f (take k l) ≡ true → i < k → P d → P (getD l i d)
+found : {A : Type 0} (P : A → Type 0) (f : A → Bool) → ((a : A) → f a ≡ true → P a)
+    → (l : List A) (k i : ℕ) (d : A) → every f (take k l) ≡ true → i < k → P d → P (getD l i d)
 found P f t [] k i d e h p = p
 found P f t (a ∷ l) zero i d e h p = absurd (not-suc-le-zero h)
 found P f t (a ∷ l) (suc k) zero d e h p = t a (left (f a) (every f (take k l)) e)
@@ -83,34 +85,46 @@ c-in n w q e =
     ltb-true (q .c .0) (3 * n) (left c rest (right b (c && rest) (right x (b && (c && rest)) (right m (x && (b && (c && rest))) e))))
 
 -- an access to each kind of item, whose numbers are a byte's or a word's
-valid-small : (line : ℕ) (t : Bool) → line ≤ 255 → SmallAccess (validX line t)
+valid-small : (line : ℕ) (t : Bool) → line ≤ 255 → SmallAccess (vlOfX line t)
 valid-small line t h = record { line = h; index = omega arith; word = omega arith; first = omega arith; second = omega arith }
 
-x-small : (line : ℕ) (act : Act) (v : XContent) → line ≤ 255 → v .buf .0 ≤ 48 → v .seq .0 ≤ 32 → SmallAccess (onX line act v)
+x-small : (line : ℕ) (act : Act) (v : XContent) → line ≤ 255 → v .buf .0 ≤ 48 → v .seq .0 ≤ 32 → SmallAccess (xAccess line act v)
 x-small line act v h k l = record { line = h; index = omega arith; word = omega arith; first = omega arith; second = omega arith }
 
-bank-small : (line : ℕ) (i : SequenceNumber) (act : Act) (v : BufferNumber) → line ≤ 255 → i .0 < 32 → v .0 ≤ 48 → SmallAccess (onBank line i act v)
+bank-small : (line : ℕ) (i : SequenceNumber) (act : Act) (v : BufferNumber) → line ≤ 255 → i .0 < 32 → v .0 ≤ 48 → SmallAccess (bankAccess line i act v)
 bank-small line i act v h k l = record { line = h; index = omega arith; word = omega arith; first = omega arith; second = omega arith }
 
-help-small : (line : ℕ) (i : ProcessNumber) (act : Act) (v : HelpContent) → line ≤ 255 → i .0 < 16 → v .flag ≤ 1 → v .buf .0 ≤ 48 → SmallAccess (onHelp line i act v)
+help-small : (line : ℕ) (i : ProcessNumber) (act : Act) (v : HelpContent) → line ≤ 255 → i .0 < 16 → v .flag ≤ 1 → v .buf .0 ≤ 48 → SmallAccess (helpAccess line i act v)
 help-small line i act v h k l m = record { line = h; index = omega arith; word = omega arith; first = omega arith; second = omega arith }
 
 -- b is the bench, q the record of p, ws the lent words, of which the 5N rows have at most ten digits
-module _ (b : Bench) {q : Process} {p : ProcessNumber} {ws : List ℕ} (r : Ready (b .n) (b .w) q p ws) (bench : benchOk b ≡ true) (process : processOk (b .n) (b .w) q ≡ true)
+module _ (b : Bench) {q : Process} {p : ProcessNumber} {ws : List ℕ} (r : Ready (b .n) (b .w) q p ws)
+    (bench : benchOk b ≡ true) (process : processOk (b .n) (b .w) q ≡ true)
     (words : (i : ℕ) → i < 5 * b .n * b .w → getD ws i 0 ≤ 4294967295) where
-  tables : (every (bankPlaceOk (b .n)) (take (2 * b .n) (b .bank)) && every (helpPlaceOk (b .n)) (take (b .n) (b .help))) ≡ true
-  tables = right (xPlaceOk (b .n) (b .x)) (every (bankPlaceOk (b .n)) (take (2 * b .n) (b .bank)) && every (helpPlaceOk (b .n)) (take (b .n) (b .help))) bench
+  -- the tests of row 9 on the two tables
+  abbrev banks : Bool
+  banks = every (bankPlaceOk (b .n)) (take (2 * b .n) (b .bank))
+
+  abbrev helps : Bool
+  helps = every (helpPlaceOk (b .n)) (take (b .n) (b .help))
+
+  tables : (banks && helps) ≡ true
+  tables = right (xPlaceOk (b .n) (b .x)) (banks && helps) bench
 
   bank-at : (i : SequenceNumber) → i .0 < 2 * b .n → SmallBank (b .n) (bankAt b i)
-  bank-at i h = found (SmallBank (b .n)) (bankPlaceOk (b .n)) (bank-in (b .n)) (b .bank) (2 * b .n) (i .0) noBank (left (every (bankPlaceOk (b .n)) (take (2 * b .n) (b .bank))) (every (helpPlaceOk (b .n)) (take (b .n) (b .help))) tables) h (omega (arith, r .lent .n-some))
+  bank-at i h =
+      let ok = left banks helps tables in
+      let none : SmallBank (b .n) noBank = omega (arith, r .lent .n-some) in
+      found (SmallBank (b .n)) (bankPlaceOk (b .n)) (bank-in (b .n)) (b .bank) (2 * b .n) (i .0) noBank ok h none
 
   help-at : (i : ProcessNumber) → i .0 < b .n → SmallHelp (b .n) (helpAt b i)
-  help-at i h = found (SmallHelp (b .n)) (helpPlaceOk (b .n)) (help-in (b .n)) (b .help) (b .n) (i .0) noHelp (right (every (bankPlaceOk (b .n)) (take (2 * b .n) (b .bank))) (every (helpPlaceOk (b .n)) (take (b .n) (b .help))) tables) h (record { flag = omega arith; buf = omega (arith, r .lent .n-some) })
+  help-at i h =
+      let ok = right banks helps tables in
+      let none : SmallHelp (b .n) noHelp = record { flag = omega arith; buf = omega (arith, r .lent .n-some) } in
+      found (SmallHelp (b .n)) (helpPlaceOk (b .n)) (help-in (b .n)) (b .help) (b .n) (i .0) noHelp ok h none
 
   x-ok : xOk (b .n) (b .x .content) ≡ true
-  x-ok =
-      left (xOk (b .n) (b .x .content)) (linksOk (b .n) (b .x .links))
-      (left (xPlaceOk (b .n) (b .x)) (every (bankPlaceOk (b .n)) (take (2 * b .n) (b .bank)) && every (helpPlaceOk (b .n)) (take (b .n) (b .help))) bench)
+  x-ok = left (xOk (b .n) (b .x .content)) (linksOk (b .n) (b .x .links)) (left (xPlaceOk (b .n) (b .x)) (banks && helps) bench)
 
   x-buf : b .x .content .buf .0 < 3 * b .n
   x-buf = ltb-true (b .x .content .buf .0) (3 * b .n) (left (bufferOk (b .n) (b .x .content .buf)) (sequenceOk (b .n) (b .x .content .seq)) x-ok)
@@ -125,24 +139,43 @@ module _ (b : Bench) {q : Process} {p : ProcessNumber} {ws : List ℕ} (r : Read
   most : b .n ≤ 16
   most = r .lent .n-most
 
-  word-small : (line : ℕ) (f : BufferNumber) (act : Act) (v : ℕ) → line ≤ 255 → f .0 < 3 * b .n → v ≤ 4294967295 → SmallAccess (onHalf line f (q .word) act (half (q .word) v))
+  word-small : (line : ℕ) (f : BufferNumber) (act : Act) (v : ℕ) → line ≤ 255 → f .0 < 3 * b .n → v ≤ 4294967295
+      → SmallAccess (halfAccess line f (q .word) act (half (q .word) v))
   word-small line f act v h k l = record { line = h; index = omega (arith, most); word = omega (arith, r .word, r .lent .w-most); first = half-small (q .word) v l; second = omega arith }
 
   -- LL or read of Help[i], and a read of BUF[f]
-  seen-small : (line : ℕ) (i : ProcessNumber) (act : Act) → line ≤ 255 → i .0 < b .n → SmallAccess (onHelp line i act (helpAt b i .content))
+  seen-small : (line : ℕ) (i : ProcessNumber) (act : Act) → line ≤ 255 → i .0 < b .n → SmallAccess (helpAccess line i act (helpAt b i .content))
   seen-small line i act h k = let s = help-at i k in help-small line i act (helpAt b i .content) h (omega (arith, most)) (s .flag) (omega (arith, s .buf, most))
 
-  read-small : (line : ℕ) (f : BufferNumber) → line ≤ 255 → f .0 < 3 * b .n → SmallAccess (readHalf line f b q ws)
+  read-small : (line : ℕ) (f : BufferNumber) → line ≤ 255 → f .0 < 3 * b .n → SmallAccess (readHalf line f (b .w) q ws)
   read-small line f h k = word-small line f Read (getD ws (bufferWord (b .w) f (wordOf (q .word))) 0) h k (word-at (f .0) (omega arith))
 
   own : p .0 < b .n
   own = r .lent .process
 
-  helped-in : helped (b .n) (q .x .seq) .0 < b .n
-  helped-in = mod-lt (q .x .seq .0) {m = b .n} (r .lent .n-some)
+  -- the process that is helped, and the place of Bank that line 18 reads
+  abbrev g : ProcessNumber
+  g = helped (b .n) (q .x .seq)
 
-  next-in : next (b .n) (q .x .seq) .0 < 2 * b .n
-  next-in = mod-lt (q .x .seq .0 + 1) {m = 2 * b .n} (omega (arith, r .lent .n-some))
+  abbrev freed : SequenceNumber
+  freed = next (b .n) (q .x .seq)
+
+  helped-in : g .0 < b .n
+  helped-in = help-index-in r line14
+
+  next-in : freed .0 < 2 * b .n
+  next-in = bank-index-in r line18
+
+  -- p's SC(Help[i], (0, v))
+  stored-small : (line : ℕ) (i : ProcessNumber) (v : BufferNumber) → line ≤ 255 → i .0 < b .n → v .0 < 3 * b .n
+      → SmallAccess (scAtHelp line i p v b)
+  stored-small line i v h k l =
+      let done = Sc (linked (helpAt b i .links) p) in
+      help-small line i done (record { flag = 0; buf = v }) h (omega (arith, most)) (omega arith) (omega (arith, most))
+
+  -- a half of a word of the row goes to BUF[mybuf]
+  written-small : (line row : ℕ) → line ≤ 255 → row < 5 * b .n → SmallAccess (writeHalf line (row * b .w + wordOf (q .word)) q ws)
+  written-small line row h k = word-small line (q .mybuf) Write (getD ws (row * b .w + wordOf (q .word)) 0) h (r .mybuf) (word-at row k)
 
   pub access-small : (y : Point) → SmallAccess (accessOf y p b q ws)
   unfolding accessOf
@@ -156,16 +189,16 @@ module _ (b : Bench) {q : Process} {p : ProcessNumber} {ws : List ℕ} (r : Read
   access-small line7 = valid-small 7 (linked (b .x .links) p) (omega arith)
   access-small line7copy = read-small 7 (q .b) (omega arith) (r .b-buf)
   access-small line8 = seen-small 8 p Ll (omega arith) own
-  access-small line9 = help-small 9 p (Sc (linked (helpAt b p .links) p)) (record { flag = 0; buf = q .c }) (omega arith) (omega (arith, own, most)) (omega arith) (omega (arith, c-in (b .n) (b .w) q process, most))
+  access-small line9 = stored-small 9 p (q .c) (omega arith) own (c-in (b .n) (b .w) q process)
   access-small line10 = seen-small 10 p Read (omega arith) own
-  access-small line11 = word-small 11 (q .mybuf) Write (getD ws (returnWord (b .n) (b .w) p (wordOf (q .word))) 0) (omega arith) (r .mybuf) (word-at (3 * b .n + p .0) (omega (arith, own)))
+  access-small line11 = written-small 11 (3 * b .n + p .0) (omega arith) (omega (arith, own))
   access-small line12 = bank-small 12 (q .x .seq) Ll (bankAt b (q .x .seq) .content) (omega arith) (omega (arith, r .x-seq, most)) (omega (arith, bank-at (q .x .seq) (r .x-seq), most))
   access-small line12valid = valid-small 12 (linked (b .x .links) p) (omega arith)
   access-small line13 = bank-small 13 (q .x .seq) (Sc (linked (bankAt b (q .x .seq) .links) p)) (q .x .buf) (omega arith) (omega (arith, r .x-seq, most)) (omega (arith, r .x-buf, most))
-  access-small line14 = seen-small 14 (helped (b .n) (q .x .seq)) Ll (omega arith) helped-in
+  access-small line14 = seen-small 14 g Ll (omega arith) helped-in
   access-small line14valid = valid-small 14 (linked (b .x .links) p) (omega arith)
-  access-small line15 = help-small 15 (helped (b .n) (q .x .seq)) (Sc (linked (helpAt b (helped (b .n) (q .x .seq)) .links) p)) (record { flag = 0; buf = q .mybuf }) (omega arith) (omega (arith, helped-in, most)) (omega arith) (omega (arith, r .mybuf, most))
-  access-small line17 = word-small 17 (q .mybuf) Write (getD ws (offerWord (b .n) (b .w) p (wordOf (q .word))) 0) (omega arith) (r .mybuf) (word-at (4 * b .n + p .0) (omega (arith, own)))
-  access-small line18 = bank-small 18 (next (b .n) (q .x .seq)) Read (bankAt b (next (b .n) (q .x .seq)) .content) (omega arith) (omega (arith, next-in, most)) (omega (arith, bank-at (next (b .n) (q .x .seq)) next-in, most))
-  access-small line19 = x-small 19 (Sc (linked (b .x .links) p)) (record { buf = q .mybuf; seq = next (b .n) (q .x .seq) }) (omega arith) (omega (arith, r .mybuf, most)) (omega (arith, next-in, most))
+  access-small line15 = stored-small 15 g (q .mybuf) (omega arith) helped-in (r .mybuf)
+  access-small line17 = written-small 17 (4 * b .n + p .0) (omega arith) (omega (arith, own))
+  access-small line18 = bank-small 18 (freed) Read (bankAt b (freed) .content) (omega arith) (omega (arith, next-in, most)) (omega (arith, bank-at (freed) next-in, most))
+  access-small line19 = x-small 19 (Sc (linked (b .x .links) p)) (record { buf = q .mybuf; seq = freed }) (omega arith) (omega (arith, r .mybuf, most)) (omega (arith, next-in, most))
   access-small line23 = valid-small 23 (linked (b .x .links) p) (omega arith)

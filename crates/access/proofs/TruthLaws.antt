@@ -30,19 +30,22 @@ use Rattle.access.specs.declared.Item.the-variants.{X, Bank, Help, Half}
 use Rattle.access.specs.declared.Act.{Act}
 use Rattle.access.specs.declared.Act.the-variants.{Read, Write, Sc}
 use Rattle.access.specs.Items.{InBench, xHolding, bankHolding, helpHolding, halfHolding, itemAt}
-use Rattle.access.specs.Accesses.{onBank, onHelp, onHalf}
+use Rattle.access.specs.Accesses.{bankAccess, helpAccess, halfAccess}
 use Rattle.access.specs.Truth.{Says, TellsTruth}
 
 -- an SC says the truth of its link
-pub sc-x : (p : ProcessNumber) (v : XContent) (x : XPlace) (t : Bool) → linked (x .links) p ≡ t → Says (Sc t) p (v .buf .0) (v .seq .0) (xHolding x) (xHolding (cond t (record { content = v; links = noLinks }) x))
+pub sc-x : (p : ProcessNumber) (v : XContent) (x : XPlace) (t : Bool) → linked (x .links) p ≡ t
+    → Says (Sc t) p (v .buf .0) (v .seq .0) (xHolding x) (xHolding (cond t (record { content = v; links = noLinks }) x))
 sc-x p v x true e = (e, refl)
 sc-x p v x false e = (e, refl)
 
-pub sc-bank : (p : ProcessNumber) (v : BufferNumber) (k : BankPlace) (t : Bool) → linked (k .links) p ≡ t → Says (Sc t) p (v .0) 0 (bankHolding k) (bankHolding (cond t (record { content = v; links = noLinks }) k))
+pub sc-bank : (p : ProcessNumber) (v : BufferNumber) (k : BankPlace) (t : Bool) → linked (k .links) p ≡ t
+    → Says (Sc t) p (v .0) 0 (bankHolding k) (bankHolding (cond t (record { content = v; links = noLinks }) k))
 sc-bank p v k true e = (e, refl)
 sc-bank p v k false e = (e, refl)
 
-pub sc-help : (p : ProcessNumber) (v : HelpContent) (h : HelpPlace) (t : Bool) → linked (h .links) p ≡ t → Says (Sc t) p (v .flag) (v .buf .0) (helpHolding h) (helpHolding (cond t (record { content = v; links = noLinks }) h))
+pub sc-help : (p : ProcessNumber) (v : HelpContent) (h : HelpPlace) (t : Bool) → linked (h .links) p ≡ t
+    → Says (Sc t) p (v .flag) (v .buf .0) (helpHolding h) (helpHolding (cond t (record { content = v; links = noLinks }) h))
 sc-help p v h true e = (e, refl)
 sc-help p v h false e = (e, refl)
 
@@ -66,7 +69,8 @@ module _ (p : ProcessNumber) (b : Bench) (ws : List ℕ) where
   x-others x (Help i) n = refl
   x-others x (Half f k) n = refl
 
-  pub x-tells : (line : ℕ) (act : Act) (v u : ℕ) (x : XPlace) → Says act p v u (xHolding (b .x)) (xHolding x) → TellsTruth p (record { line = line; item = X; act = act; first = v; second = u }) b ws (putX b x) ws
+  pub x-tells : (line : ℕ) (act : Act) (v u : ℕ) (x : XPlace) → Says act p v u (xHolding (b .x)) (xHolding x)
+      → TellsTruth p (record { line = line; item = X; act = act; first = v; second = u }) b ws (putX b x) ws
   x-tells line act v u x s = record { item = s; others = λ i h n. x-others x i n }
 
   -- another Bank[s]
@@ -76,7 +80,8 @@ module _ (p : ProcessNumber) (b : Bench) (ws : List ℕ) where
   bank-others s k (Help i) n = refl
   bank-others s k (Half f j) n = refl
 
-  pub bank-tells : (line : ℕ) (s : SequenceNumber) (act : Act) (v : BufferNumber) (k : BankPlace) → s .0 < length (b .bank) → Says act p (v .0) 0 (bankHolding (bankAt b s)) (bankHolding k) → TellsTruth p (onBank line s act v) b ws (putBank b s k) ws
+  pub bank-tells : (line : ℕ) (s : SequenceNumber) (act : Act) (v : BufferNumber) (k : BankPlace) → s .0 < length (b .bank)
+      → Says act p (v .0) 0 (bankHolding (bankAt b s)) (bankHolding k) → TellsTruth p (bankAccess line s act v) b ws (putBank b s k) ws
   bank-tells line s act v k h x = record {
     item = subst (λ (j : BankPlace). Says act p (v .0) 0 (bankHolding (bankAt b s)) (bankHolding j)) (sym (getD-set-same (b .bank) (s .0) k noBank h)) x;
     others = λ i _ n. bank-others s k i n;
@@ -89,17 +94,19 @@ module _ (p : ProcessNumber) (b : Bench) (ws : List ℕ) where
   help-others s k (Help i) n = ap helpHolding (getD-set-other (b .help) (s .0) (i .0) k noHelp (λ e. n (ap (λ (j : ℕ). Help (record { 0 = j })) e)))
   help-others s k (Half f j) n = refl
 
-  pub help-tells : (line : ℕ) (s : ProcessNumber) (act : Act) (v : HelpContent) (k : HelpPlace) → s .0 < length (b .help) → Says act p (v .flag) (v .buf .0) (helpHolding (helpAt b s)) (helpHolding k) → TellsTruth p (onHelp line s act v) b ws (putHelp b s k) ws
+  pub help-tells : (line : ℕ) (s : ProcessNumber) (act : Act) (v : HelpContent) (k : HelpPlace) → s .0 < length (b .help)
+      → Says act p (v .flag) (v .buf .0) (helpHolding (helpAt b s)) (helpHolding k) → TellsTruth p (helpAccess line s act v) b ws (putHelp b s k) ws
   help-tells line s act v k h x = record {
     item = subst (λ (j : HelpPlace). Says act p (v .flag) (v .buf .0) (helpHolding (helpAt b s)) (helpHolding j)) (sym (getD-set-same (b .help) (s .0) k noHelp h)) x;
     others = λ i _ n. help-others s k i n;
   }
 
   -- half k of row r is taken from the word u: a half word of BUF is that one or as before
-  abbrev halfPut : ℕ → ℕ → ℕ → List ℕ
+  abbrev pub halfPut : ℕ → ℕ → ℕ → List ℕ
   halfPut r k u = set ws (r * b .w + wordOf k) (withHalf k u (getD ws (r * b .w + wordOf k) 0))
 
-  half-others : (r k u : ℕ) (i : Item) → InBench b i → k < halves (b .w) → r * b .w + wordOf k < length ws → ((f : BufferNumber) → i ≡ Half f k → f .0 ≢ r) → itemAt i b (halfPut r k u) ≡ itemAt i b ws
+  half-others : (r k u : ℕ) (i : Item) → InBench b i → k < halves (b .w) → r * b .w + wordOf k < length ws
+      → ((f : BufferNumber) → i ≡ Half f k → f .0 ≢ r) → itemAt i b (halfPut r k u) ≡ itemAt i b ws
   half-others r k u X h l s n = refl
   half-others r k u (Bank i) h l s n = refl
   half-others r k u (Help i) h l s n = refl
@@ -111,16 +118,22 @@ module _ (p : ProcessNumber) (b : Bench) (ws : List ℕ) where
       hk : wordOf k < b .w
       hk = omega arith
 
+      row : f .0 * b .w + wordOf j ≡ r * b .w + wordOf k → f .0 ≡ r
+      row = same-row (b .w) (f .0) r (wordOf j) (wordOf k) hj hk
+
+      word : f .0 * b .w + wordOf j ≡ r * b .w + wordOf k → wordOf j ≡ wordOf k
+      word = same-word (b .w) (f .0) r (wordOf j) (wordOf k) hj hk
+
       go : Dec (f .0 * b .w + wordOf j ≡ r * b .w + wordOf k) → itemAt (Half f j) b (halfPut r k u) ≡ itemAt (Half f j) b ws
       go (no ne) = ap (λ (v : ℕ). halfHolding (half j v)) (getD-set-other ws (r * b .w + wordOf k) (bufferWord (b .w) f (wordOf j)) _ 0 ne)
       go (yes e) =
           ap (λ (v : ℕ). halfHolding (half j v)) (ap (λ (i : ℕ). getD (halfPut r k u) i 0) e ∙ getD-set-same ws (r * b .w + wordOf k) _ 0 s)
-          ∙ ap halfHolding (half-kept j k u _ (same-word (b .w) (f .0) r (wordOf j) (wordOf k) hj hk e) (λ z. n f (ap (λ (m : ℕ). Half f m) z) (same-row (b .w) (f .0) r (wordOf j) (wordOf k) hj hk e)))
+          ∙ ap halfHolding (half-kept j k u _ (word e) (λ z. n f (ap (λ (m : ℕ). Half f m) z) (row e)))
           ∙ ap (λ (i : ℕ). halfHolding (half j (getD ws i 0))) (sym e)
 
   -- a half word of BUF is read into the return area, which lies behind BUF
   pub read-tells : (line : ℕ) (f : BufferNumber) (k r : ℕ) → f .0 < 3 * b .n → k < halves (b .w) → 3 * b .n ≤ r → r * b .w + wordOf k < length ws
-      → TellsTruth p (onHalf line f k Read (half k (getD ws (bufferWord (b .w) f (wordOf k)) 0))) b ws b (halfPut r k (getD ws (bufferWord (b .w) f (wordOf k)) 0))
+      → TellsTruth p (halfAccess line f k Read (half k (getD ws (bufferWord (b .w) f (wordOf k)) 0))) b ws b (halfPut r k (getD ws (bufferWord (b .w) f (wordOf k)) 0))
   read-tells line f k r h l m s =
       let stays : (i : Item) → InBench b i → itemAt i b (halfPut r k (getD ws (bufferWord (b .w) f (wordOf k)) 0)) ≡ itemAt i b ws =
       λ i g. half-others r k (getD ws (bufferWord (b .w) f (wordOf k)) 0) i g l s (λ f′ e z. behind i f′ e z g) in
@@ -130,7 +143,8 @@ module _ (p : ProcessNumber) (b : Bench) (ws : List ℕ) where
       behind i f′ e z g = omega (arith, subst (InBench b) e g .index)
 
   -- a half of the word u is written to BUF
-  pub write-tells : (line : ℕ) (f : BufferNumber) (k u : ℕ) → k < halves (b .w) → bufferWord (b .w) f (wordOf k) < length ws → TellsTruth p (onHalf line f k Write (half k u)) b ws b (halfPut (f .0) k u)
+  pub write-tells : (line : ℕ) (f : BufferNumber) (k u : ℕ) → k < halves (b .w) → bufferWord (b .w) f (wordOf k) < length ws
+      → TellsTruth p (halfAccess line f k Write (half k u)) b ws b (halfPut (f .0) k u)
   write-tells line f k u h l = record {
     item = ap halfHolding (ap (half k) (getD-set-same ws (bufferWord (b .w) f (wordOf k)) _ 0 l) ∙ half-set k u _);
     others = λ i g n. half-others (f .0) k u i g h l (λ f′ e z. n (e ∙ ap (λ (j : ℕ). Half (record { 0 = j }) k) z));

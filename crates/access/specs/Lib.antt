@@ -1,4 +1,5 @@
 pub mod Items
 pub mod Accesses
+pub mod AccessOn
 pub mod TraceLines
 pub mod Truth

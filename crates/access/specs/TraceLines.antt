@@ -1,11 +1,10 @@
 -- The lines of a trace as bytes. Each part but the entry number has the space before it.
 use Prim.Native.Nat.{ℕ, _%_}
-use Prim.Native.Char.{code}
-use Prim.Native.String.{String}
 use mathlib.Core.List.{List, [], _∷_, _++_}
 use mathlib.Core.Bool.{Bool, true, false, cond}
 use lib.Dec.{eqb}
 use Rattle.model.specs.Words.{wordOf}
+use Rattle.listing.specs.Quoted.{quoted}
 use Rattle.listing.specs.Decimal.{decimal}
 use Rattle.listing.specs.Lines.{letterS}
 use Rattle.access.specs.declared.Item.{Item}
@@ -13,11 +12,6 @@ use Rattle.access.specs.declared.Item.the-variants.{X, Bank, Help, Half}
 use Rattle.access.specs.declared.Act.{Act}
 use Rattle.access.specs.declared.Act.the-variants.{Read, Write, Ll, Sc, Vl}
 use Rattle.access.specs.declared.Access.{Access}
-
--- the bytes of a text of plain characters
-abbrev pub quoted : String → List ℕ
-quoted String.[] = []
-quoted (String._∷_ c s) = code c ∷ quoted s
 
 -- a number, after a space
 unfoldable pub spaced : ℕ → List ℕ

@@ -1,23 +1,22 @@
-// The accesses to a place of Bank.
+// The accesses to a place of Bank. p is the process that steps.
 ghost use mathlib.Core.Path.{_≡_};
 ghost use Prim.Native.Nat.{_<_};
 ghost use Rattle.model.specs.Places.{linked};
-ghost use Rattle.model.specs.Tables.{bankAt, next};
+ghost use Rattle.model.specs.Tables.{next};
 ghost use Rattle.lines.specs.Ranges.{Sized};
-ghost use Rattle.access.specs.Accesses.{onBank};
+ghost use Rattle.access.specs.Accesses.{bankAccess};
 use crate::Access;
 use crate::Act;
 use crate::Item;
 use lines::sequence;
-use machine::tables;
-use model::Bench;
+use model::BankPlace;
 use model::BufferNumber;
-use model::Process;
 use model::ProcessNumber;
 use model::SequenceNumber;
+use model::XContent;
 
 fn on_bank(line: u8, i: SequenceNumber, act: Act, content: BufferNumber) -> Access
-    ensures { λ r. ⌜ r ≡ onBank line i act content ⌝ }
+    ensures { λ r. ⌜ r ≡ bankAccess line i act content ⌝ }
 {
     Access {
         line,
@@ -29,37 +28,26 @@ fn on_bank(line: u8, i: SequenceNumber, act: Act, content: BufferNumber) -> Acce
 }
 
 // Line 12: LL(Bank[x.seq]).
-pub fn ll(bench: Bench, process: Process) -> Access
-    requires { ⌜ process .x .seq .0 < 32 ⌝ }
-    ensures { λ r. ⌜ r ≡ onBank 12 (process .x .seq) Act.Ll (bankAt bench (process .x .seq) .content) ⌝ }
+pub fn ll(bank: BankPlace, x: XContent) -> Access
+    ensures { λ r. ⌜ r ≡ bankAccess 12 (x .seq) Act.Ll (bank .content) ⌝ }
 {
-    let x = process.x;
-    let i = x.seq;
-    let place = tables::bank_at(bench, i);
-    on_bank(12, i, Act::Ll, place.content)
+    on_bank(12, x.seq, Act::Ll, bank.content)
 }
 
 // Line 13: SC(Bank[x.seq], x.buf).
-pub fn sc(bench: Bench, process: Process, p: ProcessNumber) -> Access
-    requires { ⌜ (p .0 < 16) × (process .x .seq .0 < 32) ⌝ }
-    ensures { λ r. ⌜ r ≡ onBank 13 (process .x .seq) (Act.Sc (linked (bankAt bench (process .x .seq) .links) p)) (process .x .buf) ⌝ }
+pub fn sc(p: ProcessNumber, bank: BankPlace, x: XContent) -> Access
+    requires { ⌜ p .0 < 16 ⌝ }
+    ensures { λ r. ⌜ r ≡ bankAccess 13 (x .seq) (Act.Sc (linked (bank .links) p)) (x .buf) ⌝ }
 {
-    let x = process.x;
-    let i = x.seq;
-    let buf = x.buf;
-    let place = tables::bank_at(bench, i);
-    let links = place.links;
-    let done = places::is_linked(links, p);
-    on_bank(13, i, Act::Sc(done), buf)
+    let done = places::is_linked(bank.links, p);
+    on_bank(13, x.seq, Act::Sc(done), x.buf)
 }
 
-// Line 18: the plain read of Bank[(x.seq + 1) mod 2N].
-pub fn read(bench: Bench, process: Process) -> Access
-    requires { ⌜ Sized (bench .n) ⌝ }
-    ensures { λ r. ⌜ r ≡ onBank 18 (next (bench .n) (process .x .seq)) Act.Read (bankAt bench (next (bench .n) (process .x .seq)) .content) ⌝ }
+// Line 18: the plain read of Bank[(x.seq + 1) mod 2N]. n is N.
+pub fn read(n: usize, bank: BankPlace, x: XContent) -> Access
+    requires { ⌜ Sized n ⌝ }
+    ensures { λ r. ⌜ r ≡ bankAccess 18 (next n (x .seq)) Act.Read (bank .content) ⌝ }
 {
-    let x = process.x;
-    let i = sequence::following(bench.n, x.seq);
-    let place = tables::bank_at(bench, i);
-    on_bank(18, i, Act::Read, place.content)
+    let i = sequence::following(n, x.seq);
+    on_bank(18, i, Act::Read, bank.content)
 }

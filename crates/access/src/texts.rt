@@ -9,7 +9,7 @@ pub fn spaced(list: &mut [u8], at: usize, n: u64) -> usize
     requires { ⌜ Room (now list) at (spaced n) ⌝ }
     ensures { λ r. ⌜ Wrote (now (list .entry)) at (spaced n) (now (list .exit)) r ⌝ }
 {
-    let a = listing::put(list, at, 32);
+    let a = listing::put(list, at, b' ');
     listing::number(list, a, n)
 }
 
@@ -18,9 +18,9 @@ fn bracketed(list: &mut [u8], at: usize, n: u64) -> usize
     requires { ⌜ Room (now list) at (bracketed n) ⌝ }
     ensures { λ r. ⌜ Wrote (now (list .entry)) at (bracketed n) (now (list .exit)) r ⌝ }
 {
-    let a = listing::put(list, at, 91);
+    let a = listing::put(list, at, b'[');
     let b = listing::number(list, a, n);
-    listing::put(list, b, 93)
+    listing::put(list, b, b']')
 }
 
 // The entry number and the process.
@@ -169,7 +169,7 @@ pub fn end(list: &mut [u8], at: usize, answered: bool) -> usize
     if answered {
         return listing::plain(list, at, b" answers ");
     }
-    listing::put(list, at, 10)
+    listing::put(list, at, b'\n')
 }
 
 // The value of a start: only an SC's.
@@ -177,7 +177,7 @@ pub fn brought(list: &mut [u8], at: usize, letter: u8, value: u64) -> usize
     requires { ⌜ Room (now list) at (broughtText letter value) ⌝ }
     ensures { λ r. ⌜ Wrote (now (list .entry)) at (broughtText letter value) (now (list .exit)) r ⌝ }
 {
-    if letter == 83 {
+    if letter == b'S' {
         return spaced(list, at, value);
     }
     at

@@ -34,5 +34,5 @@ pub fn start_line(list: &mut [u8], at: usize, entry: u64, p: u64, letter: u8, va
     let b = listing::plain(list, a, b" start ");
     let c = listing::put(list, b, letter);
     let d = texts::brought(list, c, letter, value);
-    listing::put(list, d, 10)
+    listing::put(list, d, b'\n')
 }

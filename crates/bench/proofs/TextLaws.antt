@@ -1,13 +1,13 @@
 -- What `run_text` stores back is what a text run leaves: it looks at the first sixteen records alone, and the others stay.
-use mathlib.Core.Path.{_≡_, refl, sym, ap, _∙_}
-use mathlib.Core.Bool.{Bool, true, false}
+use mathlib.Core.Path.{_≡_, refl, sym, ap, subst, _∙_}
+use mathlib.Core.Bool.{Bool, true, false, cond}
 use mathlib.Core.List.{List, _++_}
 use Prim.Native.Nat.{ℕ, zero, suc, _+_, _-_, _<_, _≤_}
 use native.Mathlib.Decide.{decLt}
 use native.Mathlib.Nat.{not-suc-le-zero}
 use native.Mathlib.Omega.{arith}
-use lib.Dec.{eqb}
-use lib.ListN.{length, getD, set, take, drop, length-append, length-set, length-take, length-drop, List·getD-append}
+use lib.Dec.{eqb, ltb}
+use lib.ListN.{length, getD, set, take, drop, length-append, length-set, length-take, length-drop, List·getD-append, List·getD-eq-default}
 use lib.Seq.{getD-set-same, getD-set-other, getD-take, getD-drop, getD-append-add, ext-getD}
 use borrow.Author.Tests.{eqb-true, eqb-false}
 use Rattle.model.specs.declared.Bench.{Bench}
@@ -18,8 +18,11 @@ use Rattle.machine.specs.Gathered.{gathered}
 use Rattle.machine.proofs.GatheredLaws.{gathered-length, gathered-at}
 use Rattle.run.specs.declared.last_line.Whole.{Whole}
 use Rattle.run.specs.TextRun.{runText}
+use Rattle.run.specs.Whole.{fewOf, Others}
+use Rattle.run.proofs.RecordLaws.{few-small}
 use Rattle.run.proofs.TextFrame.{endedLonger, first-sixteen}
 use Rattle.bench.specs.Lent.{memory, recordsStored}
+use Rattle.bench.specs.Running.{left, Ran}
 
 -- the gathered records, as many as are lent, are the first sixteen lent ones
 pub gathered-few : (l : List Process) → take (length l) (gathered l noProcess 16 .list) ≡ take 16 l
@@ -83,14 +86,44 @@ stored-back l a sixteen =
         stored-above l a 16 i (omega arith) ∙ ap (λ k. getD l k noProcess) f ∙ sym (getD-drop 16 l (i - 16) noProcess) ∙ sym (getD-append-add (take (length l) a) (drop 16 l) (i - 16) noProcess) ∙
         ap (λ k. getD (take (length l) a ++ drop 16 l) k noProcess) (sym e)
 
+-- where a agrees from k on with what was gathered, its first k records say all that its sixteen do
+pub stored-few : (l a : List Process) (k : ℕ) → k ≤ 16 → ((j : ℕ) → k ≤ j → getD a j noProcess ≡ getD (gathered l noProcess 16 .list) j noProcess) → recordsStored l a k ≡ recordsStored l a 16
+stored-few l a k few others =
+    ext-getD noProcess (recordsStored l a k) (recordsStored l a 16)
+    (stored-length l a k ∙ sym (stored-length l a 16))
+    (λ i s. at i (let x = stored-length l a k in omega arith) (decLt i k) (decLt i 16))
+  where
+    at : (i : ℕ) → i < length l → Dec (i < k) → Dec (i < 16) → getD (recordsStored l a k) i noProcess ≡ getD (recordsStored l a 16) i noProcess
+    at i s (yes h) g = stored-below l a k i h s ∙ sym (stored-below l a 16 i (omega arith) s)
+    at i s (no h) (yes g) = stored-above l a k i (omega arith) ∙ sym (gathered-at l noProcess 16 i (omega arith) g) ∙ sym (others i (omega arith)) ∙ sym (stored-below l a 16 i g s)
+    at i s (no h) (no g) = stored-above l a k i (omega arith) ∙ sym (stored-above l a 16 i (omega arith))
+
 -- from what the run by value says and what is stored back, to a run over all lent memory
-pub settled : (b : Bench) (rs : List Process) (ws text listing : List ℕ) (r : Whole) (zs : List Process) (vs ls : List ℕ)
-    → record { number = r .number; entries = r .entries; written = r .written; memory = memory (r .bench) (take (length rs) (r .all .list)) vs; listing = ls } ≡ runText (memory b (take (length rs) (gathered rs noProcess 16 .list)) ws) text listing
-    → r .all ≡ gathered (take (length rs) (r .all .list)) noProcess 16
-    → zs ≡ recordsStored rs (r .all .list) 16
-    → record { number = r .number; entries = r .entries; written = r .written; memory = memory (r .bench) zs vs; listing = ls } ≡ runText (memory b rs ws) text listing
-settled b rs ws text listing r zs vs ls e again stored =
-    ap (λ (l : List Process). record { number = r .number; entries = r .entries; written = r .written; memory = memory (r .bench) l vs; listing = ls })
-    (stored ∙ stored-back rs (r .all .list) (ap (λ (a : Records). length (a .list)) again ∙ gathered-length (take (length rs) (r .all .list)) noProcess 16)) ∙
-    ap (endedLonger (drop 16 rs)) (e ∙ ap (λ (l : List Process). runText (memory b l ws) text listing) (gathered-few rs)) ∙
+pub ran-stored : (b : Bench) (rs : List Process) (ws text listing : List ℕ) (r : Whole) (zs : List Process) (vs ls : List ℕ)
+    → Ran b (gathered rs noProcess 16) (length rs) ws text listing r vs ls
+    → zs ≡ recordsStored rs (r .all .list) (r .stored)
+    → left r zs vs ls ≡ runText (memory b rs ws) text listing
+ran-stored b rs ws text listing r zs vs ls ran stored =
+    ap (λ (l : List Process). left r l vs ls) (stored ∙ stored-few rs (r .all .list) (r .stored) (ran .few) (ran .others) ∙ stored-back rs (r .all .list) sixteen) ∙
+    ap (endedLonger (drop 16 rs)) (ran .same ∙ ap (λ (l : List Process). runText (memory b l ws) text listing) (gathered-few rs)) ∙
     sym (first-sixteen (memory b rs ws) text listing)
+  where
+    sixteen : length (r .all .list) ≡ 16
+    sixteen = ap (λ (a : Records). length (a .list)) (ran .again) ∙ gathered-length (take (length rs) (r .all .list)) noProcess 16
+
+-- no more than sixteen records are stored back
+pub at-most-sixteen : (b : Bench) (all : Records) (len : ℕ) (ws text list : List ℕ) (r : Whole) (k : ℕ) (ws′ list′ : List ℕ) → all ≡ gathered (take len (all .list)) noProcess 16
+    → k ≡ fewOf (r .stored)
+    → (left r (take len (r .all .list)) ws′ list′ ≡ runText (memory b (take len (all .list)) ws) text list) × (r .all ≡ gathered (take len (r .all .list)) noProcess 16) × Others all r
+    → Ran b all len ws text list (record { bench = r .bench; all = r .all; stored = k; number = r .number; entries = r .entries; written = r .written }) ws′ list′
+at-most-sixteen b all len ws text list r k ws′ list′ q e x = record { same = x .0; again = x .1; others = others; few = subst (λ (n : ℕ). n ≤ 16) (sym e) (few-small (r .stored)) }
+  where
+    past : (l : Records) → l ≡ gathered (take len (l .list)) noProcess 16 → (j : ℕ) → 16 ≤ j → getD (l .list) j noProcess ≡ noProcess
+    past l g j h = List·getD-eq-default (l .list) noProcess (let n = ap (λ (m : Records). length (m .list)) g ∙ gathered-length (take len (l .list)) noProcess 16 in omega arith)
+
+    either : (j : ℕ) → (t : Bool) → ltb 16 (r .stored) ≡ t → cond t 16 (r .stored) ≤ j → getD (r .all .list) j noProcess ≡ getD (all .list) j noProcess
+    either j true f h = past (r .all) (x .1) j h ∙ sym (past all q j h)
+    either j false f h = x .2 j h
+
+    others : (j : ℕ) → k ≤ j → getD (r .all .list) j noProcess ≡ getD (all .list) j noProcess
+    others j h = either j (ltb 16 (r .stored)) refl (subst (λ (n : ℕ). n ≤ j) e h)

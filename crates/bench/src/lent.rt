@@ -3,6 +3,7 @@ ghost use mathlib.Core.Path.{_≡_};
 ghost use lib.ListN.{getD, set};
 ghost use Rattle.model.specs.Records.{noProcess};
 ghost use Rattle.machine.specs.Gathered.{gathered};
+ghost use Rattle.run.specs.Whole.{fewOf};
 ghost use Rattle.bench.specs.Lent.{recordFor, recordsStored, recordsToWrite, recordsWritten};
 use machine::records::Records;
 use model::Process;
@@ -74,6 +75,16 @@ pub fn set_up_records(records: &mut [Process], n: usize, count: usize)
         put_or(records, i, q);
         i += 1;
     }
+}
+
+// How many of sixteen records are stored back.
+pub fn at_most_sixteen(n: usize) -> usize
+    ensures { λ r. ⌜ r ≡ fewOf n ⌝ }
+{
+    if 16 < n {
+        return 16;
+    }
+    n
 }
 
 // One of sixteen records, or the filler past their end.

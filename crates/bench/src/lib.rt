@@ -1,15 +1,21 @@
 // The public entries of the bench: a set-up, a command and a text run over lent memory, and the view of a written value. None asks anything of the caller.
 ghost use mathlib.Core.Path.{_≡_};
+ghost use lib.ListN.{take};
+ghost use Rattle.model.specs.Records.{noProcess};
+ghost use Rattle.machine.specs.Gathered.{gathered};
 ghost use Rattle.model.specs.Command.{command};
 ghost use Rattle.model.specs.SetUp.{setUp};
 ghost use Rattle.model.specs.View.{viewNumber, view};
 ghost use Rattle.run.specs.TextRun.{runText};
 ghost use Rattle.bench.specs.Lent.{memory};
 ghost use Rattle.bench.specs.Settling.{settling};
+ghost use Rattle.bench.specs.Running.{Ran};
+use machine::records::Records;
 use model::Bench;
 use model::Order;
 use model::Process;
 use model::Reply;
+use run::last_line::Whole;
 
 mod lent;
 
@@ -89,6 +95,32 @@ pub struct TextRun {
     pub written: usize,
 }
 
+// The text run by value, but for the lent words and the listing, which it writes. There is no seventeenth record to store back.
+fn run_gathered(
+    bench: Bench,
+    all: Records,
+    len: usize,
+    words: &mut [u64],
+    text: &[u8],
+    listing: &mut [u8],
+) -> Whole
+    requires { ⌜ all ≡ gathered (take len (all .list)) noProcess 16 ⌝ }
+    ensures { λ r. ⌜ Ran bench all len (now (words .entry)) (now (text .entry)) (now (listing .entry)) r (now (words .exit)) (now (listing .exit)) ⌝ }
+{
+    let out = run::text_run::run_by_value(bench, all, len, words, text, listing);
+    let next = out.bench;
+    let records = out.all;
+    let stored = lent::at_most_sixteen(out.stored);
+    Whole {
+        bench: next,
+        all: records,
+        stored,
+        number: out.number,
+        entries: out.entries,
+        written: out.written,
+    }
+}
+
 // A whole text run, on any text and any lent memory. What it returns, all lent memory and the listing after it are those of the model.
 // Wrong programs that this rules out: one that sets the bench up and then finds a fault further on in the text;
 // one that blanks the listing after its last line.
@@ -105,9 +137,9 @@ pub fn run_text(
     let len = records.len();
     let none = machine::records::no_process();
     let all = lent::gather(records, none);
-    let out = run::text_run::run_by_value(b, all, len, words, text, listing);
+    let out = run_gathered(b, all, len, words, text, listing);
     *bench = out.bench;
-    lent::store_back(records, out.all, 16);
+    lent::store_back(records, out.all, out.stored);
     TextRun {
         number: out.number,
         entries: out.entries,

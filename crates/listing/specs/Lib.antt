@@ -1,3 +1,4 @@
+pub mod Quoted
 pub mod Decimal
 pub mod Lines
 pub mod Writing

@@ -2,25 +2,26 @@
 use Prim.Native.Nat.{ℕ}
 use mathlib.Core.List.{List, [], _∷_, _++_}
 use mathlib.Core.Bool.{Bool, true, false}
+use Rattle.listing.specs.Quoted.{quoted, byte}
 use Rattle.listing.specs.Decimal.{decimal}
 
 -- 01: "one space between"
 abbrev pub space : ℕ
-space = 32
+space = byte " "
 
 -- every line ends with a line feed
 abbrev pub lineFeed : ℕ
-lineFeed = 10
+lineFeed = byte "\n"
 
 -- 01: "`L`, `S` or `V`"
 abbrev pub letterL : ℕ
-letterL = 76
+letterL = byte "L"
 
 abbrev pub letterS : ℕ
-letterS = 83
+letterS = byte "S"
 
 abbrev pub letterV : ℕ
-letterV = 86
+letterV = byte "V"
 
 -- 01: "process, `L`, `S` or `V`, the count of own steps"
 unfoldable pub answerHead : ℕ → ℕ → ℕ → List ℕ
@@ -37,8 +38,8 @@ llLine process count ws = answerHead process letterL count ++ (wordsOf ws ++ (li
 
 -- 01: "or 1 for true and 0 for false"
 abbrev pub truth : Bool → List ℕ
-truth true = space ∷ 49 ∷ lineFeed ∷ []
-truth false = space ∷ 48 ∷ lineFeed ∷ []
+truth true = quoted " 1\n"
+truth false = quoted " 0\n"
 
 -- the line of an SC's or a VL's answer
 unfoldable pub truthLine : ℕ → ℕ → ℕ → Bool → List ℕ
@@ -46,8 +47,8 @@ truthLine process letter count answer = answerHead process letter count ++ truth
 
 -- 01: "The last line is `end E`"
 unfoldable pub endLine : ℕ → List ℕ
-endLine entries = (101 ∷ 110 ∷ 100 ∷ space ∷ []) ++ (decimal entries ++ (lineFeed ∷ []))
+endLine entries = quoted "end " ++ (decimal entries ++ (lineFeed ∷ []))
 
 -- 01: "or `refused C E`"
 unfoldable pub refusedLine : ℕ → ℕ → List ℕ
-refusedLine refusal entries = (114 ∷ 101 ∷ 102 ∷ 117 ∷ 115 ∷ 101 ∷ 100 ∷ space ∷ []) ++ (decimal refusal ++ ((space ∷ []) ++ (decimal entries ++ (lineFeed ∷ []))))
+refusedLine refusal entries = quoted "refused " ++ (decimal refusal ++ ((space ∷ []) ++ (decimal entries ++ (lineFeed ∷ []))))

@@ -37,10 +37,10 @@ pub fn number(list: &mut [u8], at: usize, n: u64) -> usize
     ensures { λ r. ⌜ Wrote (now (list .entry)) at (decimal n) (now (list .exit)) r ⌝ }
 {
     if n < 10 {
-        return put(list, at, 48 + n as u8);
+        return put(list, at, b'0' + n as u8);
     }
     let next = number(list, at, n / 10);
-    put(list, next, 48 + (n % 10) as u8)
+    put(list, next, b'0' + (n % 10) as u8)
 }
 
 // A space and a number for each of w words.
@@ -51,7 +51,7 @@ pub fn words(list: &mut [u8], at: usize, ws: &[u64], from: usize, w: usize) -> u
     let mut next = at;
     let mut i = 0;
     while i < w {
-        next = put(list, next, 32);
+        next = put(list, next, b' ');
         next = number(list, next, ws[from + i]);
         i += 1;
     }
@@ -64,9 +64,9 @@ pub fn answer_head(list: &mut [u8], at: usize, process: u64, letter: u8, count: 
     ensures { λ r. ⌜ Wrote (now (list .entry)) at (answerHead process letter count) (now (list .exit)) r ⌝ }
 {
     let a = number(list, at, process);
-    let b = put(list, a, 32);
+    let b = put(list, a, b' ');
     let c = put(list, b, letter);
-    let d = put(list, c, 32);
+    let d = put(list, c, b' ');
     number(list, d, count)
 }
 
@@ -83,9 +83,9 @@ pub fn ll_line(
     requires { ⌜ (from + w ≤ length (now ws)) × (Room (now list) at (llLine process count (take w (drop from (now ws))))) ⌝ }
     ensures { λ r. ⌜ Wrote (now (list .entry)) at (llLine process count (take w (drop from (now (ws .entry))))) (now (list .exit)) r ⌝ }
 {
-    let a = answer_head(list, at, process, 76, count);
+    let a = answer_head(list, at, process, b'L', count);
     let b = words(list, a, ws, from, w);
-    put(list, b, 10)
+    put(list, b, b'\n')
 }
 
 // The line of an SC's or a VL's answer, with the letter of its kind.
@@ -114,7 +114,7 @@ pub fn end_line(list: &mut [u8], at: usize, entries: u64) -> usize
 {
     let a = plain(list, at, b"end ");
     let b = number(list, a, entries);
-    put(list, b, 10)
+    put(list, b, b'\n')
 }
 
 // The last line of a refused run.
@@ -124,7 +124,7 @@ pub fn refused_line(list: &mut [u8], at: usize, refusal: u64, entries: u64) -> u
 {
     let a = plain(list, at, b"refused ");
     let b = number(list, a, refusal);
-    let c = put(list, b, 32);
+    let c = put(list, b, b' ');
     let d = number(list, c, entries);
-    put(list, d, 10)
+    put(list, d, b'\n')
 }

@@ -1,8 +1,10 @@
 -- To take the places that a step could touch, to step on them and to put them back is `model`'s step.
-use mathlib.Core.Path.{_≡_, sym, ap, _∙_}
+use mathlib.Core.Path.{_≡_, refl, sym, ap, _∙_}
 use mathlib.Core.List.{List}
 use Prim.Native.Nat.{ℕ}
-use lib.Seq.{set-getD}
+use native.Mathlib.Omega.{arith}
+use lib.ListN.{length}
+use lib.Seq.{sets, set-getD, length-sets}
 use Rattle.model.specs.declared.SequenceNumber.{SequenceNumber}
 use Rattle.model.specs.declared.ProcessNumber.{ProcessNumber}
 use Rattle.model.specs.declared.XPlace.{XPlace}
@@ -10,6 +12,8 @@ use Rattle.model.specs.declared.BankPlace.{BankPlace}
 use Rattle.model.specs.declared.HelpPlace.{HelpPlace}
 use Rattle.model.specs.declared.Bench.{Bench}
 use Rattle.model.specs.declared.Process.{Process}
+use Rattle.model.specs.declared.Order.{Order}
+use Rattle.model.specs.declared.Order.the-variants.{StartLl, StartSc, StartVl, Step}
 use Rattle.model.specs.declared.Reply.the-variants.{Accepted}
 use Rattle.model.specs.declared.XStep.{XStep}
 use Rattle.model.specs.declared.BankStep.{BankStep}
@@ -18,12 +22,35 @@ use Rattle.model.specs.declared.WordStep.{WordStep}
 use Rattle.model.specs.declared.Moved.{Moved}
 use Rattle.model.specs.Tables.{noBank, noHelp, bankAt, helpAt}
 use Rattle.model.specs.Sizes.{halves}
-use Rattle.model.specs.Points.{Point, idle, line1, line2, line3, line4, line5, line6, line7, line7copy, line8, line9, line10, line11, line12, line12valid, line13, line14, line14valid, line15, line17, line18, line19, line23}
+use Rattle.model.specs.Words.{offerWord}
+use Rattle.model.specs.Points.{Point, pointOf, idle, line1, line2, line3, line4, line5, line6, line7, line7copy, line8, line9, line10, line11, line12, line12valid, line13, line14, line14valid, line15, line17, line18, line19, line23}
 use Rattle.model.specs.Lines.{doLine1, doLine2, doLine4, doLine7, doLine8, doLine9, doLine10, doLine12, doLine12Valid, doLine13, doLine14, doLine14Valid, doLine15, doLine18, doLine19, doLine23, doWord, doLine11}
-use Rattle.model.specs.Machine.{stepAt, onX, onBank, onHelp}
+use Rattle.model.specs.Records.{begin}
+use Rattle.model.specs.Machine.{stepAt, obey, onX, onBank, onHelp}
 use Rattle.machine.specs.declared.taken.Taken.{Taken}
 use Rattle.machine.specs.declared.taken.Stepped.{Stepped}
-use Rattle.machine.specs.Taken.{bankIndex, helpIndex, takenAt, takenFrom, putBack, restored, afterX, afterBank, afterHelp, afterWord, stepOn}
+use Rattle.machine.specs.Ranges.{Ready}
+use Rattle.machine.specs.Taken.{bankIndex, helpIndex, takenAt, takenFrom, putBack, restored, afterX, afterBank, afterHelp, afterWord, stepOn, offered, obeyOn}
+
+-- offering keeps the number of lent words
+pub offered-length : (o : Order) (p : ProcessNumber) (n w : ℕ) (value ws : List ℕ) → length (offered o p n w value ws) ≡ length ws
+offered-length StartLl p n w value ws = refl
+offered-length StartSc p n w value ws = length-sets ws (offerWord n w p 0) value
+offered-length StartVl p n w value ws = refl
+offered-length Step p n w value ws = refl
+
+pub ready-same : {n w : ℕ} {q : Process} {p : ProcessNumber} {ws ws′ : List ℕ} → Ready n w q p ws → length ws′ ≡ length ws → Ready n w q p ws′
+ready-same r e =
+    let l = r .lent in
+    record {
+      lent = record { n-some = l .n-some; n-most = l .n-most; w-most = l .w-most; process = l .process; words = omega (arith, l .words, e) };
+      mybuf = r .mybuf;
+      x-buf = r .x-buf;
+      x-seq = r .x-seq;
+      b-buf = r .b-buf;
+      word = r .word;
+      count = r .count;
+    }
 
 module _ (p : ProcessNumber) (b : Bench) (q : Process) (ws : List ℕ) where
   -- a place that the line left alone is put back as it was
@@ -65,6 +92,16 @@ module _ (p : ProcessNumber) (b : Bench) (q : Process) (ws : List ℕ) where
   step-by-taken line19 = x-law line19 (doLine19 (b .n) p)
   step-by-taken line23 = x-law line23 (doLine23 p)
 
-  -- the parts of a step, put together
-  pub whole-step : (y : Point) {ws′ : List ℕ} {i : SequenceNumber} {j : ProcessNumber} {t : Taken} {s : Stepped} {r : Moved} → i ≡ bankIndex y (b .n) q → j ≡ helpIndex y (b .n) p q → t ≡ takenAt b i j → (s, ws′) ≡ stepOn y p (b .n) (b .w) t q ws → r ≡ putBack b i j s → (r, ws′) ≡ stepAt y p b q ws
-  whole-step y {ws′} {i} {j} {t} {s} {r} e f g h k = rw k (ap (restored b i j) h ∙ rw (g, e, f) (sym (step-by-taken y)))
+  -- an order is obeyed on the places that a step at its process's point could touch
+  pub order-by-taken : (o : Order) (value : List ℕ) → let y = pointOf (q .line) in
+      obey o p value b q ws ≡ restored b (bankIndex y (b .n) q) (helpIndex y (b .n) p q) (obeyOn o p (b .n) (b .w) (takenFrom y b p q) q (offered o p (b .n) (b .w) value ws))
+  unfolding obey obeyOn
+  order-by-taken StartLl value = word-law (pointOf (q .line)) (record { process = begin line1 q; reply = Accepted }) ws
+  order-by-taken StartSc value = word-law (pointOf (q .line)) (record { process = begin line12 q; reply = Accepted }) (sets ws (offerWord (b .n) (b .w) p 0) value)
+  order-by-taken StartVl value = word-law (pointOf (q .line)) (record { process = begin line23 q; reply = Accepted }) ws
+  order-by-taken Step value = step-by-taken (pointOf (q .line))
+
+  -- the parts of an order, put together
+  pub whole-order : (o : Order) (value : List ℕ) {ws₁ ws₂ : List ℕ} {i : SequenceNumber} {j : ProcessNumber} {t : Taken} {s : Stepped} → let y = pointOf (q .line) in
+      ws₁ ≡ offered o p (b .n) (b .w) value ws → i ≡ bankIndex y (b .n) q → j ≡ helpIndex y (b .n) p q → t ≡ takenAt b i j → (s, ws₂) ≡ obeyOn o p (b .n) (b .w) t q ws₁ → (putBack b i j s, ws₂) ≡ obey o p value b q ws
+  whole-order o value {i = i} {j = j} d e f g h = ap (restored b i j) h ∙ rw (d, g, e, f) (sym (order-by-taken o value))

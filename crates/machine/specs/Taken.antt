@@ -2,11 +2,14 @@
 -- `TakenLaws` proves that to take them, to step and to put them back is `model`'s step.
 use Prim.Native.Nat.{ℕ}
 use mathlib.Core.List.{List}
+use lib.Seq.{sets}
 use Rattle.model.specs.declared.BufferNumber.{BufferNumber}
 use Rattle.model.specs.declared.SequenceNumber.{SequenceNumber}
 use Rattle.model.specs.declared.ProcessNumber.{ProcessNumber}
 use Rattle.model.specs.declared.Bench.{Bench}
 use Rattle.model.specs.declared.Process.{Process}
+use Rattle.model.specs.declared.Order.{Order}
+use Rattle.model.specs.declared.Order.the-variants.{StartLl, StartSc, StartVl, Step}
 use Rattle.model.specs.declared.Reply.the-variants.{Accepted}
 use Rattle.model.specs.declared.XStep.{XStep}
 use Rattle.model.specs.declared.BankStep.{BankStep}
@@ -16,7 +19,8 @@ use Rattle.model.specs.declared.Moved.{Moved}
 use Rattle.model.specs.Tables.{bankAt, helpAt, putX, putBank, putHelp, next, helped}
 use Rattle.model.specs.Sizes.{halves}
 use Rattle.model.specs.Words.{bufferWord, returnWord, offerWord, wordOf, copiedHalf}
-use Rattle.model.specs.Points.{Point, idle, line1, line2, line3, line4, line5, line6, line7, line7copy, line8, line9, line10, line11, line12, line12valid, line13, line14, line14valid, line15, line17, line18, line19, line23}
+use Rattle.model.specs.Points.{Point, pointOf, idle, line1, line2, line3, line4, line5, line6, line7, line7copy, line8, line9, line10, line11, line12, line12valid, line13, line14, line14valid, line15, line17, line18, line19, line23}
+use Rattle.model.specs.Records.{begin}
 use Rattle.model.specs.Lines.{doLine1, doLine2, doLine4, doLine7, doLine8, doLine9, doLine10, doLine12, doLine12Valid, doLine13, doLine14, doLine14Valid, doLine15, doLine18, doLine19, doLine23, doWord, doLine11}
 use Rattle.machine.specs.declared.taken.Taken.{Taken}
 use Rattle.machine.specs.declared.taken.Stepped.{Stepped}
@@ -144,3 +148,20 @@ stepOn line17 p n w t q ws = afterWords t (writtenWord w (offerWord n w p (wordO
 stepOn line18 p n w t q ws = (afterBank t (doLine18 (t .bank) q), ws)
 stepOn line19 p n w t q ws = (afterX t (doLine19 n p (t .x) q), ws)
 stepOn line23 p n w t q ws = (afterX t (doLine23 p (t .x) q), ws)
+
+-- A start: the words of an SC in the offer area, and the process at its call's first line. It touches none of the places.
+abbrev pub offered : Order → ProcessNumber → ℕ → ℕ → List ℕ → List ℕ → List ℕ
+offered StartLl p n w value ws = ws
+offered StartSc p n w value ws = sets ws (offerWord n w p 0) value
+offered StartVl p n w value ws = ws
+offered Step p n w value ws = ws
+
+abbrev pub begunAt : Point → Taken → Process → Stepped
+begunAt y t q = record { taken = t; process = begin y q; reply = Accepted }
+
+-- an order obeyed, with SC's words in the offer area already
+unfoldable pub obeyOn : Order → ProcessNumber → ℕ → ℕ → Taken → Process → List ℕ → Stepped × List ℕ
+obeyOn StartLl p n w t q ws = (begunAt line1 t q, ws)
+obeyOn StartSc p n w t q ws = (begunAt line12 t q, ws)
+obeyOn StartVl p n w t q ws = (begunAt line23 t q, ws)
+obeyOn Step p n w t q ws = stepOn (pointOf (q .line)) p n w t q ws

@@ -86,7 +86,7 @@ pub fn words_at_set_up(words: &mut [u64], n: usize, w: usize, value: &[u64])
     ensures { λ _. ⌜ now (words .exit) ≡ wordsAtSetUp (now (words .entry)) n w (now (value .entry)) ⌝ }
 {
     word_runs::copy_in(words, 0, value);
-    word_runs::clear(words, w, 5 * n * w);
+    word_runs::fill(words, w, 5 * n * w, 0);
 }
 
 // The record of process p, which owns buffer 2N + p.

@@ -1,7 +1,6 @@
 // One step of a process, by its line.
 ghost use mathlib.Core.Path.{_≡_};
 ghost use Rattle.model.specs.Points.{pointOf};
-ghost use Rattle.model.specs.Machine.{stepAt};
 ghost use Rattle.machine.specs.Ranges.{Ready};
 ghost use Rattle.machine.specs.Taken.{stepOn};
 use crate::taken;
@@ -12,8 +11,6 @@ use lines::on_bank;
 use lines::on_help;
 use lines::on_x;
 use lines::points;
-use model::Bench;
-use model::Moved;
 use model::Process;
 use model::ProcessNumber;
 use model::Reply;
@@ -75,18 +72,4 @@ pub fn on_taken(
             reply: Reply::Accepted,
         },
     }
-}
-
-// The places that the line could touch are taken out, the line works on its own, and all are put back.
-pub fn step(bench: Bench, process: Process, p: ProcessNumber, words: &mut [u64]) -> Moved
-    requires { ⌜ Ready (bench .n) (bench .w) process p (now words) ⌝ }
-    ensures { λ r. ⌜ (r, now (words .exit)) ≡ stepAt (pointOf (process .line)) p bench process (now (words .entry)) ⌝ }
-{
-    let n = bench.n;
-    let w = bench.w;
-    let i = taken::bank_index(n, process);
-    let j = taken::help_index(n, p, process);
-    let places = taken::take(bench, i, j);
-    let stepped = on_taken(n, w, p, process, places, words);
-    taken::put_back(bench, i, j, stepped)
 }

@@ -1,4 +1,4 @@
-// Runs of words: a value copied in, and zeros.
+// Runs of words: a value copied in, and one number again and again.
 ghost use mathlib.Core.Path.{_≡_};
 ghost use Prim.Native.Nat.{_+_, _-_, _≤_};
 ghost use lib.ListN.{length, replicate};
@@ -16,14 +16,14 @@ pub fn copy_in(words: &mut [u64], at: usize, value: &[u64])
     }
 }
 
-// Zeros from one place to before another.
-pub fn clear(words: &mut [u64], from: usize, to: usize)
+// One number from one place to before another: the zeros of the set-up, and the offer of an SC in a text, "k in all W words".
+pub fn fill(words: &mut [u64], from: usize, to: usize, number: u64)
     requires { ⌜ (from ≤ to) × (to ≤ length (now words)) ⌝ }
-    ensures { λ _. ⌜ now (words .exit) ≡ sets (now (words .entry)) from (replicate (to - from) 0) ⌝ }
+    ensures { λ _. ⌜ now (words .exit) ≡ sets (now (words .entry)) from (replicate (to - from) number) ⌝ }
 {
     let mut k = from;
     while k < to {
-        words[k] = 0;
+        words[k] = number;
         k += 1;
     }
 }

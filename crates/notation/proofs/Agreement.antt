@@ -11,7 +11,7 @@ use Rattle.notation.specs.Bytes.{space, lineFeed, kindOf, entryOf, isDig
 use Rattle.notation.specs.Grammar as G
 use Rattle.notation.specs.Grammar.{Byte, Number, Gaps, Item, Items, Lead, Schedule, FirstLine, Text, Said, countOk, times, itemBytes, itemsBytes, leadBytes, scheduleBytes, firstBytes, bytes, itemSays, itemsSay, leadSays, scheduleSays, says}
 use Rattle.notation.specs.Scan.{Mode, between, num, offer, offerNum, done, to, leave, move, said, Frame, end, atEnd, go, scan}
-use Rattle.notation.specs.FirstLine.{Place, beforeN, inN, beforeW, inW, beforeInitial, inInitial, Next, goes, begins, step, right, whole, proceed, readFrom}
+use Rattle.notation.specs.FirstLine.{Place, beforeN, inN, beforeW, inW, beforeInitial, inInitial, Next, goes, begins, step, right, whole, proceed, readFrom, past}
 use Rattle.notation.proofs.KindLaws.{offer-move}
 use Rattle.notation.proofs.ScanLaws.{Gathers, Leads, gathers-num, gathers-offer, leads-num, leads-offer, more-fits}
 use Rattle.notation.proofs.ItemLaws.{at-end-offer}
@@ -119,9 +119,9 @@ schedule-read {d} (G.empty g t) = ap (λ (x : List ℕ). scan x (between false) 
 schedule-read {d} (G.items i g t) = items-read i g (gaps-end t) [] [] ∙ end-read t (itemsSay i) d
 
 -- a byte of the first line
-pub turn : (d : ℕ) (c : ℕ) (l : List ℕ) (m : Place) (x : Next) → step m c ≡ x → readFrom d (c ∷ l) m ≡ proceed (readFrom d l) (λ n w v. whole n w v (scan l (between false) [] [] d)) x
+pub turn : (d : ℕ) (c : ℕ) (l : List ℕ) (m : Place) (x : Next) → step m c ≡ x → readFrom d (c ∷ l) m ≡ past d l x
 unfolding readFrom
-turn d c l m x e = ap (proceed (readFrom d l) (λ n w v. whole n w v (scan l (between false) [] [] d))) e
+turn d c l m x e = ap (past d l) e
 
 module _ {m : Place} {f : ℕ → Place} {stop : ℕ} {out : ℕ → Next} (fd : Field m f stop out) (d : ℕ) where
   digits-first : {ds : List ℕ} {v : ℕ} → Number ds v → (l : List ℕ) → readFrom d (ds ++ l) m ≡ readFrom d l (f v)
@@ -131,7 +131,7 @@ module _ {m : Place} {f : ℕ → Place} {stop : ℕ} {out : ℕ → Next} (fd :
       ap (λ (y : List ℕ). readFrom d y m) (append-assoc ds (c ∷ []) l) ∙ digits-first n (c ∷ l) ∙ turn d c l (f v) (goes (f (v * 10 + x))) (goes-on fd v c x (e .is) fits)
 
   -- a number and the byte that ends it
-  field-read : {ds : List ℕ} {v : ℕ} → Number ds v → (l : List ℕ) → readFrom d (ds ++ stop ∷ l) m ≡ proceed (readFrom d l) (λ n w v. whole n w v (scan l (between false) [] [] d)) (out v)
+  field-read : {ds : List ℕ} {v : ℕ} → Number ds v → (l : List ℕ) → readFrom d (ds ++ stop ∷ l) m ≡ past d l (out v)
   field-read {v = v} n l = digits-first n (stop ∷ l) ∙ turn d stop l (f v) (out v) (stops-at fd v stop refl)
 
 -- the first line

@@ -1,5 +1,5 @@
 -- Laws of the reading of the first line.
-use Prim.Native.Nat.{ℕ, _+_, _*_, _≤_, _<_}
+use Prim.Native.Nat.{ℕ, _+_, _-_, _*_, _≤_, _<_}
 use mathlib.Core.Path.{_≡_, refl, sym, ap, _∙_}
 use mathlib.Core.List.{List, [], _∷_}
 use mathlib.Core.Bool.{true, false, true≢false}
@@ -15,17 +15,18 @@ use Rattle.notation.specs.declared.Digits.the-variants.{Value, NoNumber}
 use Rattle.notation.specs.Bytes.{space, lineFeed, kindOf, isDigit}
 use Rattle.notation.specs.Grammar.{largest}
 use Rattle.notation.specs.Scan.{between, scan}
-use Rattle.notation.specs.FirstLine.{Place, beforeN, inN, beforeW, inW, beforeInitial, inInitial, Next, goes, begins, breaks, starting, inside, step, Reading, wrong, whole, proceed, readFrom}
-use Rattle.notation.specs.Readers.{Counts, still, digit, Exceeds, NumberSays, Whole, NoneAt, ends, other, exceeds, NumberAtSays, Ended, NotEnded, none, Headed, NotHeaded, noN, noW, noInitial}
-use Rattle.notation.proofs.ScanLaws.{digit-fits, digit-over}
+use Rattle.notation.specs.FirstLine.{Place, beforeN, inN, beforeW, inW, beforeInitial, inInitial, Next, goes, begins, breaks}
+use Rattle.notation.specs.FirstLine.{starting, inside, step, wrong, whole, proceed, readFrom, past}
+use Rattle.notation.specs.Readers.{Counts, still, digit, NumberSays, Whole, NoneAt, ends, other, exceeds, NumberAtSays, Ended, NotEnded, none, Headed, NotHeaded, noN, noW, noInitial}
+use Rattle.notation.proofs.ScanLaws.{left-at, digit-fits, digit-over}
 
 -- one byte
-pub read-at : (d : ℕ) (s : List ℕ) (at : ℕ) (m : Place) → at < length s → readFrom d (drop at s) m ≡ proceed (readFrom d (drop (at + 1) s)) (λ n w v. whole n w v (scan (drop (at + 1) s) (between false) [] [] d)) (step m (getD s at 0))
+pub read-at : (d : ℕ) (s : List ℕ) (at : ℕ) (m : Place) → at < length s → readFrom d (drop at s) m ≡ past d (drop (at + 1) s) (step m (getD s at 0))
 unfolding readFrom
 read-at d s at m h = rw (add-one, drop-cons s at 0)
 
 -- the end
-pub read-end : (d : ℕ) (s : List ℕ) (at : ℕ) (m : Place) → length s ≤ at → readFrom d (drop at s) m ≡ wrong 10
+pub read-end : (d : ℕ) (s : List ℕ) (at : ℕ) (m : Place) → length s ≤ at → readFrom d (drop at s) m ≡ wrong 10 0
 unfolding readFrom
 read-end d s at m h = rw (drop-of-length-le s {i = at} h)
 
@@ -95,11 +96,11 @@ module _ {m : Place} {f : ℕ → Place} {stop : ℕ} {out : ℕ → Next} (fd :
   module _ (d : ℕ) (s : List ℕ) where
     on : (at : ℕ) (p q : Place) → at < length s → step p (getD s at 0) ≡ goes q → readFrom d (drop at s) p ≡ readFrom d (drop (at + 1) s) q
     unfolding proceed
-    on at p q h e = read-at d s at p h ∙ ap (proceed (readFrom d (drop (at + 1) s)) (λ n w v. whole n w v (scan (drop (at + 1) s) (between false) [] [] d))) e
+    on at p q h e = read-at d s at p h ∙ ap (past d (drop (at + 1) s)) e
 
-    off : (at : ℕ) (p : Place) → at < length s → step p (getD s at 0) ≡ breaks → readFrom d (drop at s) p ≡ wrong 10
+    off : (at : ℕ) (p : Place) → at < length s → step p (getD s at 0) ≡ breaks → readFrom d (drop at s) p ≡ wrong 10 (length s - at)
     unfolding proceed
-    off at p h e = read-at d s at p h ∙ ap (proceed (readFrom d (drop (at + 1) s)) (λ n w v. whole n w v (scan (drop (at + 1) s) (between false) [] [] d))) e
+    off at p h e = read-at d s at p h ∙ ap (past d (drop (at + 1) s)) e ∙ ap (wrong 10) (left-at s at h)
 
     counted : {at v next v′ : ℕ} → Counts s at v next v′ → readFrom d (drop at s) (f v) ≡ readFrom d (drop next s) (f v′)
     counted still = refl
@@ -109,25 +110,32 @@ module _ {m : Place} {f : ℕ → Place} {stop : ℕ} {out : ℕ → Next} (fd :
     numbered {at} w = on at m (f (w .d)) (w .here) (starts (getD s at 0) (w .d) (w .is)) ∙ counted (w .numbered .counts)
 
     -- a number and the byte that ends it
-    pub ended : {at v next : ℕ} → Ended s at stop v next → readFrom d (drop at s) m ≡ proceed (readFrom d (drop next s)) (λ n w v. whole n w v (scan (drop next s) (between false) [] [] d)) (out v)
+    pub ended : {at v next : ℕ} → Ended s at stop v next → readFrom d (drop at s) m ≡ past d (drop next s) (out v)
     ended {v = v} {next = next} e = numbered (e .number) ∙ read-at d s (e .place) (f v) (e .here)
-        ∙ ap (proceed (readFrom d (drop (e .place + 1) s)) (λ n w v. whole n w v (scan (drop (e .place + 1) s) (between false) [] [] d))) (stops-at v (getD s (e .place) 0) (e .is))
-        ∙ ap (λ (x : ℕ). proceed (readFrom d (drop x s)) (λ n w v. whole n w v (scan (drop x s) (between false) [] [] d)) (out v)) (sym (e .past))
+        ∙ ap (past d (drop (e .place + 1) s)) (stops-at v (getD s (e .place) 0) (e .is))
+        ∙ ap (λ (x : ℕ). past d (drop x s) (out v)) (sym (e .past))
 
-    no-number : {at : ℕ} → NoneAt s at → readFrom d (drop at s) m ≡ wrong 10
-    no-number {at} (ends h) = read-end d s at m h
+    at-end : (at : ℕ) (p : Place) → length s ≤ at → readFrom d (drop at s) p ≡ wrong 10 (length s - length s)
+    at-end at p h =
+        let none : 0 ≡ length s - length s = omega arith in
+        read-end d s at p h ∙ ap (wrong 10) none
+
+    no-number : {at place : ℕ} → NoneAt s at place → readFrom d (drop at s) m ≡ wrong 10 (length s - place)
+    no-number {at} (ends h) = at-end at m h
     no-number {at} (other h k) = off at m h (starts-not (getD s at 0) k)
-    no-number {at} (exceeds {d = x} h e o) = on at m (f x) h (starts (getD s at 0) x e) ∙ counted (o .counts) ∙ off (o .next) (f (o .v′)) (o .here) (goes-over (o .v′) (getD s (o .next) 0) (o .d) (o .is) (o .large))
+    no-number {at} (exceeds {d = x} {place = place} h e o) =
+        on at m (f x) h (starts (getD s at 0) x e) ∙ counted (o .counts)
+        ∙ off place (f (o .v′)) (o .here) (goes-over (o .v′) (getD s place 0) (o .d) (o .is) (o .large))
 
-    pub not-ended : {at : ℕ} → NotEnded s at stop → readFrom d (drop at s) m ≡ wrong 10
+    pub not-ended : {at place : ℕ} → NotEnded s at stop place → readFrom d (drop at s) m ≡ wrong 10 (length s - place)
     not-ended (none h) = no-number h
-    not-ended (ends {v = v} {place = place} w h) = numbered w ∙ read-end d s place (f v) h
+    not-ended (ends {v = v} {place = place} w h) = numbered w ∙ at-end place (f v) h
     not-ended (other {v = v} {place = place} w h n) = numbered w ∙ off place (f v) h (stops-not v (getD s place 0) (w .numbered .stops h) n)
 
 -- a number is read on from its first digit
 pub number-whole : (s : List ℕ) (at d : ℕ) (r : Digits) → at < length s → kindOf (getD s at 0) ≡ Digit d → NumberSays s (at + 1) d r → NumberAtSays s at r
 number-whole s at d (Value v next) h e n = record { d = d; here = h; is = e; numbered = n }
-number-whole s at d NoNumber h e x = exceeds h e x
+number-whole s at d (NoNumber place) h e x = exceeds h e x
 
 -- the whole first line
 pub ended-within : {s : List ℕ} {at stop v next : ℕ} → Ended s at stop v next → next ≤ length s
@@ -142,10 +150,25 @@ module _ {s : List ℕ} where
   unfolding proceed
   after-w {n} d p q = after-n d p ∙ ended (field-w n) d s q
 
-  pub not-headed-reads : (d : ℕ) → NotHeaded s → readFrom d s beforeN ≡ wrong 10
+  pub not-headed-reads : {place : ℕ} (d : ℕ) → NotHeaded s place → readFrom d s beforeN ≡ wrong 10 (length s - place)
   not-headed-reads d (noN x) = not-ended field-n d s x
   not-headed-reads d (noW {n = n} p x) = after-n d p ∙ not-ended (field-w n) d s x
   not-headed-reads d (noInitial {n = n} {w = w} p q x) = after-w d p q ∙ not-ended (field-initial n w) d s x
+
+  none-inside : {at place : ℕ} → NoneAt s at place → place ≤ length s
+  none-inside (ends h) = omega arith
+  none-inside (other h k) = omega arith
+  none-inside (exceeds h e o) = omega (arith, o .here)
+
+  not-ended-inside : {at stop place : ℕ} → NotEnded s at stop place → place ≤ length s
+  not-ended-inside (none h) = none-inside h
+  not-ended-inside (ends w h) = omega arith
+  not-ended-inside (other w h n) = omega arith
+
+  pub not-headed-inside : {place : ℕ} → NotHeaded s place → place ≤ length s
+  not-headed-inside (noN x) = not-ended-inside x
+  not-headed-inside (noW p x) = not-ended-inside x
+  not-headed-inside (noInitial p q x) = not-ended-inside x
 
   module _ {n w v next : ℕ} (h : Headed s n w v next) where
     pub headed-reads : (d : ℕ) → readFrom d s beforeN ≡ whole n w v (scan (drop next s) (between false) [] [] d)

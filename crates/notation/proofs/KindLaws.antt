@@ -95,7 +95,7 @@ offer-not p Close h = refl
 offer-not p Other h = refl
 
 -- after a number that is no item by itself: neither a mark nor `s` nor `(`
-pub unsigned : (s : List ℕ) (v place : ℕ) (k : Kind) → OneOf (0 ∷ 1 ∷ 5 ∷ 6 ∷ []) (tagOf the-type k) → Signed s v place k Wrong
+pub unsigned : (s : List ℕ) (v place : ℕ) (k : Kind) → OneOf (0 ∷ 1 ∷ 5 ∷ 6 ∷ []) (tagOf the-type k) → Signed s v place k (Wrong place)
 unsigned s v place (Digit d) o = refl
 unsigned s v place Gap o = refl
 unsigned s v place (Marked m) o = absurd (miss (0 ∷ 1 ∷ 5 ∷ 6 ∷ []) 2 tt o)
@@ -105,17 +105,17 @@ unsigned s v place Close o = refl
 unsigned s v place Other o = refl
 
 -- what a count makes of a `(`
-pub count-zero : (v x : ℕ) → v ≡ 0 → Wrong ≡ cond (countOk v) (Group v x) Wrong
-count-zero v x h = simp (eq-eqb _ _ h)
+pub count-zero : (v x place : ℕ) → v ≡ 0 → Wrong place ≡ cond (countOk v) (Group v x) (Wrong place)
+count-zero v x place h = simp (eq-eqb _ _ h)
 
-pub count-over : (v x : ℕ) → (v ≡ 0 → ⊥) → 255 < v → Wrong ≡ cond (countOk v) (Group v x) Wrong
-count-over v x h l = simp (ne-eqb _ _ h, lt-leb _ _ l)
+pub count-over : (v x place : ℕ) → (v ≡ 0 → ⊥) → 255 < v → Wrong place ≡ cond (countOk v) (Group v x) (Wrong place)
+count-over v x place h l = simp (ne-eqb _ _ h, lt-leb _ _ l)
 
-pub count-fits : (v x : ℕ) → (v ≡ 0 → ⊥) → v ≤ 255 → Group v x ≡ cond (countOk v) (Group v x) Wrong
-count-fits v x h l = simp (ne-eqb _ _ h, le-leb _ _ l)
+pub count-fits : (v x place : ℕ) → (v ≡ 0 → ⊥) → v ≤ 255 → Group v x ≡ cond (countOk v) (Group v x) (Wrong place)
+count-fits v x place h l = simp (ne-eqb _ _ h, le-leb _ _ l)
 
 -- right after an item, neither a gap nor a `)`
-pub stray : (s : List ℕ) (at : ℕ) (k : Kind) → OneOf (0 ∷ 2 ∷ 3 ∷ 4 ∷ 6 ∷ []) (tagOf the-type k) → After s at k Stray
+pub stray : (s : List ℕ) (at : ℕ) (k : Kind) → OneOf (0 ∷ 2 ∷ 3 ∷ 4 ∷ 6 ∷ []) (tagOf the-type k) → After s at k (Stray at)
 stray s at (Digit d) o = refl
 stray s at Gap o = absurd (miss (0 ∷ 2 ∷ 3 ∷ 4 ∷ 6 ∷ []) 1 tt o)
 stray s at (Marked m) o = refl
@@ -125,7 +125,7 @@ stray s at Close o = absurd (miss (0 ∷ 2 ∷ 3 ∷ 4 ∷ 6 ∷ []) 5 tt o)
 stray s at Other o = refl
 
 -- behind gaps, neither a digit nor a `)`
-pub gap-stray : (next : ℕ) (k : Kind) → OneOf (1 ∷ 2 ∷ 3 ∷ 4 ∷ 6 ∷ []) (tagOf the-type k) → Stray ≡ behindOf next k
+pub gap-stray : (next : ℕ) (k : Kind) → OneOf (1 ∷ 2 ∷ 3 ∷ 4 ∷ 6 ∷ []) (tagOf the-type k) → Stray next ≡ behindOf next k
 gap-stray next (Digit d) o = absurd (miss (1 ∷ 2 ∷ 3 ∷ 4 ∷ 6 ∷ []) 0 tt o)
 gap-stray next Gap o = refl
 gap-stray next (Marked m) o = refl

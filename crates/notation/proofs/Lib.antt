@@ -1,5 +1,6 @@
 pub mod KindLaws
 pub mod ScanLaws
+pub mod PlaceLaws
 pub mod ItemLaws
 pub mod HeaderLaws
 pub mod Agreement
@@ -9,6 +10,12 @@ pub mod ScanPlaces
 pub mod TextPlaces
 pub mod Theorems
 pub mod GroupLaws
-pub mod TurnLaws
+pub mod ReplyPlaces
+pub mod WordLaws
+pub mod BlockLaws
+pub mod ListedLaws
+pub mod ItemsLaws
+pub mod PlacedTrees
+pub mod ListedText
 pub mod Examples
 pub mod Replies

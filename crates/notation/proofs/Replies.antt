@@ -12,6 +12,7 @@ use Rattle.notation.specs.declared.Kind.the-variants.{Digit, Gap, Marked
 use Rattle.notation.specs.declared.Digits.{Digits}
 use Rattle.notation.specs.declared.Digits.the-variants.{Value, NoNumber}
 use Rattle.notation.specs.declared.Start.{Start}
+use Rattle.notation.specs.declared.Start.the-variants.{Wrong}
 use Rattle.notation.specs.declared.Follow.{Follow}
 use Rattle.notation.specs.declared.Header.{Header}
 use Rattle.notation.specs.declared.Header.the-variants.{First, NoFirst}
@@ -64,54 +65,103 @@ module _ (s : List ℕ) where
   numbered-one : {at v a n b m : ℕ} → Numbered s at v a n → Numbered s at v b m → (a ≡ b) × (n ≡ m)
   numbered-one {n = n} {m = m} p q = let r = same-if n m (stops-first p q) (stops-first q p) in (counts-same (p .counts) (q .counts) r, r)
 
-  exceeds-not : {at v a n : ℕ} → Exceeds s at v → Numbered s at v a n → ⊥
-  exceeds-not {n = n} x p = below-or ⊥ (x .next) n (omega (arith, later)) (λ r. omega (arith, fits-at (p .counts) (x .counts) r (x .is), x .large)) (λ r. true≢false (sym (ap isDigit (x .is)) ∙ ap (λ (y : ℕ). isDigit (kindOf (getD s y 0))) r ∙ p .stops (omega (arith, x .here))))
+  exceeds-not : {at v a n i : ℕ} → Exceeds s at v i → Numbered s at v a n → ⊥
+  exceeds-not {n = n} {i = i} x p = below-or ⊥ i n (omega (arith, later)) over here
     where
-      later : n < x .next → ⊥
+      over : i < n → ⊥
+      over r = omega (arith, fits-at (p .counts) (x .counts) r (x .is), x .large)
+
+      here : i ≡ n → ⊥
+      here r = true≢false (sym (ap isDigit (x .is)) ∙ ap (λ (y : ℕ). isDigit (kindOf (getD s y 0))) r ∙ p .stops (omega (arith, x .here)))
+
+      later : n < i → ⊥
       later l = true≢false (sym (digits-between (x .counts) n (p .on) l) ∙ p .stops (omega (arith, x .here)))
+
+  exceeds-first : {at v i j : ℕ} → Exceeds s at v i → Exceeds s at v j → i < j → ⊥
+  exceeds-first x y l = omega (arith, fits-at (y .counts) (x .counts) l (x .is), x .large)
+
+  exceeds-one : {at v i j : ℕ} → Exceeds s at v i → Exceeds s at v j → i ≡ j
+  exceeds-one {i = i} {j = j} x y = same-if i j (exceeds-first x y) (exceeds-first y x)
 
   pub number-one : (at v : ℕ) (r r′ : Digits) → NumberSays s at v r → NumberSays s at v r′ → r ≡ r′
   number-one at v (Value a n) (Value b m) p q = let e = numbered-one p q in let x = e .0 in let y = e .1 in cc
-  number-one at v (Value a n) NoNumber p q = absurd (exceeds-not q p)
-  number-one at v NoNumber (Value b m) p q = absurd (exceeds-not p q)
-  number-one at v NoNumber NoNumber p q = refl
+  number-one at v (Value a n) (NoNumber j) p q = absurd (exceeds-not q p)
+  number-one at v (NoNumber i) (Value b m) p q = absurd (exceeds-not p q)
+  number-one at v (NoNumber i) (NoNumber j) p q = ap NoNumber (exceeds-one p q)
 
   whole-one : {at a n b m : ℕ} → Whole s at a n → Whole s at b m → (a ≡ b) × (n ≡ m)
   whole-one {at} {b = b} {m = m} p q = numbered-one (p .numbered) (subst (λ (x : ℕ). Numbered s (at + 1) x b m) (one-digit at at refl (q .is) (p .is)) (q .numbered))
 
-  none-not : {at a n : ℕ} → NoneAt s at → Whole s at a n → ⊥
+  none-not : {at a n i : ℕ} → NoneAt s at i → Whole s at a n → ⊥
   none-not (D.ends h) w = omega (arith, w .here)
   none-not (D.other h k) w = true≢false (sym (ap isDigit (w .is)) ∙ k)
   none-not {at} {a} {n} (D.exceeds h e x) w = exceeds-not x (subst (λ (y : ℕ). Numbered s (at + 1) y a n) (one-digit at at refl (w .is) e) (w .numbered))
 
+  none-one : {at i j : ℕ} → NoneAt s at i → NoneAt s at j → i ≡ j
+  none-one (D.ends h) (D.ends h₂) = refl
+  none-one (D.ends h) (D.other h₂ k) = absurd (omega arith)
+  none-one (D.ends h) (D.exceeds h₂ e x) = absurd (omega arith)
+  none-one (D.other h k) (D.ends h₂) = absurd (omega arith)
+  none-one (D.other h k) (D.other h₂ k₂) = refl
+  none-one (D.other h k) (D.exceeds h₂ e x) = absurd (true≢false (sym (ap isDigit e) ∙ k))
+  none-one (D.exceeds h e x) (D.ends h₂) = absurd (omega arith)
+  none-one (D.exceeds h e x) (D.other h₂ k) = absurd (true≢false (sym (ap isDigit e) ∙ k))
+  none-one {at} (D.exceeds h e x) (D.exceeds {place = j} h₂ e₂ y) =
+      exceeds-one x (subst (λ (d : ℕ). Exceeds s (at + 1) d j) (one-digit at at refl e₂ e) y)
+
   pub number-at-one : (at : ℕ) (r r′ : Digits) → NumberAtSays s at r → NumberAtSays s at r′ → r ≡ r′
   number-at-one at (Value a n) (Value b m) p q = let e = whole-one p q in let x = e .0 in let y = e .1 in cc
-  number-at-one at (Value a n) NoNumber p q = absurd (none-not q p)
-  number-at-one at NoNumber (Value b m) p q = absurd (none-not p q)
-  number-at-one at NoNumber NoNumber p q = refl
+  number-at-one at (Value a n) (NoNumber j) p q = absurd (none-not q p)
+  number-at-one at (NoNumber i) (Value b m) p q = absurd (none-not p q)
+  number-at-one at (NoNumber i) (NoNumber j) p q = ap NoNumber (none-one p q)
 
   -- one field, one first line
   ended-one : {at stop a n b m : ℕ} → Ended s at stop a n → Ended s at stop b m → (a ≡ b) × (n ≡ m)
   ended-one p q = let e = whole-one (p .number) (q .number) in (e .0, omega (arith, e .1, p .past, q .past))
 
-  ended-not : {at stop a n : ℕ} → NotEnded s at stop → Ended s at stop a n → ⊥
+  ended-not : {at stop a n i : ℕ} → NotEnded s at stop i → Ended s at stop a n → ⊥
   ended-not (D.none x) e = none-not x (e .number)
   ended-not (D.ends w h) e = omega (arith, whole-one w (e .number) .1, e .here)
   ended-not (D.other w h k) e = k (ap (λ (x : ℕ). getD s x 0) (whole-one w (e .number) .1) ∙ e .is)
 
+  not-ended-one : {at stop i j : ℕ} → NotEnded s at stop i → NotEnded s at stop j → i ≡ j
+  not-ended-one (D.none x) (D.none y) = none-one x y
+  not-ended-one (D.none x) (D.ends w h) = absurd (none-not x w)
+  not-ended-one (D.none x) (D.other w h k) = absurd (none-not x w)
+  not-ended-one (D.ends w h) (D.none y) = absurd (none-not y w)
+  not-ended-one (D.ends w h) (D.ends w₂ h₂) = refl
+  not-ended-one (D.ends w h) (D.other w₂ h₂ k) = absurd (omega (arith, whole-one w w₂ .1))
+  not-ended-one (D.other w h k) (D.none y) = absurd (none-not y w)
+  not-ended-one (D.other w h k) (D.ends w₂ h₂) = absurd (omega (arith, whole-one w w₂ .1))
+  not-ended-one (D.other w h k) (D.other w₂ h₂ k₂) = whole-one w w₂ .1
+
   pub field-one : (at stop : ℕ) (r r′ : Digits) → FieldSays s at stop r → FieldSays s at stop r′ → r ≡ r′
   field-one at stop (Value a n) (Value b m) p q = let e = ended-one p q in let x = e .0 in let y = e .1 in cc
-  field-one at stop (Value a n) NoNumber p q = absurd (ended-not q p)
-  field-one at stop NoNumber (Value b m) p q = absurd (ended-not p q)
-  field-one at stop NoNumber NoNumber p q = refl
+  field-one at stop (Value a n) (NoNumber j) p q = absurd (ended-not q p)
+  field-one at stop (NoNumber i) (Value b m) p q = absurd (ended-not p q)
+  field-one at stop (NoNumber i) (NoNumber j) p q = ap NoNumber (not-ended-one p q)
 
   moved : {at at′ stop a n : ℕ} → at ≡ at′ → Ended s at stop a n → Ended s at′ stop a n
   moved {stop = stop} {a = a} {n = n} e p = subst (λ (x : ℕ). Ended s x stop a n) e p
 
-  headed-not : {n w v next : ℕ} → NotHeaded s → Headed s n w v next → ⊥
+  headed-not : {n w v next i : ℕ} → NotHeaded s i → Headed s n w v next → ⊥
   headed-not (D.noN x) h = ended-not x (h .nEnds)
   headed-not (D.noW p x) h = ended-not x (moved (ended-one (h .nEnds) p .1) (h .wEnds))
   headed-not (D.noInitial p q x) h = ended-not x (moved (ended-one (moved (ended-one (h .nEnds) p .1) (h .wEnds)) q .1) (h .initialEnds))
+
+  moved-not : {at at′ stop i : ℕ} → at ≡ at′ → NotEnded s at stop i → NotEnded s at′ stop i
+  moved-not {stop = stop} {i = i} e p = subst (λ (x : ℕ). NotEnded s x stop i) e p
+
+  not-headed-one : {i j : ℕ} → NotHeaded s i → NotHeaded s j → i ≡ j
+  not-headed-one (D.noN x) (D.noN y) = not-ended-one x y
+  not-headed-one (D.noN x) (D.noW p y) = absurd (ended-not x p)
+  not-headed-one (D.noN x) (D.noInitial p q y) = absurd (ended-not x p)
+  not-headed-one (D.noW p x) (D.noN y) = absurd (ended-not y p)
+  not-headed-one (D.noW p x) (D.noW p₂ y) = not-ended-one (moved-not (ended-one p p₂ .1) x) y
+  not-headed-one (D.noW p x) (D.noInitial p₂ q y) = absurd (ended-not (moved-not (ended-one p p₂ .1) x) q)
+  not-headed-one (D.noInitial p q x) (D.noN y) = absurd (ended-not y p)
+  not-headed-one (D.noInitial p q x) (D.noW p₂ y) = absurd (ended-not (moved-not (ended-one p₂ p .1) y) q)
+  not-headed-one (D.noInitial p q x) (D.noInitial p₂ q₂ y) = not-ended-one (moved-not (ended-one (moved (ended-one p p₂ .1) q) q₂ .1) x) y
 
   pub first-line-one : (r r′ : Header) → HeaderSays s r → HeaderSays s r′ → r ≡ r′
   first-line-one (First n w v a) (First m x u b) p q =
@@ -119,9 +169,9 @@ module _ (s : List ℕ) where
       let f = ended-one (moved (e .1) (p .wEnds)) (q .wEnds) in
       let g = ended-one (moved (f .1) (p .initialEnds)) (q .initialEnds) in
       let e₀ = e .0 in let f₀ = f .0 in let g₀ = g .0 in let g₁ = g .1 in cc
-  first-line-one (First n w v a) NoFirst p q = absurd (headed-not q p)
-  first-line-one NoFirst (First m x u b) p q = absurd (headed-not p q)
-  first-line-one NoFirst NoFirst p q = refl
+  first-line-one (First n w v a) (NoFirst j) p q = absurd (headed-not q p)
+  first-line-one (NoFirst i) (First m x u b) p q = absurd (headed-not p q)
+  first-line-one (NoFirst i) (NoFirst j) p q = ap NoFirst (not-headed-one p q)
 
   -- one end of gaps
   gaps-between : {at next : ℕ} → Gapped s at next → (i : ℕ) → at ≤ i → i < next → isGap (kindOf (getD s i 0)) ≡ true
@@ -148,10 +198,10 @@ module _ (s : List ℕ) where
   sign-one v place v′ place′ k k′ r r′ e f g h p q = signed-one v place k r r′ p (subst (λ (x : Kind). Signed s v place x r′) (sym h ∙ ap (λ (x : ℕ). kindOf (getD s x 0)) (sym f) ∙ g) (subst (λ (x : ℕ). Signed s x place k′ r′) (sym e) (subst (λ (x : ℕ). Signed s v′ x k′ r′) (sym f) q)))
 
   pub begin-one : {at : ℕ} {r r′ : Start} → Begins s at r → Begins s at r′ → r ≡ r′
-  begin-one (D.none x) (D.none y) = refl
-  begin-one (D.none x) (D.ends w h) = refl
+  begin-one (D.none x) (D.none y) = ap Wrong (none-one x y)
+  begin-one (D.none x) (D.ends w h) = absurd (none-not x w)
   begin-one (D.none x) (D.signed w h e q) = absurd (none-not x w)
-  begin-one (D.ends w h) (D.none y) = refl
+  begin-one (D.ends w h) (D.none y) = absurd (none-not y w)
   begin-one (D.ends w h) (D.ends w₂ h₂) = refl
   begin-one (D.ends w h) (D.signed w₂ h₂ e q) = absurd (omega (arith, whole-one w w₂ .1))
   begin-one (D.signed w h e q) (D.none y) = absurd (none-not y w)

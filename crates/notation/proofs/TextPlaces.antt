@@ -10,8 +10,9 @@ use lib.Seq.{take-add}
 use Rattle.notation.specs.declared.Kind.the-variants.{Open}
 use Rattle.notation.specs.Bytes.{kindOf}
 use Rattle.notation.specs.Grammar.{Said, deepest}
-use Rattle.notation.specs.Scan.{onDigit, between, more, move, said, Verdict, end, shut, fault, atEnd, go, scan}
-use Rattle.notation.specs.FirstLine.{Place, beforeN, inN, beforeW, inW, beforeInitial, inInitial, Next, goes, begins, breaks, starting, inside, step, Reading, right, wrong, whole, proceed, readFrom}
+use Rattle.notation.specs.Scan.{between, Verdict, end, shut, fault, atEnd, scan}
+use Rattle.notation.specs.FirstLine.{Place, beforeN, inN, beforeW, inW, beforeInitial, inInitial, Next, goes, begins, breaks}
+use Rattle.notation.specs.FirstLine.{starting, inside, step, Reading, right, wrong, whole, proceed, readFrom, past}
 use Rattle.notation.specs.Right as R
 use Rattle.notation.specs.Right.{Right, Completable, Hopeless, Fault}
 use Rattle.notation.proofs.Agreement.{turn, text-read}
@@ -21,11 +22,15 @@ use Rattle.notation.proofs.ScanPlaces.{isEnd, ScanPlaced, ScanWhy, scan
 
 abbrev isRight : Reading → Bool
 isRight (right a) = true
-isRight (wrong k) = false
+isRight (wrong k left) = false
 
 abbrev numberOf : Reading → ℕ
 numberOf (right a) = 0
-numberOf (wrong k) = k
+numberOf (wrong k left) = k
+
+abbrev leftOf : Reading → ℕ
+leftOf (right a) = 0
+leftOf (wrong k left) = left
 
 -- a text that goes on from a place to a right end
 record Hope (d : ℕ) (p : List ℕ) (m : Place) : Type 0 where
@@ -41,8 +46,9 @@ data Why (top : ℕ) (s : List ℕ) (at : ℕ) (m : Place) (k : ℕ) : Type 0 wh
   broken : k ≡ 10 → at < length s → ((d : ℕ) → NoHope d (take (suc at) s) m) → Why top s at m k
   deep : k ≡ 11 → at < length s → kindOf (getD s at 0) ≡ Open → NoHope top (take (suc at) s) m → Hope (suc top) (take (suc at) s) m → Why top s at m k
 
-record Placed (top : ℕ) (s : List ℕ) (m : Place) (k : ℕ) : Type 0 where
+record Placed (top : ℕ) (s : List ℕ) (m : Place) (k left : ℕ) : Type 0 where
   at : ℕ
+  left-is : at + left ≡ length s
   hope : Hope top (take at s) m
   why : Why top s at m k
 
@@ -64,25 +70,31 @@ not-end : (n w v : ℕ) (x : Verdict) → isRight (whole n w v x) ≡ false → 
 unfolding whole
 not-end n w v (end es) h = h
 not-end n w v (shut es l) h = refl
-not-end n w v (fault k) h = refl
+not-end n w v (fault k left) h = refl
 
 not-right : (n w v : ℕ) (x : Verdict) → isEnd x ≡ false → isRight (whole n w v x) ≡ false
 unfolding whole
 not-right n w v (end es) h = h
 not-right n w v (shut es l) h = refl
-not-right n w v (fault k) h = refl
+not-right n w v (fault k left) h = refl
 
 same-number : (n w v : ℕ) (x : Verdict) → isEnd x ≡ false → S.numberOf x ≡ numberOf (whole n w v x)
 unfolding whole
 same-number n w v (end es) h = absurd (true≢false h)
 same-number n w v (shut es l) h = refl
-same-number n w v (fault k) h = refl
+same-number n w v (fault k left) h = refl
 
-module _ (top : ℕ) (b : ℕ) (l : List ℕ) (m : Place) (k : ℕ) where
+same-left : (n w v : ℕ) (x : Verdict) → isEnd x ≡ false → S.leftOf x ≡ leftOf (whole n w v x)
+unfolding whole
+same-left n w v (end es) h = absurd (true≢false h)
+same-left n w v (shut es l) h = refl
+same-left n w v (fault k left) h = refl
+
+module _ (top : ℕ) (b : ℕ) (l : List ℕ) (m : Place) (k left : ℕ) where
   -- the reading goes on in the first line
-  on-goes : (m′ : Place) → step m b ≡ goes m′ → Placed top l m′ k → Placed top (b ∷ l) m k
+  on-goes : (m′ : Place) → step m b ≡ goes m′ → Placed top l m′ k left → Placed top (b ∷ l) m k left
   unfolding proceed
-  on-goes m′ e p = record { at = suc (p .at); hope = over top (take (p .at) l) (p .hope); why = later (p .why) }
+  on-goes m′ e p = record { at = suc (p .at); left-is = omega (arith, p .left-is); hope = over top (take (p .at) l) (p .hope); why = later (p .why) }
     where
       over : (d : ℕ) (q : List ℕ) → Hope d q m′ → Hope d (b ∷ q) m
       over d q h = record { rest = h .rest; a = h .a; reads = turn d b (q ++ h .rest) m (goes m′) e ∙ h .reads }
@@ -96,9 +108,9 @@ module _ (top : ℕ) (b : ℕ) (l : List ℕ) (m : Place) (k : ℕ) where
       later (deep z q o h g) = deep z (omega arith) o (none top (take (suc (p .at)) l) h) (over (suc top) (take (suc (p .at)) l) g)
 
   -- the items begin
-  on-begins : (n w v : ℕ) → step m b ≡ begins n w v → ScanPlaced l (between false) [] [] top k → Placed top (b ∷ l) m k
+  on-begins : (n w v : ℕ) → step m b ≡ begins n w v → ScanPlaced l (between false) [] [] top k left → Placed top (b ∷ l) m k left
   unfolding proceed whole
-  on-begins n w v e p = record { at = suc (p .at); hope = over top (take (p .at) l) (p .hope .rest) (p .hope .says) (p .hope .right); why = later (p .why) }
+  on-begins n w v e p = record { at = suc (p .at); left-is = omega (arith, p .left-is); hope = over top (take (p .at) l) (p .hope .rest) (p .hope .says) (p .hope .right); why = later (p .why) }
     where
       over : (d : ℕ) (q r : List ℕ) (es : List _) → scan (q ++ r) (between false) [] [] d ≡ end es → Hope d (b ∷ q) m
       over d q r es h = record { rest = r; a = record { n = n; w = w; initial = v; entries = es }; reads = turn d b (q ++ r) m (begins n w v) e ∙ ap (whole n w v) h }
@@ -112,25 +124,27 @@ module _ (top : ℕ) (b : ℕ) (l : List ℕ) (m : Place) (k : ℕ) where
       later (S.deep z q o h g) = deep z (omega arith) o (λ t. none top (take (suc (p .at)) l) t (h t)) (over (suc top) (take (suc (p .at)) l) (g .rest) (g .says) (g .right))
 
   -- a byte of the first line breaks it
-  on-breaks : step m b ≡ breaks → k ≡ 10 → Placed top (b ∷ l) m k
+  on-breaks : step m b ≡ breaks → k ≡ 10 → left ≡ suc (length l) → Placed top (b ∷ l) m k left
   unfolding proceed
-  on-breaks e z = record { at = 0; hope = complete top m; why = broken z (omega arith) (λ d t. ap isRight (turn d b t m breaks e)) }
+  on-breaks e z y = record { at = 0; left-is = omega arith; hope = complete top m; why = broken z (omega arith) (λ d t. ap isRight (turn d b t m breaks e)) }
 
 advance : (top b : ℕ) (l : List ℕ) (m : Place) (x : Next) → step m b ≡ x
-    → ((m : Place) → isRight (readFrom top l m) ≡ false → Placed top l m (numberOf (readFrom top l m)))
-    → isRight (proceed (readFrom top l) (λ n w v. whole n w v (scan l (between false) [] [] top)) x) ≡ false
-    → Placed top (b ∷ l) m (numberOf (proceed (readFrom top l) (λ n w v. whole n w v (scan l (between false) [] [] top)) x))
+    → ((m : Place) → isRight (readFrom top l m) ≡ false → Placed top l m (numberOf (readFrom top l m)) (leftOf (readFrom top l m)))
+    → isRight (past top l x) ≡ false
+    → Placed top (b ∷ l) m (numberOf (past top l x))
+    (leftOf (past top l x))
 unfolding proceed
-advance top b l m (goes m′) e ih h = on-goes top b l m _ m′ e (ih m′ h)
+advance top b l m (goes m′) e ih h = on-goes top b l m _ _ m′ e (ih m′ h)
 advance top b l m (begins n w v) e ih h =
     let x = scan l (between false) [] [] top in
     let q = not-end n w v x h in
-    subst (Placed top (b ∷ l) m) (same-number n w v x q) (on-begins top b l m (S.numberOf x) n w v e (scan-placed l (between false) [] [] top q))
-advance top b l m breaks e ih h = on-breaks top b l m 10 e refl
+    let p = on-begins top b l m (S.numberOf x) (S.leftOf x) n w v e (scan-placed l (between false) [] [] top q) in
+    subst (Placed top (b ∷ l) m _) (same-left n w v x q) (subst (λ (k : ℕ). Placed top (b ∷ l) m k (S.leftOf x)) (same-number n w v x q) p)
+advance top b l m breaks e ih h = on-breaks top b l m 10 _ e refl refl
 
-placed : (top : ℕ) (s : List ℕ) (m : Place) → isRight (readFrom top s m) ≡ false → Placed top s m (numberOf (readFrom top s m))
+placed : (top : ℕ) (s : List ℕ) (m : Place) → isRight (readFrom top s m) ≡ false → Placed top s m (numberOf (readFrom top s m)) (leftOf (readFrom top s m))
 unfolding readFrom
-placed top [] m h = record { at = 0; hope = complete top m; why = ended refl refl }
+placed top [] m h = record { at = 0; left-is = refl; hope = complete top m; why = ended refl refl }
 placed top (b ∷ l) m h = advance top b l m (step m b) refl (λ m. placed top l m) h
 
 -- and now in terms of right texts
@@ -150,11 +164,21 @@ because s at k n (ended z q) = subst (R.Why s at) (sym z) (R.ended q (not-right-
 because s at k n (broken z q h) = subst (R.Why s at) (sym z) (R.broken q (λ d t r. not-right-text d (take (suc at) s ++ t) (h d t) r))
 because s at k n (deep z q o h g) = subst (R.Why s at) (sym z) (R.deep q (record { is = o }) (λ t r. not-right-text deepest (take (suc at) s ++ t) (h t) r) (completed (suc deepest) (take (suc at) s) g))
 
-pub fault-placed : (s : List ℕ) (k : ℕ) → readFrom deepest s beforeN ≡ wrong k → Fault s k
-fault-placed s k e =
-    let n = ap isRight e in
-    let p = subst (Placed deepest s beforeN) (ap numberOf e) (placed deepest s beforeN n) in
-    record { at = p .at; within = within deepest s (p .at) k (p .why); hope = completed deepest (take (p .at) s) (p .hope); why = because s (p .at) k n (p .why) }
+module _ (s : List ℕ) (k left : ℕ) (e : readFrom deepest s beforeN ≡ wrong k left) where
+  placed-so : Placed deepest s beforeN k left
+  placed-so =
+      let p = placed deepest s beforeN (ap isRight e) in
+      subst (Placed deepest s beforeN k) (ap leftOf e) (subst (λ (j : ℕ). Placed deepest s beforeN j (leftOf (readFrom deepest s beforeN))) (ap numberOf e) p)
+
+  pub fault-placed : Fault s k
+  fault-placed =
+      let p = placed-so in
+      record { at = p .at; within = within deepest s (p .at) k (p .why); hope = completed deepest (take (p .at) s) (p .hope); why = because s (p .at) k (ap isRight e) (p .why) }
+
+  -- its place, by what is left of the text from it on
+  pub fault-left : fault-placed .at + left ≡ length s
+  unfolding fault-placed
+  fault-left = placed-so .left-is
 
 -- no fault stands before another
 longer : (d a b : ℕ) (s : List ℕ) → a < b → Hopeless d (take (suc a) s) → Completable d (take b s) → ⊥
@@ -216,4 +240,4 @@ decided s = by (readFrom deepest s beforeN) refl
   where
     by : (x : Reading) → readFrom deepest s beforeN ≡ x → Right deepest s ⊎ (Fault s 10 ⊎ Fault s 11)
     by (right a) e = let t = text-given deepest s a e in inl (record { tree = t .tree; text = t .text })
-    by (wrong k) e = let p = fault-placed s k e in inr (⊎-elim (λ q. inl (subst (Fault s) q p)) (λ q. inr (subst (Fault s) q p)) (fault-number p))
+    by (wrong k left) e = let p = fault-placed s k left e in inr (⊎-elim (λ q. inl (subst (Fault s) q p)) (λ q. inr (subst (Fault s) q p)) (fault-number p))

@@ -13,7 +13,8 @@ use Rattle.notation.specs.Bytes.{space, lineFeed, kindOf}
 use Rattle.notation.specs.Grammar as G
 use Rattle.notation.specs.Grammar.{Byte, Number, FirstLine, Said, Text, largest, firstBytes, scheduleBytes, scheduleSays, bytes, says}
 use Rattle.notation.specs.Scan.{onDigit, between, Verdict, end, shut, fault, scan}
-use Rattle.notation.specs.FirstLine.{Place, beforeN, inN, beforeW, inW, beforeInitial, inInitial, Next, goes, begins, breaks, starting, inside, step, Reading, right, wrong, whole, proceed, readFrom}
+use Rattle.notation.specs.FirstLine.{Place, beforeN, inN, beforeW, inW, beforeInitial, inInitial, Next, goes, begins, breaks}
+use Rattle.notation.specs.FirstLine.{starting, inside, step, right, wrong, whole, proceed, readFrom, past}
 use Rattle.notation.specs.Right.{Tells}
 use Rattle.notation.proofs.KindLaws.{either}
 use Rattle.notation.proofs.Trees.{Is, snoc, schedule-given}
@@ -117,7 +118,7 @@ next (inInitial n w v) b c s = inside-then (inInitial n w) lineFeed (begins n w)
 pub right-same : {a b : Said} → right a ≡ right b → a ≡ b
 right-same q = cc
 
-wrong-right : {k : ℕ} {a : Said} → wrong k ≡ right a → ⊥
+wrong-right : {k left : ℕ} {a : Said} → wrong k left ≡ right a → ⊥
 wrong-right q = let z : _≡_ {A = ℕ} 0 1 = cc in omega arith
 
 -- the first line is whole, and the items follow
@@ -131,10 +132,10 @@ items-given d n w v b l a (end es) e f h =
       saying = let p = f .sameN in let q = f .sameW in let r = f .sameInitial in let u = t .saying in let z = right-same h in cc;
     }
 items-given d n w v b l a (shut es r) e f h = absurd (wrong-right h)
-items-given d n w v b l a (fault k) e f h = absurd (wrong-right h)
+items-given d n w v b l a (fault k left) e f h = absurd (wrong-right h)
 
 on : (d : ℕ) (c : ℕ) (l b : List ℕ) (a : Said) (x : Next) → Then x b c → ((m : Place) (b : List ℕ) → Stands m b → readFrom d l m ≡ right a → Tells d (b ++ l) a)
-    → proceed (readFrom d l) (λ n w v. whole n w v (scan l (between false) [] [] d)) x ≡ right a → Tells d (b ++ c ∷ l) a
+    → past d l x ≡ right a → Tells d (b ++ c ∷ l) a
 unfolding proceed
 on d c l b a (goes m) s ih h = subst (λ (y : List ℕ). Tells d y a) (append-assoc b (c ∷ []) l) (ih m (b ++ c ∷ []) s h)
 on d c l b a (begins n w v) s ih h = subst (λ (y : List ℕ). Tells d y a) (append-assoc b (c ∷ []) l) (items-given d n w v (b ++ c ∷ []) l a (scan l (between false) [] [] d) refl s h)

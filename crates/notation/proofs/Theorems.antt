@@ -1,14 +1,18 @@
--- The theorems about the notation: the grammar and the byte-at-a-time reading agree, and every text that is not right has one fault at one place.
-use Prim.Native.Nat.{ℕ}
+-- The theorems about the notation: the grammar and the byte-at-a-time reading agree, each entry has one place, and every text that is not right has one fault at one place.
+use Prim.Native.Nat.{ℕ, _+_}
 use mathlib.Core.Path.{_≡_, sym, ap, _∙_}
 use mathlib.Core.List.{List}
 use mathlib.Core.Logic.{_⊎_}
-use Rattle.notation.specs.Grammar.{Text, Said, bytes, says, deepest}
+use native.Mathlib.Omega.{arith}
+use lib.ListN.{length}
+use Rattle.notation.specs.Grammar.{Text, Said, bytes, says, places, deepest}
 use Rattle.notation.specs.FirstLine.{right, wrong, read}
+use Rattle.notation.specs.Places.{locateText}
 use Rattle.notation.specs.Right.{Right, Tells, Fault}
 use Rattle.notation.proofs.Agreement.{text-read}
 use Rattle.notation.proofs.TextTrees.{text-given, right-same}
-use Rattle.notation.proofs.TextPlaces.{fault-placed, same-place, same-fault, fault-wrong, decided}
+use Rattle.notation.proofs.PlacedTrees.{text-placed, text-even}
+use Rattle.notation.proofs.TextPlaces.{fault-placed, fault-left, same-place, same-fault, fault-wrong, decided}
 
 -- every right text is read to what it says
 pub right-is-read : (t : Text deepest) → read (bytes t) ≡ right (says t)
@@ -27,10 +31,17 @@ says-one-thing s a b p q = right-same (sym (reads p) ∙ reads q)
     reads : {c : Said} → Tells deepest s c → read s ≡ right c
     reads t = ap read (sym (t .text)) ∙ right-is-read (t .tree) ∙ ap right (t .saying)
 
+-- a text has one place for each entry that it says, and its bytes alone fix them
+pub place-for-each : (t : Text deepest) → length (places t) ≡ length (says t .entries)
+place-for-each t = text-even t
+
+pub places-one-way : (t u : Text deepest) → bytes t ≡ bytes u → places t ≡ places u
+places-one-way t u e = sym (text-placed t) ∙ ap (λ (s : List ℕ). locateText s 0) e ∙ text-placed u
+
 -- a text that is not read to an end has a fault of the reading's number, at the first byte after which no text could be right
-pub wrong-has-fault : (s : List ℕ) (k : ℕ) → read s ≡ wrong k → Fault s k
+pub wrong-has-fault : (s : List ℕ) (k left : ℕ) → read s ≡ wrong k left → Fault s k
 unfolding read
-wrong-has-fault s k h = fault-placed s k h
+wrong-has-fault s k left h = fault-placed s k left h
 
 -- then it is not right
 pub fault-is-wrong : (s : List ℕ) (k : ℕ) → Fault s k → Right deepest s → ⊥
@@ -39,6 +50,11 @@ fault-is-wrong s k p = fault-wrong p
 -- the fault of a text is one: one place, one number
 pub one-place : (s : List ℕ) (j k : ℕ) (p : Fault s j) (q : Fault s k) → p .at ≡ q .at
 one-place s j k p q = same-place p q
+
+-- and its place is the reading's: so many bytes are left from it on
+pub wrong-at-fault : (s : List ℕ) (j k left : ℕ) (p : Fault s j) → read s ≡ wrong k left → p .at + left ≡ length s
+unfolding read
+wrong-at-fault s j k left p h = omega (arith, same-place p (fault-placed s k left h), fault-left s k left h)
 
 pub one-number : (s : List ℕ) (j k : ℕ) → Fault s j → Fault s k → j ≡ k
 one-number s j k p q = same-fault p q

@@ -1,5 +1,6 @@
 -- What the reading says, the grammar gives: the items.
 use Prim.Native.Nat.{ℕ, zero, suc, _+_, _*_, _≤_}
+use lib.ListN.{length}
 use mathlib.Core.Path.{_≡_, refl, sym, ap, subst, _∙_}
 use mathlib.Core.List.{List, [], _∷_, _++_, append-assoc, append-nil}
 use mathlib.Core.Bool.{Bool, true, false, cond}
@@ -180,7 +181,7 @@ pub record Is (d : ℕ) (s : List ℕ) (es : List Entry) : Type 0 where
 end-same : {a b : List Entry} → end a ≡ end b → a ≡ b
 end-same q = cc
 
-fault-end : {k : ℕ} {b : List Entry} → fault k ≡ end b → ⊥
+fault-end : {k left : ℕ} {b : List Entry} → fault k left ≡ end b → ⊥
 fault-end q = let z : _≡_ {A = ℕ} 0 1 = cc in omega arith
 
 shut-end : {a b : List Entry} {l : List ℕ} → shut a l ≡ end b → ⊥
@@ -219,7 +220,8 @@ unfolding go
 on top c l b p os es d stack (to m) o s ih h = subst (λ (x : List ℕ). Is top x es) (sym (push p b l c)) (ih m stack p (b ++ c ∷ []) os d o s h)
 on top c l b p os es d stack (enter n) o s ih h = counted (countOk n) refl d o s h
   where
-    counted : (t : Bool) → countOk n ≡ t → (d : ℕ) → Opened top stack p d → Entering d n b c os → cond t (entered (scan l) n stack os d) (fault 10) ≡ end es → Is top (p ++ (b ++ c ∷ l)) es
+    counted : (t : Bool) → countOk n ≡ t → (d : ℕ) → Opened top stack p d → Entering d n b c os
+        → cond t (entered (scan l) (suc (length l)) n stack os d) (fault 10 (suc (length l))) ≡ end es → Is top (p ++ (b ++ c ∷ l)) es
     counted false q d o s h = absurd (fault-end h)
     counted true q zero o s h = absurd (fault-end h)
     counted true q (suc r) o s h =

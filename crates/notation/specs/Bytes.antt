@@ -2,6 +2,7 @@
 use Prim.Native.Nat.{ℕ, _-_}
 use mathlib.Core.Bool.{Bool, true, false, cond}
 use lib.Dec.{eqb, leb}
+use Rattle.listing.specs.Quoted.{byte}
 use Rattle.notation.specs.declared.Mark.{Mark}
 use Rattle.notation.specs.declared.Mark.the-variants.{Ll, Vl, One, All}
 use Rattle.notation.specs.declared.Kind.{Kind}
@@ -11,19 +12,19 @@ use Rattle.notation.specs.declared.Entry.the-variants.{StartLl, StartVl,
 
 -- 01: "one space between"
 abbrev pub space : ℕ
-space = 32
+space = byte " "
 
 -- 01: "then a line feed"
 abbrev pub lineFeed : ℕ
-lineFeed = 10
+lineFeed = byte "\n"
 
 -- a decimal digit, a space or line feed, one of `l` `v` `.` `!`, `s`, `(`, `)`, or none of these
 unfoldable pub kindOf : ℕ → Kind
 kindOf b =
-    cond (leb 48 b) (cond (leb b 57) (Digit (b - 48))
-    (cond (eqb b 108) (Marked Ll) (cond (eqb b 118) (Marked Vl) (cond (eqb b 115) Offer Other))))
-    (cond (eqb b space) Gap (cond (eqb b lineFeed) Gap (cond (eqb b 46) (Marked One) (cond (eqb b 33) (Marked All)
-    (cond (eqb b 40) Open (cond (eqb b 41) Close Other))))))
+    cond (leb (byte "0") b) (cond (leb b (byte "9")) (Digit (b - byte "0"))
+    (cond (eqb b (byte "l")) (Marked Ll) (cond (eqb b (byte "v")) (Marked Vl) (cond (eqb b (byte "s")) Offer Other))))
+    (cond (eqb b space) Gap (cond (eqb b lineFeed) Gap (cond (eqb b (byte ".")) (Marked One) (cond (eqb b (byte "!")) (Marked All)
+    (cond (eqb b (byte "(")) Open (cond (eqb b (byte ")")) Close Other))))))
 
 abbrev pub isDigit : Kind → Bool
 isDigit (Digit d) = true

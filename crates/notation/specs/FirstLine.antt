@@ -3,6 +3,7 @@ use Prim.Native.Nat.{ℕ, zero, suc}
 use mathlib.Core.List.{List, [], _∷_}
 use mathlib.Core.Bool.{Bool, true, false, cond}
 use lib.Dec.{eqb}
+use lib.ListN.{length}
 use Rattle.notation.specs.declared.Kind.{Kind}
 use Rattle.notation.specs.declared.Kind.the-variants.{Digit, Gap, Marked, Offer, Open, Close, Other}
 use Rattle.notation.specs.Bytes.{space, lineFeed, kindOf}
@@ -55,26 +56,30 @@ step (inW n w) b = inside (inW n) space (λ x. goes (beforeInitial n x)) w b (ki
 step (beforeInitial n w) b = starting (inInitial n w) (kindOf b)
 step (inInitial n w v) b = inside (inInitial n w) lineFeed (begins n w) v b (kindOf b)
 
--- what a whole text comes to: right, with what it says, or a fault
+-- what a whole text comes to: right, with what it says, or a fault, with the number of bytes from its place on
 pub data Reading : Type 0 where
   right : Said → Reading
-  wrong : ℕ → Reading
+  wrong : ℕ → ℕ → Reading
 
 -- the items after a first line
 unfoldable pub whole : ℕ → ℕ → ℕ → Verdict → Reading
 whole n w v (end es) = right (record { n = n; w = w; initial = v; entries = es })
-whole n w v (shut es l) = wrong 10
-whole n w v (fault k) = wrong k
+whole n w v (shut es l) = wrong 10 (suc (length l))
+whole n w v (fault k left) = wrong k left
 
-unfoldable pub proceed : (Place → Reading) → (ℕ → ℕ → ℕ → Reading) → Next → Reading
-proceed k items (goes m) = k m
-proceed k items (begins n w v) = items n w v
-proceed k items breaks = wrong 10
+unfoldable pub proceed : (Place → Reading) → (ℕ → ℕ → ℕ → Reading) → ℕ → Next → Reading
+proceed k items left (goes m) = k m
+proceed k items left (begins n w v) = items n w v
+proceed k items left breaks = wrong 10 left
 
 -- the reading of a text from a place of its first line, where d groups may stand inside each other
 unfoldable pub readFrom : ℕ → List ℕ → Place → Reading
-readFrom d [] m = wrong 10
-readFrom d (b ∷ l) m = proceed (readFrom d l) (λ n w v. whole n w v (scan l (between false) [] [] d)) (step m b)
+readFrom d [] m = wrong 10 0
+readFrom d (b ∷ l) m = proceed (readFrom d l) (λ n w v. whole n w v (scan l (between false) [] [] d)) (suc (length l)) (step m b)
+
+-- the same after a byte that does x, with the text l behind it
+abbrev pub past : ℕ → List ℕ → Next → Reading
+past d l x = proceed (readFrom d l) (λ n w v. whole n w v (scan l (between false) [] [] d)) (suc (length l)) x
 
 -- the reading of a whole text
 unfoldable pub read : List ℕ → Reading

@@ -4,6 +4,7 @@ use mathlib.Core.Path.{_≡_}
 use mathlib.Core.List.{List, [], _∷_, _++_}
 use mathlib.Core.Bool.{Bool, true, false, cond}
 use lib.Dec.{eqb, leb}
+use lib.ListN.{length}
 use Rattle.notation.specs.declared.Mark.{Mark}
 use Rattle.notation.specs.declared.Kind.{Kind}
 use Rattle.notation.specs.declared.Kind.the-variants.{Digit, Gap, Marked, Offer, Open, Close, Other}
@@ -105,7 +106,7 @@ bytes t = firstBytes (t .first) ++ scheduleBytes (t .schedule)
 
 -- What they say.
 -- 01: "carried out that many times"
-unfoldable pub times : ℕ → List Entry → List Entry
+unfoldable pub times : {A : Type 0} → ℕ → List A → List A
 times zero es = []
 times (suc n) es = es ++ times n es
 
@@ -135,3 +136,27 @@ pub record Said : Type 0 where
 
 unfoldable pub says : {d : ℕ} → Text d → Said
 says t = record { n = t .first .n; w = t .first .w; initial = t .first .initial; entries = scheduleSays (t .schedule) }
+
+-- Where they stand: for each entry, the place of the first byte of the item that says it, the text's first byte being at place 0.
+-- The items of a group are in one place each, however often they are carried out.
+unfoldable mutual
+  -- of an item that begins at `at`
+  pub itemPlaces : {d : ℕ} → ℕ → Item d → List ℕ
+  itemPlaces at (marked ds p c m n k) = at ∷ []
+  itemPlaces at (offer ds p c ks v n k w) = at ∷ []
+  itemPlaces at (group ds n a k ok o i g z t u) = times n (itemsPlaces (at + length ds + 1) i)
+
+  pub itemsPlaces : {d : ℕ} → ℕ → Items d → List ℕ
+  itemsPlaces at (item l i) = leadPlaces at l ++ itemPlaces (at + length (leadBytes l)) i
+
+  pub leadPlaces : {d : ℕ} → ℕ → Lead d → List ℕ
+  leadPlaces at (fresh g t) = []
+  leadPlaces at (apart i c g k t) = itemsPlaces at i
+
+unfoldable pub schedulePlaces : {d : ℕ} → ℕ → Schedule d → List ℕ
+schedulePlaces at (empty g t) = []
+schedulePlaces at (items i g t) = itemsPlaces at i
+
+-- one place for each entry that a text says, in the order of the entries
+unfoldable pub places : {d : ℕ} → Text d → List ℕ
+places t = schedulePlaces (length (firstBytes (t .first))) (t .schedule)

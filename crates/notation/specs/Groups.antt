@@ -1,5 +1,5 @@
--- What the readers of items and of groups promise of the reading `scan`. Those readers carry entries out and live in the crate that does so.
-use Prim.Native.Nat.{ℕ, _≤_, _<_}
+-- What the readers of items and of groups promise of the reading `scan`.
+use Prim.Native.Nat.{ℕ, _-_, _≤_, _<_}
 use mathlib.Core.Path.{_≡_}
 use mathlib.Core.List.{List, [], _++_}
 use mathlib.Core.Bool.{false}
@@ -14,9 +14,10 @@ pub record ItemRead (s : List ℕ) (at d next : ℕ) (es : List Entry) : Type 0 
   pub within : next ≤ length s
   pub same : (stack : List Frame) (os : List Entry) → scan (drop at s) (between false) stack os d ≡ scan (drop next s) done stack (os ++ es) d
 
--- an item has a fault
-pub record ItemBroken (s : List ℕ) (at d k : ℕ) : Type 0 where
-  pub same : (stack : List Frame) (os : List Entry) → scan (drop at s) (between false) stack os d ≡ fault k
+-- an item has a fault, at a place
+pub record ItemBroken (s : List ℕ) (at d k place : ℕ) : Type 0 where
+  pub within : place ≤ length s
+  pub same : (stack : List Frame) (os : List Entry) → scan (drop at s) (between false) stack os d ≡ fault k (length s - place)
 
 -- the items from `at` on end with the text
 pub record ItemsEnded (s : List ℕ) (at d : ℕ) (es : List Entry) : Type 0 where
@@ -28,9 +29,10 @@ pub record ItemsClosed (s : List ℕ) (at d next : ℕ) (es : List Entry) : Type
   pub within : next ≤ length s
   pub same : scan (drop at s) (between false) [] [] d ≡ shut es (drop next s)
 
--- they have a fault
-pub record ItemsBroken (s : List ℕ) (at d k : ℕ) : Type 0 where
-  pub same : scan (drop at s) (between false) [] [] d ≡ fault k
+-- they have a fault, at a place
+pub record ItemsBroken (s : List ℕ) (at d k place : ℕ) : Type 0 where
+  pub within : place ≤ length s
+  pub same : scan (drop at s) (between false) [] [] d ≡ fault k (length s - place)
 
 -- they have said es before the item at `next`
 pub record Sofar (s : List ℕ) (at d next : ℕ) (es : List Entry) : Type 0 where

@@ -4,6 +4,8 @@ pub mod Scan
 pub mod FirstLine
 pub mod Right
 pub mod Readers
+pub mod Places
 pub mod Stretches
 pub mod Groups
-pub mod Carrying
+pub mod EntryWords
+pub mod Listed

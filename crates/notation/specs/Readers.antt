@@ -31,9 +31,8 @@ pub record Numbered (s : List ℕ) (at v v′ next : ℕ) : Type 0 where
   pub small : v′ ≤ largest
   pub stops : next < length s → isDigit (kindOf (getD s next 0)) ≡ false
 
--- a digit makes the number too large
-pub record Exceeds (s : List ℕ) (at v : ℕ) : Type 0 where
-  pub next : ℕ
+-- the digit at `next` makes the number too large
+pub record Exceeds (s : List ℕ) (at v next : ℕ) : Type 0 where
   pub v′ : ℕ
   pub d : ℕ
   pub counts : Counts s at v next v′
@@ -43,7 +42,7 @@ pub record Exceeds (s : List ℕ) (at v : ℕ) : Type 0 where
 
 abbrev pub NumberSays : List ℕ → ℕ → ℕ → Digits → Type 0
 NumberSays s at v (Value v′ next) = Numbered s at v v′ next
-NumberSays s at v NoNumber = Exceeds s at v
+NumberSays s at v (NoNumber place) = Exceeds s at v place
 
 -- a number from its first digit on
 pub record Whole (s : List ℕ) (at v next : ℕ) : Type 0 where
@@ -52,15 +51,15 @@ pub record Whole (s : List ℕ) (at v next : ℕ) : Type 0 where
   pub is : kindOf (getD s at 0) ≡ Digit d
   pub numbered : Numbered s (at + 1) d v next
 
--- no number stands there
-pub data NoneAt (s : List ℕ) (at : ℕ) : Type 0 where
-  ends : length s ≤ at → NoneAt s at
-  other : at < length s → isDigit (kindOf (getD s at 0)) ≡ false → NoneAt s at
-  exceeds : {d : ℕ} → at < length s → kindOf (getD s at 0) ≡ Digit d → Exceeds s (at + 1) d → NoneAt s at
+-- no number stands there: the text ends, or the byte at a place is in the way
+pub data NoneAt (s : List ℕ) (at : ℕ) : ℕ → Type 0 where
+  ends : length s ≤ at → NoneAt s at (length s)
+  other : at < length s → isDigit (kindOf (getD s at 0)) ≡ false → NoneAt s at at
+  exceeds : {d place : ℕ} → at < length s → kindOf (getD s at 0) ≡ Digit d → Exceeds s (at + 1) d place → NoneAt s at place
 
 abbrev pub NumberAtSays : List ℕ → ℕ → Digits → Type 0
 NumberAtSays s at (Value v next) = Whole s at v next
-NumberAtSays s at NoNumber = NoneAt s at
+NumberAtSays s at (NoNumber place) = NoneAt s at place
 
 -- a number of the first line and the one byte that ends it
 pub record Ended (s : List ℕ) (at stop v next : ℕ) : Type 0 where
@@ -70,14 +69,14 @@ pub record Ended (s : List ℕ) (at stop v next : ℕ) : Type 0 where
   pub is : getD s place 0 ≡ stop
   pub past : next ≡ place + 1
 
-pub data NotEnded (s : List ℕ) (at stop : ℕ) : Type 0 where
-  none : NoneAt s at → NotEnded s at stop
-  ends : {v place : ℕ} → Whole s at v place → length s ≤ place → NotEnded s at stop
-  other : {v place : ℕ} → Whole s at v place → place < length s → (getD s place 0 ≡ stop → ⊥) → NotEnded s at stop
+pub data NotEnded (s : List ℕ) (at stop : ℕ) : ℕ → Type 0 where
+  none : {place : ℕ} → NoneAt s at place → NotEnded s at stop place
+  ends : {v place : ℕ} → Whole s at v place → length s ≤ place → NotEnded s at stop (length s)
+  other : {v place : ℕ} → Whole s at v place → place < length s → (getD s place 0 ≡ stop → ⊥) → NotEnded s at stop place
 
 abbrev pub FieldSays : List ℕ → ℕ → ℕ → Digits → Type 0
 FieldSays s at stop (Value v next) = Ended s at stop v next
-FieldSays s at stop NoNumber = NotEnded s at stop
+FieldSays s at stop (NoNumber place) = NotEnded s at stop place
 
 -- the first line, and where the items begin
 pub record Headed (s : List ℕ) (n w v next : ℕ) : Type 0 where
@@ -87,14 +86,14 @@ pub record Headed (s : List ℕ) (n w v next : ℕ) : Type 0 where
   pub wEnds : Ended s second space w third
   pub initialEnds : Ended s third lineFeed v next
 
-pub data NotHeaded (s : List ℕ) : Type 0 where
-  noN : NotEnded s 0 space → NotHeaded s
-  noW : {n second : ℕ} → Ended s 0 space n second → NotEnded s second space → NotHeaded s
-  noInitial : {n w second third : ℕ} → Ended s 0 space n second → Ended s second space w third → NotEnded s third lineFeed → NotHeaded s
+pub data NotHeaded (s : List ℕ) : ℕ → Type 0 where
+  noN : {place : ℕ} → NotEnded s 0 space place → NotHeaded s place
+  noW : {n second place : ℕ} → Ended s 0 space n second → NotEnded s second space place → NotHeaded s place
+  noInitial : {n w second third place : ℕ} → Ended s 0 space n second → Ended s second space w third → NotEnded s third lineFeed place → NotHeaded s place
 
 abbrev pub HeaderSays : List ℕ → Header → Type 0
 HeaderSays s (First n w v next) = Headed s n w v next
-HeaderSays s NoFirst = NotHeaded s
+HeaderSays s (NoFirst place) = NotHeaded s place
 
 -- gaps from `at` to `next`
 pub data Gapped (s : List ℕ) (at : ℕ) : ℕ → Type 0 where
@@ -111,7 +110,7 @@ pub record Skipped (s : List ℕ) (at next : ℕ) : Type 0 where
 -- what a number after the `s` of process p makes
 abbrev pub offerOf : ℕ → Digits → Start
 offerOf p (Value k next) = Single (StartSc p k) next
-offerOf p NoNumber = Wrong
+offerOf p (NoNumber place) = Wrong place
 
 pub record Offered (s : List ℕ) (p at : ℕ) (r : Start) : Type 0 where
   pub number : Digits
@@ -120,29 +119,29 @@ pub record Offered (s : List ℕ) (p at : ℕ) (r : Start) : Type 0 where
 
 -- what the byte after an item's first number makes of it
 abbrev pub Signed : List ℕ → ℕ → ℕ → Kind → Start → Type 0
-Signed s v place (Digit d) r = r ≡ Wrong
-Signed s v place Gap r = r ≡ Wrong
+Signed s v place (Digit d) r = r ≡ Wrong place
+Signed s v place Gap r = r ≡ Wrong place
 Signed s v place (Marked m) r = r ≡ Single (entryOf m v) (place + 1)
 Signed s v place Offer r = Offered s v (place + 1) r
-Signed s v place Open r = r ≡ cond (countOk v) (Group v (place + 1)) Wrong
-Signed s v place Close r = r ≡ Wrong
-Signed s v place Other r = r ≡ Wrong
+Signed s v place Open r = r ≡ cond (countOk v) (Group v (place + 1)) (Wrong place)
+Signed s v place Close r = r ≡ Wrong place
+Signed s v place Other r = r ≡ Wrong place
 
 -- how an item begins
 pub data Begins (s : List ℕ) (at : ℕ) : Start → Type 0 where
-  none : NoneAt s at → Begins s at Wrong
-  ends : {v place : ℕ} → Whole s at v place → length s ≤ place → Begins s at Wrong
+  none : {place : ℕ} → NoneAt s at place → Begins s at (Wrong place)
+  ends : {v place : ℕ} → Whole s at v place → length s ≤ place → Begins s at (Wrong (length s))
   signed : {v place : ℕ} {k : Kind} {r : Start} → Whole s at v place → place < length s → kindOf (getD s place 0) ≡ k → Signed s v place k r → Begins s at r
 
 -- what the byte behind an item and gaps makes
 abbrev pub behindOf : ℕ → Kind → Follow
 behindOf next (Digit d) = Item next
-behindOf next Gap = Stray
-behindOf next (Marked m) = Stray
-behindOf next Offer = Stray
-behindOf next Open = Stray
+behindOf next Gap = Stray next
+behindOf next (Marked m) = Stray next
+behindOf next Offer = Stray next
+behindOf next Open = Stray next
 behindOf next Close = Shut (next + 1)
-behindOf next Other = Stray
+behindOf next Other = Stray next
 
 pub data Behind (s : List ℕ) (next : ℕ) : Follow → Type 0 where
   ends : length s ≤ next → Behind s next End
@@ -155,13 +154,13 @@ pub record BehindGaps (s : List ℕ) (at : ℕ) (r : Follow) : Type 0 where
 
 -- what the byte right after an item makes
 abbrev pub After : List ℕ → ℕ → Kind → Follow → Type 0
-After s at (Digit d) r = r ≡ Stray
+After s at (Digit d) r = r ≡ Stray at
 After s at Gap r = BehindGaps s (at + 1) r
-After s at (Marked m) r = r ≡ Stray
-After s at Offer r = r ≡ Stray
-After s at Open r = r ≡ Stray
+After s at (Marked m) r = r ≡ Stray at
+After s at Offer r = r ≡ Stray at
+After s at Open r = r ≡ Stray at
 After s at Close r = r ≡ Shut (at + 1)
-After s at Other r = r ≡ Stray
+After s at Other r = r ≡ Stray at
 
 -- what follows an item
 pub data Follows (s : List ℕ) (at : ℕ) : Follow → Type 0 where

@@ -3,6 +3,7 @@ use Prim.Native.Nat.{ℕ, zero, suc, _+_, _*_}
 use mathlib.Core.List.{List, [], _∷_, _++_}
 use mathlib.Core.Bool.{Bool, true, false, cond}
 use lib.Dec.{leb}
+use lib.ListN.{length}
 use Rattle.notation.specs.declared.Kind.{Kind}
 use Rattle.notation.specs.declared.Kind.the-variants.{Digit, Gap, Marked, Offer, Open, Close, Other}
 use Rattle.notation.specs.declared.Entry.{Entry}
@@ -118,32 +119,33 @@ pub record Frame : Type 0 where
   pub before : List Entry
   pub room : ℕ
 
--- what a reading comes to: the text ends where items may end; or a `)` with no open group, with the text after it; or a fault
+-- what a reading comes to: the text ends where items may end; or a `)` with no open group, with the text after it; or a fault, with the
+-- number of bytes from its place on (01: "the text's end counts as one" byte: there none is left)
 pub data Verdict : Type 0 where
   end : List Entry → Verdict
   shut : List Entry → List ℕ → Verdict
-  fault : ℕ → Verdict
+  fault : ℕ → ℕ → Verdict
 
 unfoldable pub atEnd : Mode → List Frame → List Entry → Verdict
 atEnd (between e) [] es = end es
-atEnd (num v) [] es = fault 10
-atEnd (offer p) [] es = fault 10
+atEnd (num v) [] es = fault 10 0
+atEnd (offer p) [] es = fault 10 0
 atEnd (offerNum p v) [] es = end (es ++ StartSc p v ∷ [])
 atEnd done [] es = end es
-atEnd m (f ∷ stack) es = fault 10
+atEnd m (f ∷ stack) es = fault 10 0
 
--- a group of n turns where so many groups may be opened: with no room for it, 11
-abbrev pub entered : (Mode → List Frame → List Entry → ℕ → Verdict) → ℕ → List Frame → List Entry → ℕ → Verdict
-entered k n stack es zero = fault 11
-entered k n stack es (suc r) = k (between false) (record { count = n; before = es; room = suc r } ∷ stack) [] r
+-- a group of n turns where so many groups may be opened: with no room for it, 11, with the bytes left from its `(` on
+abbrev pub entered : (Mode → List Frame → List Entry → ℕ → Verdict) → ℕ → ℕ → List Frame → List Entry → ℕ → Verdict
+entered k left n stack es zero = fault 11 left
+entered k left n stack es (suc r) = k (between false) (record { count = n; before = es; room = suc r } ∷ stack) [] r
 
 -- 01: "10 first": a bad count is 10 also where there is no room
 unfoldable pub go : (Mode → List Frame → List Entry → ℕ → Verdict) → List ℕ → Move → List Frame → List Entry → ℕ → Verdict
 go k l (to m) stack es room = k m stack es room
-go k l (enter n) stack es room = cond (countOk n) (entered k n stack es room) (fault 10)
+go k l (enter n) stack es room = cond (countOk n) (entered k (suc (length l)) n stack es room) (fault 10 (suc (length l)))
 go k l leave [] es room = shut es l
 go k l leave (f ∷ stack) es room = k done stack (f .before ++ times (f .count) es) (f .room)
-go k l bad stack es room = fault 10
+go k l bad stack es room = fault 10 (suc (length l))
 
 -- the reading of a text from where it stands, with the open groups, the entries since the last one was opened, and how many more may be opened
 unfoldable pub scan : List ℕ → Mode → List Frame → List Entry → ℕ → Verdict

@@ -1,5 +1,9 @@
 // The readers of the schedule text: bytes, numbers, the first line, the beginning of an item and what follows it.
 // All are inner: the text run is made of them.
+pub mod entry_words;
+pub mod items;
+pub mod turns;
+
 ghost use mathlib.Core.Path.{_≡_};
 ghost use Prim.Native.Nat.{_≤_};
 ghost use lib.ListN.{length};
@@ -35,31 +39,31 @@ pub enum Entry {
     Finish(u64),
 }
 
-// A number and the place after it, or none.
+// A number and the place after it, or none and the place of the byte (or of the text's end) that is in the way.
 pub enum Digits {
     Value(u64, usize),
-    NoNumber,
+    NoNumber(usize),
 }
 
-// The first line's N, W and initial number, and where the items begin.
+// The first line's N, W and initial number, and where the items begin; or the place at which it breaks.
 pub enum Header {
     First(u64, u64, u64, usize),
-    NoFirst,
+    NoFirst(usize),
 }
 
-// An item that is no group, or a group's count; and the place after it, or after the `(`.
+// An item that is no group, or a group's count; and the place after it, or after the `(`. Or the place at which it breaks.
 pub enum Start {
     Single(Entry, usize),
     Group(u64, usize),
-    Wrong,
+    Wrong(usize),
 }
 
-// What follows an item: a next one and its place, a `)` and the place after it, the text's end, or a stray byte.
+// What follows an item: a next one and its place, a `)` and the place after it, the text's end, or a stray byte and its place.
 pub enum Follow {
     Item(usize),
     Shut(usize),
     End,
-    Stray,
+    Stray(usize),
 }
 
 // What a byte is.
@@ -67,16 +71,16 @@ pub fn class(b: u8) -> Kind
     ensures { λ r. ⌜ r ≡ kindOf b ⌝ }
 {
     match b {
-        48..=57 => Kind::Digit((b as u64) - 48),
-        10 => Kind::Gap,
-        32 => Kind::Gap,
-        33 => Kind::Marked(Mark::All),
-        40 => Kind::Open,
-        41 => Kind::Close,
-        46 => Kind::Marked(Mark::One),
-        108 => Kind::Marked(Mark::Ll),
-        115 => Kind::Offer,
-        118 => Kind::Marked(Mark::Vl),
+        b'0'..=b'9' => Kind::Digit((b as u64) - 48),
+        b'\n' => Kind::Gap,
+        b' ' => Kind::Gap,
+        b'!' => Kind::Marked(Mark::All),
+        b'(' => Kind::Open,
+        b')' => Kind::Close,
+        b'.' => Kind::Marked(Mark::One),
+        b'l' => Kind::Marked(Mark::Ll),
+        b's' => Kind::Offer,
+        b'v' => Kind::Marked(Mark::Vl),
         _ => Kind::Other,
     }
 }
@@ -107,7 +111,7 @@ pub fn number(text: &[u8], at: usize, v: u64) -> Digits
         };
         let more = value * 10 + d;
         if 4294967295 < more {
-            return Digits::NoNumber;
+            return Digits::NoNumber(next);
         }
         value = more;
         next += 1;
@@ -121,11 +125,11 @@ pub fn number_at(text: &[u8], at: usize) -> Digits
     ensures { λ r. ⌜ NumberAtSays (now (text .entry)) at r ⌝ }
 {
     if text.len() <= at {
-        return Digits::NoNumber;
+        return Digits::NoNumber(text.len());
     }
     let k = class(text[at]);
     let Kind::Digit(d) = k else {
-        return Digits::NoNumber;
+        return Digits::NoNumber(at);
     };
     number(text, at + 1, d)
 }
@@ -137,13 +141,13 @@ pub fn field(text: &[u8], at: usize, stop: u8) -> Digits
 {
     let got = number_at(text, at);
     match got {
-        Digits::NoNumber => Digits::NoNumber,
+        Digits::NoNumber(place) => Digits::NoNumber(place),
         Digits::Value(v, next) => {
             if text.len() <= next {
-                return Digits::NoNumber;
+                return Digits::NoNumber(text.len());
             }
             if text[next] != stop {
-                return Digits::NoNumber;
+                return Digits::NoNumber(next);
             }
             Digits::Value(v, next + 1)
         }
@@ -154,19 +158,23 @@ pub fn field(text: &[u8], at: usize, stop: u8) -> Digits
 pub fn first_line(text: &[u8]) -> Header
     ensures { λ r. ⌜ HeaderSays (now (text .entry)) r ⌝ }
 {
-    let first = field(text, 0, 32);
-    let Digits::Value(n, second) = first else {
-        return Header::NoFirst;
-    };
-    let middle = field(text, second, 32);
-    let Digits::Value(w, third) = middle else {
-        return Header::NoFirst;
-    };
-    let last = field(text, third, 10);
-    let Digits::Value(initial, items) = last else {
-        return Header::NoFirst;
-    };
-    Header::First(n, w, initial, items)
+    let first = field(text, 0, b' ');
+    match first {
+        Digits::NoNumber(place) => Header::NoFirst(place),
+        Digits::Value(n, second) => {
+            let middle = field(text, second, b' ');
+            match middle {
+                Digits::NoNumber(place) => Header::NoFirst(place),
+                Digits::Value(w, third) => {
+                    let last = field(text, third, b'\n');
+                    match last {
+                        Digits::NoNumber(place) => Header::NoFirst(place),
+                        Digits::Value(initial, items) => Header::First(n, w, initial, items),
+                    }
+                }
+            }
+        }
+    }
 }
 
 // The first byte from a place on that is no gap.
@@ -192,10 +200,10 @@ pub fn begin(text: &[u8], at: usize) -> Start
 {
     let got = number_at(text, at);
     match got {
-        Digits::NoNumber => Start::Wrong,
+        Digits::NoNumber(place) => Start::Wrong(place),
         Digits::Value(v, next) => {
             if text.len() <= next {
-                return Start::Wrong;
+                return Start::Wrong(text.len());
             }
             let sign = class(text[next]);
             match sign {
@@ -203,20 +211,20 @@ pub fn begin(text: &[u8], at: usize) -> Start
                 Kind::Offer => {
                     let word = number_at(text, next + 1);
                     match word {
-                        Digits::NoNumber => Start::Wrong,
+                        Digits::NoNumber(place) => Start::Wrong(place),
                         Digits::Value(k, end) => Start::Single(Entry::StartSc(v, k), end),
                     }
                 }
                 Kind::Open => {
                     if v == 0 {
-                        return Start::Wrong;
+                        return Start::Wrong(next);
                     }
                     if 255 < v {
-                        return Start::Wrong;
+                        return Start::Wrong(next);
                     }
                     Start::Group(v, next + 1)
                 }
-                _ => Start::Wrong,
+                _ => Start::Wrong(next),
             }
         }
     }
@@ -242,9 +250,9 @@ pub fn after(text: &[u8], at: usize) -> Follow
             match sign {
                 Kind::Close => Follow::Shut(next + 1),
                 Kind::Digit(_) => Follow::Item(next),
-                _ => Follow::Stray,
+                _ => Follow::Stray(next),
             }
         }
-        _ => Follow::Stray,
+        _ => Follow::Stray(at),
     }
 }

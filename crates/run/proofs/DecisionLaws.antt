@@ -23,6 +23,7 @@ use Rattle.machine.proofs.ListLaws.{every-at}
 use Rattle.machine.proofs.RowLaws.{Cleared}
 use Rattle.machine.proofs.WordLaws.{within}
 use Rattle.notation.specs.Grammar.{largest}
+use Rattle.listing.specs.Lines.{letterS, letterV}
 use Rattle.listing.proofs.Lengths.{ll-length, truth-length}
 use Rattle.run.specs.Held.{answerLine}
 use Rattle.run.proofs.WordLaws.{Below}
@@ -64,8 +65,8 @@ module _ (n w p : ℕ) (ws : List ℕ) (h : p < n) (b : Below (5 * n * w) ws) wh
   pub answer-fits : (k : ℕ) (r : Reply) → Plain k r → p < 16 → w ≤ 64 → k ≤ 519 → length (answerLine n w ws p r) ≤ 713
   answer-fits k _ accepted l m c = omega arith
   answer-fits k _ ll l m c = ll-length p k area l c (omega (arith, length-take w (drop from ws))) (λ i. area-at i (ltb i w) refl)
-  answer-fits k _ (sc {t = t}) l m c = omega (arith, truth-length p 83 k t l c)
-  answer-fits k _ (vl {t = t}) l m c = omega (arith, truth-length p 86 k t l c)
+  answer-fits k _ (sc {t = t}) l m c = omega (arith, truth-length p letterS k t l c)
+  answer-fits k _ (vl {t = t}) l m c = omega (arith, truth-length p letterV k t l c)
 
 module _ (b : Bench) (list : List Process) (len p : ℕ) (o : Order) (v ws : List ℕ) where
   -- what an obeyed command leaves

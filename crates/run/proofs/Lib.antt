@@ -6,11 +6,12 @@ pub mod DecisionLaws
 pub mod SingleLaws
 pub mod OrderLaws
 pub mod TraceLaws
-pub mod StepLaws
-pub mod FinishLaws
-pub mod StepRuns
+pub mod TurnLaws
+pub mod EntryLaws
+pub mod CarryingLaws
+pub mod LoopLaws
+pub mod KeptLaws
 pub mod ReachedLaws
-pub mod ReadingLaws
 pub mod AnswerLaws
 pub mod LastLaws
 pub mod SetUpLaws

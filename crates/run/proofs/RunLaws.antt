@@ -1,11 +1,11 @@
 -- The parts of a whole text run put together.
-use mathlib.Core.Path.{_≡_, sym, ap, subst, _∙_}
+use mathlib.Core.Path.{_≡_, refl, sym, ap, subst, _∙_}
 use mathlib.Core.Bool.{Bool, true, false, cond}
-use mathlib.Core.List.{List}
+use mathlib.Core.List.{List, map}
 use Prim.Native.Nat.{ℕ, _≤_, _<_}
 use native.Mathlib.Omega.{arith}
 use lib.Dec.{eqb}
-use lib.ListN.{length, take, replicate}
+use lib.ListN.{length, getD, take, replicate}
 use borrow.Author.Tests.{eq-eqb, ne-eqb, lt-ltb, le-ltb}
 use Rattle.model.specs.declared.Bench.{Bench}
 use Rattle.model.specs.declared.Process.{Process}
@@ -17,22 +17,23 @@ use Rattle.machine.specs.Gathered.{gathered}
 use Rattle.machine.specs.Lengths.{setUpNumber}
 use Rattle.notation.specs.declared.Entry.{Entry}
 use Rattle.notation.specs.Grammar.{largest, deepest}
-use Rattle.notation.specs.Carrying.{carries}
 use Rattle.notation.specs.Readers.{Headed, NotHeaded}
 use Rattle.notation.specs.FirstLine.{whole, read}
 use Rattle.notation.specs.Groups.{ItemsEnded, ItemsClosed, ItemsBroken}
+use Rattle.notation.specs.EntryWords.{keptEntry}
+use Rattle.notation.specs.Listed.{Keeps}
 use Rattle.notation.proofs.HeaderLaws.{headed-reads}
 use Rattle.notation.proofs.GroupLaws.{not-headed}
+use Rattle.notation.proofs.ListedLaws.{kept-entries}
 use Rattle.run.specs.declared.state.Run.{Run}
-use Rattle.run.specs.declared.items.Items.{Items}
 use Rattle.run.specs.declared.last_line.Whole.{Whole}
 use Rattle.run.specs.declared.text_run.First.{First}
-use Rattle.run.specs.TextRun.{Progress, Ended, ended, begun, carry, carryAll, started, carriedOut, roomNeeded, longestText, runWith}
-use Rattle.run.specs.Held.{Held, held, progress, Filled, Sound, Kept}
-use Rattle.run.specs.Reading.{ItemsSay}
-use Rattle.run.specs.Whole.{freshRun, closed, Closable, memoryOf, fewOf, Answers, Lending, Right, refusedWith, saysAfter}
+use Rattle.run.specs.TextRun.{Progress, Ended, ended, begun, carryAll, started, carriedOut, roomNeeded, longestText, runWith}
+use Rattle.run.specs.Held.{Held, held, progress, Filled, Sound, Kept, Becomes}
+use Rattle.run.specs.Carried.{entriesIn}
+use Rattle.run.specs.Whole.{freshRun, closed, Closable, memoryOf, fewOf, Others, Answers, Lending, refusedWith, startedWith, saysAfter}
 use Rattle.run.proofs.RecordLaws.{gathered-filled, filled-gathered, few-small, few-take, filled-few, few-filled}
-use Rattle.run.proofs.ReadingLaws.{nothing-read, all-ran, carries-all}
+use Rattle.run.proofs.KeptLaws.{kept-run}
 use Rattle.run.proofs.StartLaws.{set-up-same, first, begun-same}
 
 -- a sound run has room for its last line
@@ -40,14 +41,19 @@ pub sound-closable : {len : ℕ} {h : Held} → Sound len h → Closable (h .run
 sound-closable s = record { entries = s .entries; stop = s .stop; room = s .room }
 
 -- with its last line a run is ended
-pub closed-answers : {len : ℕ} {list′ : List ℕ} {out : Whole} (r : Run) (ws list : List ℕ) → Filled len (r .all .list) → _≡_ {A = Whole × List ℕ} (out, list′) (closed r list) → Answers len out ws list′ (ended (progress len (held r ws list)))
-closed-answers {len} r ws list f e = record {
+pub closed-answers : {len stored : ℕ} {all : Records} {list′ : List ℕ} {out : Whole} (r : Run) (ws list : List ℕ) → Filled len (r .all .list)
+    → ((j : ℕ) → stored ≤ j → getD (r .all .list) j noProcess ≡ getD (all .list) j noProcess) → _≡_ {A = Whole × List ℕ} (out, list′) (closed r stored list) → Answers len all out ws list′ (ended (progress len (held r ws list)))
+closed-answers {len} {stored} {all} {out = out} r ws list f o e = record {
   same = ap (λ (x : Whole × List ℕ). record { number = x .0 .number; entries = x .0 .entries; written = x .0 .written; memory = memoryOf (x .0 .bench) (x .0 .all) len ws; listing = x .1 }) e;
-  filled = subst (λ (x : Records). Filled len (x .list)) (sym (ap (λ (x : Whole × List ℕ). x .0 .all) e)) f;
+  filled = subst (λ (x : Whole). Filled len (x .all .list)) (sym same) f;
+  others = subst (Others all) (sym same) o;
 }
+  where
+    same : out ≡ closed r stored list .0
+    same = ap (λ (x : Whole × List ℕ). x .0) e
 
-pub answers-as : {len : ℕ} {out : Whole} {ws list : List ℕ} {a b : Ended} → Answers len out ws list a → a ≡ b → Answers len out ws list b
-answers-as x e = record { same = x .same ∙ e; filled = x .filled }
+pub answers-as : {len : ℕ} {all : Records} {out : Whole} {ws list : List ℕ} {a b : Ended} → Answers len all out ws list a → a ≡ b → Answers len all out ws list b
+answers-as x e = record { same = x .same ∙ e; filled = x .filled; others = x .others }
 
 -- a set-up that is refused, and one that is not
 not-begun : (k : ℕ) (F : Memory → Ended) (x m : Memory) (e : Ended) → (k ≡ 0 → ⊥) → cond (eqb k 0) (F (cond (eqb k 0) x m)) e ≡ e
@@ -58,7 +64,7 @@ is-begun k F x m e z = simp (eq-eqb k 0 z)
 
 -- a text with a fault
 module _ (t : Bool) (s : List ℕ) (f : First) (m : Memory) (list : List ℕ) where
-  pub broken-says : {k : ℕ} → ItemsBroken s (f .items) deepest k → refusedWith k m list ≡ saysAfter t s f m list
+  pub broken-says : {k place : ℕ} → ItemsBroken s (f .items) deepest k place → refusedWith k m list ≡ saysAfter t s f m list
   unfolding whole
   broken-says i = sym (ap (λ v. carriedOut t m list (whole (f .n) (f .w) (f .initial) v)) (i .same))
 
@@ -66,61 +72,50 @@ module _ (t : Bool) (s : List ℕ) (f : First) (m : Memory) (list : List ℕ) wh
   unfolding whole
   closed-says i = sym (ap (λ v. carriedOut t m list (whole (f .n) (f .w) (f .initial) v)) (i .same))
 
-  -- a right text, by its set-up
-  right-says : {es : List Entry} → ItemsEnded s (f .items) deepest es → started t m list (record { n = f .n; w = f .w; initial = f .initial; entries = es }) (setUp m (f .n) (f .w) (replicate (f .w) (f .initial))) ≡ saysAfter t s f m list
+  -- a right text, by what its list keeps
+  pub kept-says : {list₀ entries : List ℕ} {to : ℕ} {Q : List ℕ → Type 0} → length list₀ ≡ 60001 → Keeps list₀ entries 0 to (λ es. ItemsEnded s (f .items) deepest es) Q → startedWith t f (entriesIn to entries) m list ≡ saysAfter t s f m list
   unfolding whole
-  right-says i = sym (ap (λ v. carriedOut t m list (whole (f .n) (f .w) (f .initial) v)) (i .same))
+  kept-says {list₀} {entries} {to} l k =
+      let es = k .says in
+      let kept : entriesIn to entries ≡ map keptEntry (take 60001 es) = kept-entries (k .lists) ∙ ap (λ (j : ℕ). map keptEntry (take j es)) l in
+      ap (λ (x : List Entry). startedWith t f x m list) kept ∙ same-started es ∙ sym (ap (λ v. carriedOut t m list (whole (f .n) (f .w) (f .initial) v)) (k .read .same))
+    where
+      prepared : ℕ × Memory
+      prepared = setUp m (f .n) (f .w) (replicate (f .w) (f .initial))
 
-  abbrev number : ℕ
-  number = setUpRefusal m (f .n) (f .w) (replicate (f .w) (f .initial))
+      same-started : (es : List Entry) → startedWith t f (map keptEntry (take 60001 es)) m list ≡ startedWith t f es m list
+      same-started es = ap (λ (x : Progress). cond (eqb (prepared .0) 0) (ended x) (ended (begun t m list (prepared .0)))) (kept-run es (begun t (prepared .1) list 0) refl)
 
-  refused-says : Right s f → (number ≡ 0 → ⊥) → refusedWith number m list ≡ saysAfter t s f m list
-  unfolding setUp
-  refused-says r n = sym (not-begun number (λ x. ended (carryAll (r .says) (begun t x list 0))) (atSetUp m (f .n) (f .w) (replicate (f .w) (f .initial))) m (refusedWith number m list) n) ∙ right-says (r .ended)
-
-  begun-says : (r : Right s f) → number ≡ 0 → ended (carryAll (r .says) (begun t (atSetUp m (f .n) (f .w) (replicate (f .w) (f .initial))) list 0)) ≡ saysAfter t s f m list
-  unfolding setUp
-  begun-says r z = sym (is-begun number (λ x. ended (carryAll (r .says) (begun t x list 0))) (atSetUp m (f .n) (f .w) (replicate (f .w) (f .initial))) m (refusedWith number m list) z) ∙ right-says (r .ended)
-
--- what the second reading leaves
+-- what the entries leave
 pub record Carried (len : ℕ) (h h′ : Held) (e : Ended) : Type 0 where
   pub kept : Kept len h h′
   pub same : ended (progress len h′) ≡ e
 
 -- "then 1, 2, 3, then the set-up, then the entries"
-module _ {len : ℕ} {all : Records} {list : List ℕ} (t : Bool) (s : List ℕ) (f : First) (b : Bench) (ws : List ℕ) (x : Lending len all list) (r : Right s f) {k : ℕ} (e : k ≡ setUpNumber (f .n) (f .w) len (length ws) (f .w)) where
+module _ {len : ℕ} {all : Records} {list : List ℕ} (t : Bool) (f : First) (es : List Entry) (b : Bench) (ws : List ℕ) (x : Lending len all list) {k : ℕ} (e : k ≡ setUpNumber (f .n) (f .w) len (length ws) (f .w)) where
   abbrev lent : Memory
   lent = memoryOf b all len ws
 
-  same-number : k ≡ setUpRefusal lent (f .n) (f .w) (replicate (f .w) (f .initial))
+  abbrev value : List ℕ
+  value = replicate (f .w) (f .initial)
+
+  same-number : k ≡ setUpRefusal lent (f .n) (f .w) value
   same-number = e ∙ set-up-same b all len ws (f .n) (f .w) (f .initial) (x .few) (x .filled)
 
-  pub refused-start : (k ≡ 0 → ⊥) → refusedWith k lent list ≡ saysAfter t s f lent list
-  refused-start n = ap (λ (j : ℕ). refusedWith j lent list) same-number ∙ refused-says t s f lent list r (λ z. n (same-number ∙ z))
+  pub refused-start : (k ≡ 0 → ⊥) → refusedWith k lent list ≡ startedWith t f es lent list
+  unfolding setUp
+  refused-start n =
+      ap (λ (j : ℕ). refusedWith j lent list) same-number ∙
+      sym (not-begun (setUpRefusal lent (f .n) (f .w) value) (λ m. ended (carryAll es (begun t m list 0))) (atSetUp lent (f .n) (f .w) value) lent (refusedWith (setUpRefusal lent (f .n) (f .w) value) lent list) (λ z. n (same-number ∙ z)))
 
-  pub carried-start : {h h′ : Held} (small : f .initial ≤ largest) (z : k ≡ 0) (o : Items) → h ≡ first t b ws x (f .n) (f .w) (f .initial) small (sym e ∙ z) → ItemsSay s (f .items) deepest len h h′ o → Carried len h h′ (saysAfter t s f lent list)
-  carried-start {h} {h′} small z o q i =
-      let y = all-ran o (r .ended) i in
-      record {
-        kept = y .kept;
-        same = ap ended (y .ran .same ∙ ap (λ (fs : List Entry). carries carry fs (progress len h)) (y .read) ∙ carries-all (r .says) (progress len h) ∙ ap (λ (g : Held). carryAll (r .says) (progress len g)) q
-            ∙ ap (carryAll (r .says)) (begun-same t b ws x (f .n) (f .w) (f .initial) small (sym e ∙ z))) ∙ begun-says t s f lent list r (sym same-number ∙ z);
-      }
+  pub carried-start : {h h′ : Held} (small : f .initial ≤ largest) (z : k ≡ 0) → h ≡ first t b ws x (f .n) (f .w) (f .initial) small (sym e ∙ z) → Becomes len (carryAll es) h h′ → Carried len h h′ (startedWith t f es lent list)
+  unfolding setUp
+  carried-start {h} {h′} small z q i = record {
+    kept = i .kept;
+    same = ap ended (i .same ∙ ap (λ (g : Held). carryAll es (progress len g)) q ∙ ap (carryAll es) (begun-same t b ws x (f .n) (f .w) (f .initial) small (sym e ∙ z)))
+        ∙ sym (is-begun (setUpRefusal lent (f .n) (f .w) value) (λ m. ended (carryAll es (begun t m list 0))) (atSetUp lent (f .n) (f .w) value) lent (refusedWith (setUpRefusal lent (f .n) (f .w) value) lent list) (sym same-number ∙ z));
+  }
 
--- the first reading leaves all as it was
-pub unread : {s : List ℕ} {at d len : ℕ} {t : Bool} {b : Bench} {all : Records} {h h′ : Held} (o : Items) → h .run ≡ freshRun b all 10 t → ItemsSay s at d len h h′ o → (h′ .words ≡ h .words) × (h′ .listing ≡ h .listing)
-unread {h = h} o e i =
-    let n : h .run .stop ≡ 0 → ⊥ = λ z. omega (arith, ap (λ (r : Run). r .stop) e, z) in
-    let y = nothing-read o n i in
-    (ap (λ (p : Progress). p .memory .words) y, ap (λ (p : Progress). p .listing) y)
-
-pub lending-same : {len : ℕ} {all : Records} {list list′ : List ℕ} → list′ ≡ list → Lending len all list → Lending len all list′
-lending-same {len} {all} e x = subst (Lending len all) (sym e) x
-
-pub moved : (g : Memory → List ℕ → Ended) (b : Bench) (all : Records) (len : ℕ) {ws ws′ list list′ : List ℕ} → ws′ ≡ ws → list′ ≡ list → g (memoryOf b all len ws′) list′ ≡ g (memoryOf b all len ws) list
-moved g b all len e q = rw (e, q)
-
--- the whole run
 -- in both styles there is room for a listing
 room-most : (t : Bool) {k : ℕ} → roomNeeded t ≤ k → roomNeeded false ≤ k
 room-most true l = omega arith
@@ -143,7 +138,7 @@ module _ (t : Bool) (m : Memory) (text list : List ℕ) where
     unfolding runWith
     run-read h = simp (le-ltb (length list) (roomNeeded t) l, le-ltb longestText (length text) h)
 
-    pub run-not-headed : length text ≤ longestText → NotHeaded text → refusedWith 10 m list ≡ runWith t m text list
+    pub run-not-headed : length text ≤ longestText → {place : ℕ} → NotHeaded text place → refusedWith 10 m list ≡ runWith t m text list
     run-not-headed h n = sym (ap (carriedOut t m list) (not-headed n)) ∙ run-read h
 
     pub run-headed : (f : First) → length text ≤ longestText → Headed text (f .n) (f .w) (f .initial) (f .items) → saysAfter t text f m list ≡ runWith t m text list
@@ -152,8 +147,8 @@ module _ (t : Bool) (m : Memory) (text list : List ℕ) where
 
 -- over all lent records
 pub answered : {k : ℕ} {out : Whole} {ws′ list′ : List ℕ} (len : ℕ) (b : Bench) (all : Records) (ws : List ℕ) (g : Memory → Ended) → k ≡ fewOf len → all ≡ gathered (take len (all .list)) noProcess 16
-    → Answers k out ws′ list′ (g (memoryOf b all k ws))
-    → (_≡_ {A = Ended} (record { number = out .number; entries = out .entries; written = out .written; memory = memoryOf (out .bench) (out .all) len ws′; listing = list′ }) (g (memoryOf b all len ws))) × (out .all ≡ gathered (take len (out .all .list)) noProcess 16)
+    → Answers k all out ws′ list′ (g (memoryOf b all k ws))
+    → (_≡_ {A = Ended} (record { number = out .number; entries = out .entries; written = out .written; memory = memoryOf (out .bench) (out .all) len ws′; listing = list′ }) (g (memoryOf b all len ws))) × (out .all ≡ gathered (take len (out .all .list)) noProcess 16) × Others all out
 answered {k} {out} {ws′} {list′} len b all ws g e q x =
     let f : Filled (fewOf len) (out .all .list) = subst (λ (j : ℕ). Filled j (out .all .list)) e (x .filled) in
     let a : take k (all .list) ≡ take len (all .list) = ap (λ (j : ℕ). take j (all .list)) e ∙ few-take len (all .list) (gathered-filled len all q .sixteen) in
@@ -161,7 +156,8 @@ answered {k} {out} {ws′} {list′} len b all ws g e q x =
       ap (λ (l : List Process). record { number = out .number; entries = out .entries; written = out .written; memory = record { bench = out .bench; records = l; words = ws′ }; listing = list′ }) o ∙ x .same
           ∙ ap (λ (l : List Process). g (record { bench = b; records = l; words = ws })) a,
       filled-gathered len (out .all) (few-filled f),
+      x .others,
     )
 
-pub ended-as : {a b c : Ended} {P : Type 0} → (a ≡ b) × P → b ≡ c → (a ≡ c) × P
-ended-as x e = (x .0 ∙ e, x .1)
+pub ended-as : {a b c : Ended} {P Q : Type 0} → (a ≡ b) × P × Q → b ≡ c → (a ≡ c) × P × Q
+ended-as x e = (x .0 ∙ e, x .1, x .2)

@@ -18,15 +18,16 @@ use Rattle.notation.specs.Grammar.{times}
 use Rattle.notation.specs.Scan.{onDigit, more, move, said, atEnd, go, scan}
 use Rattle.notation.specs.FirstLine.{starting, inside, step, whole, proceed, readFrom, read}
 use Rattle.listing.specs.Decimal.{digits, decimal}
-use Rattle.listing.specs.Lines.{answerHead, wordsOf, llLine, truthLine, endLine, refusedLine}
+use Rattle.listing.specs.Lines.{lineFeed, answerHead, wordsOf, llLine, truthLine, endLine, refusedLine}
 use Rattle.access.specs.Accesses.{accessOf}
-use Rattle.access.specs.TraceLines.{quoted, spaced, bracketed, headText, halfText, halfPlaceText, itemText, valuesText, truthText, storedText, writtenText, actText, endText, stepLine, broughtText, startLine}
+use Rattle.listing.specs.Quoted.{quoted}
+use Rattle.access.specs.TraceLines.{spaced, bracketed, headText, halfText, halfPlaceText, itemText, valuesText, truthText, storedText, writtenText, actText, endText, stepLine, broughtText, startLine}
 use Rattle.run.specs.TextRun.{single, steps, carry, carryAll, runWith}
 
 -- a text, and what a run of it writes
 pub record Run : Type 0 where
   pub text : String
-  pub shows : String
+  pub shows : List String
 
 -- What is lent is full of dirt: more records and words than are needed, and none of its numbers in its range.
 dirtyX : XPlace
@@ -70,47 +71,103 @@ pub record Outcome : Type 0 where
 pub runs-to : Bool → ℕ → Run → Outcome
 runs-to traced room r = let e = runWith traced lent (quoted (r .text)) (dirtyBytes room) in record { written = e .written; listing = e .listing }
 
+-- lines, each with its line feed
+lines : List String → List ℕ
+lines [] = []
+lines (l ∷ ls) = quoted l ++ (lineFeed ∷ lines ls)
+
 -- what it should write; "Bytes after the last line stay."
 pub should : ℕ → Run → Outcome
-should room r = let bs = quoted (r .shows) in record { written = length bs; listing = bs ++ dirtyBytes (room - length bs) }
+should room r = let bs = lines (r .shows) in record { written = length bs; listing = bs ++ dirtyBytes (room - length bs) }
 
 pub runs : List Run
 runs =
     -- A
-    record { text = "2 1 5\n0l 0! 0s7 0! 1l 1! 0v 0!\n"; shows = "0 L 10 5\n0 S 6 1\n1 L 10 7\n0 V 1 0\nend 31\n" } ∷
+    record { text = "2 1 5\n0l 0! 0s7 0! 1l 1! 0v 0!\n"; shows = "0 L 10 5" ∷ "0 S 6 1" ∷ "1 L 10 7" ∷ "0 V 1 0" ∷ "end 31" ∷ [] } ∷
     -- B
-    record { text = "2 1 5\n0l 2(0.) 1l 1! 1s7 1! 0! 0v 0!\n"; shows = "1 L 10 5\n1 S 8 1\n0 L 13 7\n0 V 1 1\nend 36\n" } ∷
+    record { text = "2 1 5\n0l 2(0.) 1l 1! 1s7 1! 0! 0v 0!\n"; shows = "1 L 10 5" ∷ "1 S 8 1" ∷ "0 L 13 7" ∷ "0 V 1 1" ∷ "end 36" ∷ [] } ∷
     -- C
-    record { text = "2 1 5\n0l 2(0.) 1l 1! 1s7 1! 6(0.) 1l 1! 1s9 1! 0! 0v 0!\n"; shows = "1 L 10 5\n1 S 8 1\n1 L 10 7\n1 S 8 1\n0 L 15 5\n0 V 1 0\nend 58\n" } ∷
+    record { text = "2 1 5\n0l 2(0.) 1l 1! 1s7 1! 6(0.) 1l 1! 1s9 1! 0! 0v 0!\n"; shows = "1 L 10 5" ∷ "1 S 8 1" ∷ "1 L 10 7" ∷ "1 S 8 1" ∷ "0 L 15 5" ∷ "0 V 1 0" ∷ "end 58" ∷ [] } ∷
     -- D
-    record { text = "1 1 5\n0l 0! 0s6 0! 0s7 0!\n"; shows = "0 L 10 5\n0 S 6 1\n0 S 6 0\nend 25\n" } ∷
+    record { text = "1 1 5\n0l 0! 0s6 0! 0s7 0!\n"; shows = "0 L 10 5" ∷ "0 S 6 1" ∷ "0 S 6 0" ∷ "end 25" ∷ [] } ∷
     -- E
-    record { text = "2 1 5\n0l 0! 1l 1! 0s6 0! 1s7 1!\n"; shows = "0 L 10 5\n1 L 10 5\n0 S 6 1\n1 S 6 0\nend 36\n" } ∷
+    record { text = "2 1 5\n0l 0! 1l 1! 0s6 0! 1s7 1!\n"; shows = "0 L 10 5" ∷ "1 L 10 5" ∷ "0 S 6 1" ∷ "1 S 6 0" ∷ "end 36" ∷ [] } ∷
     -- F
-    record { text = "2 1 5\n0l 0! 0s7 0! 1l 1! 1s9 1!\n"; shows = "0 L 10 5\n0 S 6 1\n1 L 10 7\n1 S 8 1\nend 38\n" } ∷
+    record { text = "2 1 5\n0l 0! 0s7 0! 1l 1! 1s9 1!\n"; shows = "0 L 10 5" ∷ "0 S 6 1" ∷ "1 L 10 7" ∷ "1 S 8 1" ∷ "end 38" ∷ [] } ∷
     -- G
-    record { text = "2 1 5\n0s1\n"; shows = "refused 7 0\n" } ∷
+    record { text = "2 1 5\n0s1\n"; shows = "refused 7 0" ∷ [] } ∷
     -- H
-    record { text = "2 1 5\n0.\n"; shows = "refused 6 0\n" } ∷
+    record { text = "2 1 5\n0.\n"; shows = "refused 6 0" ∷ [] } ∷
     -- I
-    record { text = "2 1 5\n0l 0l\n"; shows = "refused 5 1\n" } ∷
+    record { text = "2 1 5\n0l 0l\n"; shows = "refused 5 1" ∷ [] } ∷
     -- J
-    record { text = "2 1 5\n2l\n"; shows = "refused 4 0\n" } ∷
+    record { text = "2 1 5\n2l\n"; shows = "refused 4 0" ∷ [] } ∷
     []
 
 pub runs-as-in-01 : map (runs-to false 800) runs ≡ map (should 800) runs
-unfolding dirtyX dirtyBank dirtyHelp dirtyProcess lent dirtyBytes runs-to should runs runWith read readFrom proceed step starting inside whole scan go move said more onDigit atEnd kindOf times carryAll carry steps single command refusal obey stepAt inRange setUp setUpRefusal llLine truthLine endLine refusedLine answerHead wordsOf decimal digits
+unfolding dirtyX dirtyBank dirtyHelp dirtyProcess lent dirtyBytes runs-to lines should runs runWith read readFrom
+    proceed step starting inside whole scan go move said more onDigit atEnd kindOf times carryAll carry steps single
+    command refusal obey stepAt inRange setUp setUpRefusal llLine truthLine endLine refusedLine answerHead wordsOf
+    decimal digits
 runs-as-in-01 = refl
 
 pub traces : List Run
 traces =
-    record { text = "2 1 5\n0l 2(0.)\n"; shows = "1 0 start L\n2 0 1 Help[0] write 1 4 links cleared\n3 0 2 X LL 0 0 link set\nend 3\n" } ∷
+    record {
+      text = "2 1 5\n0l 2(0.)\n";
+      shows =
+          "1 0 start L" ∷
+          "2 0 1 Help[0] write 1 4 links cleared" ∷
+          "3 0 2 X LL 0 0 link set" ∷
+          "end 3" ∷
+          [];
+    } ∷
     -- a refused entry has no line
-    record { text = "2 1 5\n0l 0l\n"; shows = "1 0 start L\nrefused 5 1\n" } ∷
+    record { text = "2 1 5\n0l 0l\n"; shows = "1 0 start L" ∷ "refused 5 1" ∷ [] } ∷
     -- A
-    record { text = "2 1 5\n0l 0! 0s7 0! 1l 1! 0v 0!\n"; shows = "1 0 start L\n2 0 1 Help[0] write 1 4 links cleared\n3 0 2 X LL 0 0 link set\n4 0 3 BUF[0][0] low read 5\n5 0 3 BUF[0][0] high read 0\n6 0 4 Help[0] LL 1 4 link set\n7 0 8 Help[0] LL 1 4 link set\n8 0 9 Help[0] SC 0 4 true links cleared\n9 0 10 Help[0] read 0 4\n10 0 11 BUF[4][0] low write 5\n11 0 11 BUF[4][0] high write 0 answers 0 L 10 5\n12 0 start S 7\n13 0 12 Bank[0] LL 0 link set\n14 0 14 Help[0] LL 0 4 link set\n15 0 17 BUF[4][0] low write 7\n16 0 17 BUF[4][0] high write 0\n17 0 18 Bank[1] read 1\n18 0 19 X SC 4 1 true links cleared answers 0 S 6 1\n19 1 start L\n20 1 1 Help[1] write 1 5 links cleared\n21 1 2 X LL 4 1 link set\n22 1 3 BUF[4][0] low read 7\n23 1 3 BUF[4][0] high read 0\n24 1 4 Help[1] LL 1 5 link set\n25 1 8 Help[1] LL 1 5 link set\n26 1 9 Help[1] SC 0 5 true links cleared\n27 1 10 Help[1] read 0 5\n28 1 11 BUF[5][0] low write 7\n29 1 11 BUF[5][0] high write 0 answers 1 L 10 7\n30 0 start V\n31 0 23 X VL false answers 0 V 1 0\nend 31\n" } ∷
+    record {
+      text = "2 1 5\n0l 0! 0s7 0! 1l 1! 0v 0!\n";
+      shows =
+          "1 0 start L" ∷
+          "2 0 1 Help[0] write 1 4 links cleared" ∷
+          "3 0 2 X LL 0 0 link set" ∷
+          "4 0 3 BUF[0][0] low read 5" ∷
+          "5 0 3 BUF[0][0] high read 0" ∷
+          "6 0 4 Help[0] LL 1 4 link set" ∷
+          "7 0 8 Help[0] LL 1 4 link set" ∷
+          "8 0 9 Help[0] SC 0 4 true links cleared" ∷
+          "9 0 10 Help[0] read 0 4" ∷
+          "10 0 11 BUF[4][0] low write 5" ∷
+          "11 0 11 BUF[4][0] high write 0 answers 0 L 10 5" ∷
+          "12 0 start S 7" ∷
+          "13 0 12 Bank[0] LL 0 link set" ∷
+          "14 0 14 Help[0] LL 0 4 link set" ∷
+          "15 0 17 BUF[4][0] low write 7" ∷
+          "16 0 17 BUF[4][0] high write 0" ∷
+          "17 0 18 Bank[1] read 1" ∷
+          "18 0 19 X SC 4 1 true links cleared answers 0 S 6 1" ∷
+          "19 1 start L" ∷
+          "20 1 1 Help[1] write 1 5 links cleared" ∷
+          "21 1 2 X LL 4 1 link set" ∷
+          "22 1 3 BUF[4][0] low read 7" ∷
+          "23 1 3 BUF[4][0] high read 0" ∷
+          "24 1 4 Help[1] LL 1 5 link set" ∷
+          "25 1 8 Help[1] LL 1 5 link set" ∷
+          "26 1 9 Help[1] SC 0 5 true links cleared" ∷
+          "27 1 10 Help[1] read 0 5" ∷
+          "28 1 11 BUF[5][0] low write 7" ∷
+          "29 1 11 BUF[5][0] high write 0 answers 1 L 10 7" ∷
+          "30 0 start V" ∷
+          "31 0 23 X VL false answers 0 V 1 0" ∷
+          "end 31" ∷
+          [];
+    } ∷
     []
 
 pub traces-line-by-line : map (runs-to true 2000) traces ≡ map (should 2000) traces
-unfolding dirtyX dirtyBank dirtyHelp dirtyProcess lent dirtyBytes runs-to should traces runWith read readFrom proceed step starting inside whole scan go move said more onDigit atEnd kindOf times carryAll carry steps single command refusal obey stepAt inRange setUp setUpRefusal llLine truthLine endLine refusedLine answerHead wordsOf decimal digits accessOf spaced bracketed headText halfText halfPlaceText itemText valuesText truthText storedText writtenText actText endText stepLine broughtText startLine
+unfolding dirtyX dirtyBank dirtyHelp dirtyProcess lent dirtyBytes runs-to lines should traces runWith read readFrom
+    proceed step starting inside whole scan go move said more onDigit atEnd kindOf times carryAll carry steps single
+    command refusal obey stepAt inRange setUp setUpRefusal llLine truthLine endLine refusedLine answerHead wordsOf
+    decimal digits accessOf spaced bracketed headText halfText halfPlaceText itemText valuesText truthText
+    storedText writtenText actText endText stepLine broughtText startLine
 traces-line-by-line = refl

@@ -20,43 +20,19 @@ use Rattle.machine.specs.Decision.{decided}
 use Rattle.machine.specs.Gathered.{storedBack}
 use Rattle.notation.specs.declared.Entry.{Entry}
 use Rattle.notation.specs.declared.Entry.the-variants.{StartLl, StartVl, StartSc, Step, Finish}
-use Rattle.listing.specs.Writing.{Room, Wrote}
-use Rattle.listing.proofs.WritingLaws.{kept, same, room-same}
-use Rattle.access.specs.declared.Access.{Access}
+use Rattle.listing.specs.Writing.{Wrote}
+use Rattle.listing.proofs.WritingLaws.{kept}
 use Rattle.run.specs.Reached.{Reached}
 use Rattle.run.specs.TextRun.{Progress, mostEntries, roomNeeded, lineOf, traceLine, linesOf, counted, replied, processOf, orderOf, valueOf, commanded, single}
-use Rattle.run.specs.Held.{Held, held, progress, stoppedRun, Sound, Ready, Kept, Becomes, Small, offeredBy, givenBy, answerLine, Listable, Foreseen, shownLine}
-use Rattle.run.proofs.WordLaws.{Below, Every, every-replicate, every-none, take-replicate}
+use Rattle.run.specs.Held.{Held, held, progress, stoppedRun, Sound, Ready, Kept, Becomes, Small, answerLine}
+use Rattle.run.proofs.WordLaws.{Below, Every, every-replicate, every-none}
 use Rattle.run.proofs.RecordLaws.{filled-set}
 use Rattle.run.proofs.ReachedLaws.{reached-command}
 use Rattle.run.proofs.CommandLaws.{Decides, decides, decided-command}
 use Rattle.run.proofs.DecisionLaws.{Done, done, unchanged}
-use Rattle.run.proofs.TraceLaws.{heldMemory, shown-same, shown-fits}
+use Rattle.run.proofs.TraceLaws.{shown-fits}
 
--- the value that the code lends is the entry's
-pub given-small : (e : Entry) (w : ℕ) → w ≤ 64 → givenBy w e ≤ 64
-given-small (StartLl p) w h = omega arith
-given-small (StartVl p) w h = omega arith
-given-small (StartSc p k) w h = h
-given-small (Step p) w h = omega arith
-given-small (Finish p) w h = omega arith
-
-pub value-same : (e : Entry) (w : ℕ) → w ≤ 64 → take (givenBy w e) (replicate 64 (offeredBy e)) ≡ valueOf w e
-value-same (StartLl p) w h = refl
-value-same (StartVl p) w h = refl
-value-same (StartSc p k) w h = take-replicate w 64 k h
-value-same (Step p) w h = refl
-value-same (Finish p) w h = refl
-
--- and so the code decides what the entry orders
-pub command-decided : (e : Entry) (b : Bench) (list : List Process) (len : ℕ) (ws : List ℕ) {x : Outcome × List ℕ} {p : ℕ} {o : Order} {g k : ℕ} {value : List ℕ} → b .w ≤ 64
-    → p ≡ processOf e → o ≡ orderOf e → g ≡ givenBy (b .w) e → k ≡ offeredBy e → value ≡ replicate 64 k
-    → x ≡ decided b list len p o (take g value) ws → x ≡ decided b list len (processOf e) (orderOf e) (valueOf (b .w) e) ws
-command-decided e b list len ws {x} {p} {o} {g} {k} {value} h ep eo eg ek ev d =
-    let v : take g value ≡ valueOf (b .w) e = ap (take g) ev ∙ ap (λ (j : ℕ). take g (replicate 64 j)) ek ∙ ap (λ (j : ℕ). take j (replicate 64 (offeredBy e))) eg ∙ value-same e (b .w) h in
-    d ∙ ap (λ (j : ℕ). decided b list len j o (take g value) ws) ep ∙ ap (λ (y : Order). decided b list len (processOf e) y (take g value) ws) eo ∙ ap (λ (y : List ℕ). decided b list len (processOf e) (orderOf e) y ws) v
-
-value-every : (e : Entry) (w : ℕ) → Small e → Every (valueOf w e)
+pub value-every : (e : Entry) (w : ℕ) → Small e → Every (valueOf w e)
 value-every (StartLl p) w s = every-none
 value-every (StartVl p) w s = every-none
 value-every (StartSc p k) w s = every-replicate w k (s .1)
@@ -112,9 +88,6 @@ module _ {len : ℕ} {h : Held} (e : Entry) (out : Outcome) (ws : List ℕ) (sma
     below : Below (5 * h .run .bench .n * h .run .bench .w) (h .words)
     below = record { at = s .going (r .goes) .small }
 
-    pub place-small : out .at < 16
-    place-small = let x = did in omega (arith, x .place, x .process, x .n-most)
-
     -- the trace's line, and then the line of the answer
     abbrev shown : List ℕ
     shown = cond (h .run .traced) (traceLine (h .run .entries + 1) m e (out .reply)) []
@@ -122,28 +95,14 @@ module _ {len : ℕ} {h : Held} (e : Entry) (out : Outcome) (ws : List ℕ) (sma
     shown-small : length shown ≤ cond (h .run .traced) 128 0
     shown-small = let x = did in shown-fits s (r .goes) e (out .reply) (x .among) (h .run .traced) (h .run .entries + 1) (omega (arith, r .entries)) small
 
-    -- the code shows it with the access that it has foreseen
-    module _ {p : ℕ} {a : Access} (ep : p ≡ processOf e) (f : Foreseen (h .run .traced) (heldMemory h) p a) where
-      foreseen : shownLine (h .run .traced) (h .run .entries + 1) a e (out .reply) ≡ shown
-      foreseen = let x = did in shown-same s (r .goes) e (out .reply) (x .among) (h .run .entries + 1) (subst (λ (j : ℕ). Foreseen (h .run .traced) (heldMemory h) j a) ep f)
-
-      pub shown-room : Room (h .listing) (h .run .written) (shownLine (h .run .traced) (h .run .entries + 1) a e (out .reply))
-      shown-room = room-same (sym foreseen) (record { fits = omega (arith, shown-small, r .room) })
-
-      pub shown-wrote : {list : List ℕ} {at : ℕ} → Wrote (h .listing) (h .run .written) (shownLine (h .run .traced) (h .run .entries + 1) a e (out .reply)) list at → Wrote (h .listing) (h .run .written) shown list at
-      shown-wrote w = same (sym foreseen) w
-
     abbrev line : List ℕ
     line = answerLine (out .bench .n) (out .bench .w) ws (processOf e) (out .reply)
 
-    pub listable : {list : List ℕ} {at : ℕ} → Wrote (h .listing) (h .run .written) shown list at → Listable (out .reply) (processOf e) (out .bench .n) (out .bench .w) ws list at
-    listable w = let x = did in record {
-      process = x .process;
-      n-most = x .n-most;
-      w-most = x .w-most;
-      lent = x .lent;
-      room = record { fits = omega (arith, x .line below, shown-small, w .place, kept w, r .room) };
-    }
+    pub lines-fit : h .run .written + length (shown ++ line) ≤ length (h .listing)
+    lines-fit = let x = did in omega (arith, x .line below, shown-small, length-append shown line, r .room)
+
+    pub words-lent : length ws ≡ length (h .words)
+    words-lent = did .words
 
     -- obeyed: one entry more, with its lines
     module _ (list : List ℕ) (next : ℕ) (w : Wrote (h .listing) (h .run .written) (shown ++ line) list next) where
@@ -186,10 +145,6 @@ module _ {len : ℕ} {h : Held} (e : Entry) (out : Outcome) (ws : List ℕ) (sma
 
 -- "before each entry 12, then 14"
 module _ {len : ℕ} {h : Held} (e : Entry) (s : Sound len h) where
-  pub single-stopped : (h .run .stop ≡ 0 → ⊥) → Becomes len (single e) h h
-  unfolding single
-  single-stopped n = record { same = simp (ne-eqb (h .run .stop) 0 n); kept = stays s }
-
   pub single-12 : h .run .stop ≡ 0 → mostEntries ≤ h .run .entries → Becomes len (single e) h (held (stoppedRun (h .run) 12) (h .words) (h .listing))
   unfolding single
   single-12 z m = record { same = simp (eq-eqb (h .run .stop) 0 z, le-leb mostEntries (h .run .entries) m); kept = stops 12 (λ y. omega arith) (omega arith) s }

@@ -6,10 +6,11 @@ use Prim.Native.Nat.{ℕ, zero, suc, _+_, _-_, _*_, _≤_, _<_}
 use native.Mathlib.Omega.{arith}
 use lib.Dec.{ltb}
 use lib.ListN.{length, getD, set, take, drop, replicate, length-append, length-replicate, List·getD-append}
-use lib.Seq.{sets, sets-eq, take-set-lt}
+use lib.Seq.{sets, sets-eq, take-set-lt, getD-set-other}
 use borrow.Author.Tests.{ltb-false}
 use Rattle.model.specs.declared.Bench.{Bench}
 use Rattle.model.specs.declared.Process.{Process}
+use Rattle.model.specs.Records.{noProcess}
 use Rattle.model.specs.Refusals.{row1, row2}
 use Rattle.model.specs.SetUp.{numbers, processAtSetUp, recordsAtSetUp, wordsAtSetUp, benchAtSetUp, atSetUp, setUpRefusal, setUp}
 use Rattle.model.specs.Machine.{Memory, Shaped}
@@ -18,8 +19,10 @@ use Rattle.machine.specs.Lengths.{row3Lent, row8Always, setUpNumber, set-up-num
 use Rattle.machine.specs.SetUpByValue.{Accepted}
 use Rattle.machine.proofs.RowLaws.{cleared, neither}
 use Rattle.machine.proofs.SetUpLaws.{first-row, set-up-fits}
+use Rattle.notation.specs.declared.Entry.{Entry}
 use Rattle.notation.specs.Grammar.{largest}
 use Rattle.run.specs.Held.{Held, held, progress, Filled, Sound}
+use Rattle.run.specs.Carried.{Carries}
 use Rattle.run.specs.Reached.{Reached}
 use Rattle.run.specs.TextRun.{Progress, begun}
 use Rattle.run.specs.Whole.{freshRun, memoryOf, Lending}
@@ -63,6 +66,10 @@ take-sets : (len : ℕ) (list : List Process) (i : ℕ) (vs : List Process) → 
 take-sets len list i [] h = refl
 take-sets len list i (q ∷ vs) h = take-sets len (set list i q) (suc i) vs (omega arith) ∙ ap (λ (l : List Process). sets l (suc i) vs) (take-set-lt len list i q (omega arith))
 
+sets-above : (list : List Process) (i : ℕ) (vs : List Process) (j : ℕ) → i + length vs ≤ j → getD (sets list i vs) j noProcess ≡ getD list j noProcess
+sets-above list i [] j h = refl
+sets-above list i (q ∷ vs) j h = sets-above (set list i q) (suc i) vs j (omega arith) ∙ getD-set-other list i j q noProcess (λ e. omega (arith, e))
+
 every-append : (a b : List ℕ) → Every a → Every b → Every (a ++ b)
 every-append a b p q = record { at = all a (p .at) }
   where
@@ -81,10 +88,6 @@ words-small ws n w k a h i l =
     rw (sets-eq u ws 0 (omega (arith, a .words-lent)), List·getD-append u (drop (0 + length u) ws) 0 i (omega arith)) (every-append (replicate w k) rest (every-replicate w k h) (every-replicate (5 * n * w - w) 0 (omega arith)) .at i)
 
 module _ {len : ℕ} {all : Records} {list : List ℕ} (t : Bool) (b : Bench) (ws : List ℕ) (x : Lending len all list) where
-  -- a run that is stopped before it begins is sound
-  pub stopped-sound : (k : ℕ) → (k ≡ 0 → ⊥) → k ≤ 15 → Sound len (held (freshRun b all k t) ws list)
-  stopped-sound k n l = record { few = x .few; filled = x .filled; entries = omega arith; stop = l; room = omega (arith, x .room); going = λ z. absurd (n z) }
-
   module _ (n w k : ℕ) (small : k ≤ largest) (z : setUpNumber n w len (length ws) w ≡ 0) where
     pub accepted : Accepted n w (length ws) w
     accepted = set-up-fits n w len (length ws) w z
@@ -128,3 +131,9 @@ module _ {len : ℕ} {all : Records} {list : List ℕ} (t : Bool) (b : Bench) (w
     first-held {value = value} er eb ea ew ev =
         let v : take w value ≡ replicate w k = ap (take w) ev ∙ take-replicate w 64 k (accepted .w-most) in
         rw (er, eb, ea, ew, v)
+
+    -- and what the entries leave of the records from n on
+    pub others-left : {h h′ : Held} {es : List Entry} → h ≡ first → Carries len es h h′ → (j : ℕ) → n ≤ j → getD (h′ .run .all .list) j noProcess ≡ getD (all .list) j noProcess
+    others-left {h} {h′} e x j l =
+        let above : n ≤ j = l in
+        x .others j (rw e above) ∙ ap (λ (y : Held). getD (y .run .all .list) j noProcess) e ∙ sets-above (all .list) 0 newRecords j (omega (arith, mapped-length (2 * n) n))

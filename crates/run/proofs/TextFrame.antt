@@ -187,7 +187,7 @@ module _ (t : List Process) where
 
     carried-frame : (r : Reading) → carriedOut style more listing r ≡ endedLonger (carriedOut style m listing r)
     carried-frame (right a) = started-frame a
-    carried-frame (wrong k) = refl
+    carried-frame (wrong k left) = refl
 
     run-frame : (text : List ℕ) → runWith style more text listing ≡ endedLonger (runWith style m text listing)
     unfolding runWith

@@ -2,27 +2,22 @@
 use mathlib.Core.Path.{_≡_}
 use Prim.Native.Nat.{ℕ, _+_, _*_, _≤_, _<_}
 use mathlib.Core.List.{List, []}
-use mathlib.Core.Bool.{Bool, true, false, cond, not, _||_}
-use lib.Dec.{eqb, ltb, leb}
+use mathlib.Core.Bool.{Bool, cond}
 use lib.ListN.{length, getD, take}
 use Rattle.model.specs.declared.Process.{Process}
 use Rattle.model.specs.declared.Reply.{Reply}
 use Rattle.model.specs.declared.Reply.the-variants.{Refused, Accepted, LlAnswered, ScAnswered, VlAnswered}
-use Rattle.model.specs.Sizes.{llMost}
 use Rattle.model.specs.Words.{returnArea}
-use Rattle.model.specs.Records.{noProcess, recordAt}
-use Rattle.model.specs.Refusals.{isStart}
+use Rattle.model.specs.Records.{noProcess}
 use Rattle.model.specs.Machine.{Memory}
-use Rattle.machine.specs.Ranges as R
 use Rattle.notation.specs.declared.Entry.{Entry}
-use Rattle.notation.specs.declared.Entry.the-variants.{StartLl, StartVl, StartSc, Step, Finish}
 use Rattle.notation.specs.Grammar.{largest}
 use Rattle.notation.specs.Stretches as S
-use Rattle.listing.specs.Lines.{llLine, truthLine}
+use Rattle.listing.specs.Lines.{letterS, letterV, llLine, truthLine}
 use Rattle.listing.specs.Writing.{Room}
 use Rattle.access.specs.declared.Access.{Access}
 use Rattle.run.specs.declared.state.Run.{Run}
-use Rattle.run.specs.TextRun.{Progress, mostEntries, roomNeeded, accessNow, entryLine, orderOf}
+use Rattle.run.specs.TextRun.{Progress, mostEntries, roomNeeded, entryLine}
 use Rattle.run.specs.Reached.{Reached}
 
 -- the run, the lent words and the listing
@@ -89,58 +84,17 @@ pub record Becomes (len : ℕ) (f : Progress → Progress) (h h′ : Held) : Typ
   pub same : progress len h′ ≡ f (progress len h)
   pub kept : Kept len h h′
 
--- what hinders a step of process p before its record is looked at, in a run that is not traced; 0 for nothing
-abbrev pub hindranceOf : ℕ → ℕ → ℕ → ℕ → ℕ
-hindranceOf entries room n p = cond (leb mostEntries entries) 12 (cond (ltb room (roomNeeded false)) 14 (cond (leb n p) 4 0))
-
 -- the numbers of an entry are those that a text may have
 abbrev pub Small : Entry → Type 0
 Small e = S.Small e
-
-abbrev pub smallProcess : ℕ → Type 0
-smallProcess p = p ≤ largest
-
--- the number that an SC has in all words, and how many words an entry's value has
-abbrev pub offeredBy : Entry → ℕ
-offeredBy (StartLl p) = 0
-offeredBy (StartVl p) = 0
-offeredBy (StartSc p k) = k
-offeredBy (Step p) = 0
-offeredBy (Finish p) = 0
-
-abbrev pub givenBy : ℕ → Entry → ℕ
-givenBy w (StartLl p) = 0
-givenBy w (StartVl p) = 0
-givenBy w (StartSc p k) = w
-givenBy w (Step p) = 0
-givenBy w (Finish p) = 0
-
--- whether an entry is carried out beside the loop of steps: a start, and every entry of a run that has stopped or is traced
-abbrev pub besides : Entry → ℕ → Bool → Bool
-besides e stop traced = not (eqb stop 0) || (traced || isStart (orderOf e))
-
--- how many steps an entry makes at most, and the number of the refusal where none of them answers
-abbrev pub mostSteps : ℕ → Entry → ℕ
-mostSteps w (StartLl p) = 1
-mostSteps w (StartVl p) = 1
-mostSteps w (StartSc p k) = 1
-mostSteps w (Step p) = 1
-mostSteps w (Finish p) = llMost w
-
-abbrev pub lastNumber : Entry → ℕ
-lastNumber (StartLl p) = 0
-lastNumber (StartVl p) = 0
-lastNumber (StartSc p k) = 0
-lastNumber (Step p) = 0
-lastNumber (Finish p) = 13
 
 -- `lineOf` over the parts of the memory that it reads
 abbrev pub answerLine : ℕ → ℕ → List ℕ → ℕ → Reply → List ℕ
 answerLine n w ws p (Refused c) = []
 answerLine n w ws p Accepted = []
 answerLine n w ws p (LlAnswered k) = llLine p k (returnArea n w (record { 0 = p }) ws)
-answerLine n w ws p (ScAnswered t k) = truthLine p 83 k t
-answerLine n w ws p (VlAnswered t k) = truthLine p 86 k t
+answerLine n w ws p (ScAnswered t k) = truthLine p letterS k t
+answerLine n w ws p (VlAnswered t k) = truthLine p letterV k t
 
 -- the line can be written: its process is one of N, its words are lent, and there is room
 pub record Listable (r : Reply) (p n w : ℕ) (ws list : List ℕ) (at : ℕ) : Type 0 where
@@ -149,14 +103,6 @@ pub record Listable (r : Reply) (p n w : ℕ) (ws list : List ℕ) (at : ℕ) : 
   pub w-most : w ≤ 64
   pub lent : 5 * n * w ≤ length ws
   pub room : Room list at (answerLine n w ws p r)
-
--- a step of p, if p is one of N, keeps to the lent memory
-pub record Steppable (m : Memory) (p : ℕ) : Type 0 where
-  pub ready : p < m .bench .n → R.Ready (m .bench .n) (m .bench .w) (recordAt (m .records) (record { 0 = p })) (record { 0 = p }) (m .words)
-
--- the access that a step of p would make, where a trace needs it
-pub record Foreseen (t : Bool) (m : Memory) (p : ℕ) (a : Access) : Type 0 where
-  pub is : t ≡ true → p < m .bench .n → a ≡ accessNow m p
 
 -- the trace's line of an accepted entry, none in a run that is not traced
 abbrev pub shownLine : Bool → ℕ → Access → Entry → Reply → List ℕ

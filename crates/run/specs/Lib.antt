@@ -1,5 +1,5 @@
 pub mod TextRun
 pub mod Reached
 pub mod Held
-pub mod Reading
+pub mod Carried
 pub mod Whole

@@ -23,7 +23,7 @@ use Rattle.notation.specs.declared.Entry.{Entry}
 use Rattle.notation.specs.declared.Entry.the-variants.{StartLl, StartVl, StartSc, Step, Finish}
 use Rattle.notation.specs.Grammar.{Said}
 use Rattle.notation.specs.FirstLine.{Reading, right, wrong, read}
-use Rattle.listing.specs.Lines.{llLine, truthLine, endLine, refusedLine}
+use Rattle.listing.specs.Lines.{letterL, letterS, letterV, llLine, truthLine, endLine, refusedLine}
 use Rattle.access.specs.declared.Access.{Access}
 use Rattle.access.specs.Accesses.{accessOf}
 use Rattle.access.specs.TraceLines.{stepLine, startLine}
@@ -57,8 +57,8 @@ abbrev pub lineOf : Memory → ℕ → Reply → List ℕ
 lineOf m p (Refused c) = []
 lineOf m p Accepted = []
 lineOf m p (LlAnswered k) = llLine p k (returnArea (m .bench .n) (m .bench .w) (record { 0 = p }) (m .words))
-lineOf m p (ScAnswered t k) = truthLine p 83 k t
-lineOf m p (VlAnswered t k) = truthLine p 86 k t
+lineOf m p (ScAnswered t k) = truthLine p letterS k t
+lineOf m p (VlAnswered t k) = truthLine p letterV k t
 
 -- an entry that is one command: its process, its order, and its value ("The value k has k in all W words.")
 abbrev pub processOf : Entry → ℕ
@@ -96,9 +96,9 @@ accessNow m p = accessOf (pointOf (recordAt (m .records) (record { 0 = p }) .lin
 
 -- the trace's line for entry k: a start with its letter, or a step with its access
 abbrev pub entryLine : ℕ → Access → Entry → Reply → List ℕ
-entryLine k a (StartLl p) r = startLine k p 76 0
-entryLine k a (StartVl p) r = startLine k p 86 0
-entryLine k a (StartSc p v) r = startLine k p 83 v
+entryLine k a (StartLl p) r = startLine k p letterL 0
+entryLine k a (StartVl p) r = startLine k p letterV 0
+entryLine k a (StartSc p v) r = startLine k p letterS v
 entryLine k a (Step p) r = stepLine k p a (answers r)
 entryLine k a (Finish p) r = stepLine k p a (answers r)
 
@@ -179,7 +179,7 @@ started t m listing a prepared = cond (eqb (prepared .0) 0) (ended (carryAll (a 
 
 abbrev pub carriedOut : Bool → Memory → List ℕ → Reading → Ended
 carriedOut t m listing (right a) = started t m listing a (setUp m (a .n) (a .w) (replicate (a .w) (a .initial)))
-carriedOut t m listing (wrong k) = ended (begun t m listing k)
+carriedOut t m listing (wrong k left) = ended (begun t m listing k)
 
 -- "A text run takes 14 at its start, then 12 for length, then 10 and 11 over the whole text"; "A refusal 14 at the start writes nothing."
 unfoldable pub runWith : Bool → Memory → List ℕ → List ℕ → Ended

@@ -4,36 +4,38 @@ use mathlib.Core.Bool.{Bool, false, cond}
 use Prim.Native.Nat.{ℕ, _+_, _≤_}
 use mathlib.Core.List.{List, []}
 use lib.Dec.{eqb, ltb}
-use lib.ListN.{length, take, drop}
+use lib.ListN.{length, getD, take, drop, replicate}
 use lib.Seq.{sets}
 use Rattle.model.specs.declared.Bench.{Bench}
+use Rattle.model.specs.Records.{noProcess}
 use Rattle.model.specs.Machine.{Memory}
+use Rattle.model.specs.SetUp.{setUp}
 use Rattle.machine.specs.declared.records.Records.{Records}
 use Rattle.notation.specs.declared.Entry.{Entry}
 use Rattle.notation.specs.Grammar.{largest, deepest}
+use Rattle.notation.specs.EntryWords.{largestPlace}
 use Rattle.notation.specs.Scan.{scan, between}
 use Rattle.notation.specs.FirstLine.{whole}
-use Rattle.notation.specs.Groups.{ItemsEnded}
 use Rattle.listing.specs.Lines.{endLine, refusedLine}
 use Rattle.run.specs.declared.state.Run.{Run}
 use Rattle.run.specs.declared.last_line.Whole.{Whole}
 use Rattle.run.specs.declared.text_run.First.{First}
-use Rattle.run.specs.TextRun.{Ended, ended, begun, carriedOut, mostEntries, roomNeeded}
+use Rattle.run.specs.TextRun.{Ended, ended, begun, started, carriedOut, mostEntries, roomNeeded}
 use Rattle.run.specs.Held.{Filled, lastRoom}
 
 abbrev pub freshRun : Bench → Records → ℕ → Bool → Run
 freshRun b all k t = record { bench = b; all = all; written = 0; entries = 0; stop = k; traced = t }
 
-abbrev pub wholeOf : Run → ℕ → Whole
-wholeOf r written = record { bench = r .bench; all = r .all; number = r .stop; entries = r .entries; written = written }
+abbrev pub wholeOf : Run → ℕ → ℕ → Whole
+wholeOf r stored written = record { bench = r .bench; all = r .all; stored = stored; number = r .stop; entries = r .entries; written = written }
 
 -- the last line of a run
 abbrev pub lastOf : Run → List ℕ
 lastOf r = cond (eqb (r .stop) 0) (endLine (r .entries)) (refusedLine (r .stop) (r .entries))
 
 -- what a run comes to with its last line
-abbrev pub closed : Run → List ℕ → Whole × List ℕ
-closed r list = (wholeOf r (r .written + length (lastOf r)), sets list (r .written) (lastOf r))
+abbrev pub closed : Run → ℕ → List ℕ → Whole × List ℕ
+closed r stored list = (wholeOf r stored (r .written + length (lastOf r)), sets list (r .written) (lastOf r))
 
 -- there is room for the last line
 pub record Closable (r : Run) (list : List ℕ) : Type 0 where
@@ -49,10 +51,15 @@ memoryOf b all len words = record { bench = b; records = take len (all .list); w
 abbrev pub fewOf : ℕ → ℕ
 fewOf len = cond (ltb 16 len) 16 len
 
--- what a part of a text run answers, with the memory and the listing after it
-pub record Answers (len : ℕ) (r : Whole) (ws list : List ℕ) (e : Ended) : Type 0 where
+-- the records from `stored` on are what they were
+abbrev pub Others : Records → Whole → Type 0
+Others all r = (j : ℕ) → r .stored ≤ j → getD (r .all .list) j noProcess ≡ getD (all .list) j noProcess
+
+-- what a part of a text run answers, with the memory and the listing after it, where `all` were lent
+pub record Answers (len : ℕ) (all : Records) (r : Whole) (ws list : List ℕ) (e : Ended) : Type 0 where
   pub same : _≡_ {A = Ended} (record { number = r .number; entries = r .entries; written = r .written; memory = memoryOf (r .bench) (r .all) len ws; listing = list }) e
   pub filled : Filled len (r .all .list)
+  pub others : Others all r
 
 -- what is lent to a part of a text run
 pub record Lending (len : ℕ) (all : Records) (list : List ℕ) : Type 0 where
@@ -64,15 +71,15 @@ pub record Lending (len : ℕ) (all : Records) (list : List ℕ) : Type 0 where
 pub record Headed (s : List ℕ) (f : First) : Type 0 where
   pub within : f .items ≤ length s
   pub initial : f .initial ≤ largest
-
--- and the items are right
-pub record Right (s : List ℕ) (f : First) : Type 0 where
-  pub says : List Entry
-  pub ended : ItemsEnded s (f .items) deepest says
+  pub placeable : length s ≤ largestPlace
 
 -- a run that is refused before its set-up: it comes to the same in both styles
 abbrev pub refusedWith : ℕ → Memory → List ℕ → Ended
 refusedWith k m list = ended (begun false m list k)
+
+-- what is left once the items are read: the set-up and the entries
+abbrev pub startedWith : Bool → First → List Entry → Memory → List ℕ → Ended
+startedWith t f es m list = started t m list (record { n = f .n; w = f .w; initial = f .initial; entries = es }) (setUp m (f .n) (f .w) (replicate (f .w) (f .initial)))
 
 -- what is left of a text run once the first line is read
 abbrev pub saysAfter : Bool → List ℕ → First → Memory → List ℕ → Ended

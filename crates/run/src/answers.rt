@@ -25,7 +25,7 @@ pub fn answer_line(
             let from = word_places::return_word(n, w, ProcessNumber(p as u8), 0);
             listing::ll_line(list, at, p, count as u64, words, from, w)
         }
-        Reply::ScAnswered(t, count) => listing::truth_line(list, at, p, 83, count as u64, t),
-        Reply::VlAnswered(t, count) => listing::truth_line(list, at, p, 86, count as u64, t),
+        Reply::ScAnswered(t, count) => listing::truth_line(list, at, p, b'S', count as u64, t),
+        Reply::VlAnswered(t, count) => listing::truth_line(list, at, p, b'V', count as u64, t),
     }
 }

@@ -2,11 +2,67 @@
 ghost use mathlib.Core.Path.{_≡_};
 ghost use lib.ListN.{replicate};
 ghost use Rattle.run.specs.TextRun.{processOf, orderOf};
-ghost use Rattle.run.specs.Held.{offeredBy, givenBy, besides, mostSteps, lastNumber};
-ghost use Prim.Native.Nat.{_≤_};
-use crate::limits;
+ghost use Rattle.machine.specs.Ranges.{Lent};
+ghost use Rattle.machine.specs.Taken.{offered};
+ghost use Rattle.notation.specs.EntryWords.{entryIn};
+ghost use Rattle.run.specs.TextRun.{valueOf};
+ghost use Rattle.run.specs.Carried.{placeOf, staysAt};
+use lines::points;
+use machine::word_places;
+use machine::word_runs;
 use model::Order;
+use model::ProcessNumber;
 use notation::Entry;
+
+// The entry that a number of the list keeps.
+pub fn entry_in(word: u64) -> Entry
+    ensures { λ r. ⌜ r ≡ entryIn word ⌝ }
+{
+    let kind = word % 8;
+    let p = word / 8 % 32;
+    match kind {
+        0 => Entry::StartLl(p),
+        1 => Entry::StartVl(p),
+        2 => Entry::StartSc(p, word / 256 % 4294967296),
+        3 => Entry::Step(p),
+        _ => Entry::Finish(p),
+    }
+}
+
+// The record that is looked at for a process number.
+pub fn place_of(p: u64) -> usize
+    ensures { λ r. ⌜ r ≡ placeOf p ⌝ }
+{
+    if p < 16 {
+        return p as usize;
+    }
+    0
+}
+
+// "`!` is steps until the call answers": whether the entry is not over with a step that leaves its process at this line.
+pub fn stays(e: Entry, line: u8) -> bool
+    ensures { λ r. ⌜ r ≡ staysAt e line ⌝ }
+{
+    match e {
+        Entry::StartLl(_) => false,
+        Entry::StartVl(_) => false,
+        Entry::StartSc(_, _) => false,
+        Entry::Step(_) => false,
+        Entry::Finish(_) => line != points::IDLE,
+    }
+}
+
+// "The value k has k in all W words": those of a start of SC into the offer area. No other entry has any.
+pub fn offer(e: Entry, n: usize, w: usize, p: ProcessNumber, words: &mut [u64])
+    requires { ⌜ Lent n w p (now words) ⌝ }
+    ensures { λ _. ⌜ now (words .exit) ≡ offered (orderOf e) p n w (valueOf w e) (now (words .entry)) ⌝ }
+{
+    let Entry::StartSc(_, k) = e else {
+        return;
+    };
+    let at = word_places::offer_word(n, w, p, 0);
+    word_runs::fill(words, at, at + w, k);
+}
 
 pub fn process_of(e: Entry) -> u64
     ensures { λ r. ⌜ r ≡ processOf e ⌝ }
@@ -32,75 +88,9 @@ pub fn order_of(e: Entry) -> Order
     }
 }
 
-// The number that an SC has in all words.
-pub fn offered(e: Entry) -> u64
-    ensures { λ r. ⌜ r ≡ offeredBy e ⌝ }
-{
-    match e {
-        Entry::StartLl(_) => 0,
-        Entry::StartVl(_) => 0,
-        Entry::StartSc(_, k) => k,
-        Entry::Step(_) => 0,
-        Entry::Finish(_) => 0,
-    }
-}
-
-// How many words the value has: W for an SC, else none.
-pub fn given(e: Entry, w: usize) -> usize
-    ensures { λ r. ⌜ r ≡ givenBy w e ⌝ }
-{
-    match e {
-        Entry::StartLl(_) => 0,
-        Entry::StartVl(_) => 0,
-        Entry::StartSc(_, _) => w,
-        Entry::Step(_) => 0,
-        Entry::Finish(_) => 0,
-    }
-}
-
 // "The value k has k in all W words": as many as W may be.
 pub fn repeated(k: u64) -> [u64; 64]
     ensures { λ r. ⌜ r ≡ replicate 64 k ⌝ }
 {
     [k; 64]
-}
-
-// Whether an entry is carried out beside the loop of steps: a start, and every entry of a run that has stopped or is traced.
-pub fn is_beside(e: Entry, stop: u8, traced: bool) -> bool
-    ensures { λ r. ⌜ r ≡ besides e stop traced ⌝ }
-{
-    if stop != 0 {
-        return true;
-    }
-    if traced {
-        return true;
-    }
-    model::is_start(order_of(e))
-}
-
-// How many steps an entry makes at most: `.` one, `!` 8W+7.
-pub fn most_steps(e: Entry, w: usize) -> usize
-    requires { ⌜ w ≤ 64 ⌝ }
-    ensures { λ r. ⌜ r ≡ mostSteps w e ⌝ }
-{
-    match e {
-        Entry::StartLl(_) => 1,
-        Entry::StartVl(_) => 1,
-        Entry::StartSc(_, _) => 1,
-        Entry::Step(_) => 1,
-        Entry::Finish(_) => 8 * w + 7,
-    }
-}
-
-// The number of the refusal where none of them answers: 13 for `!`, none for `.`.
-pub fn last_number(e: Entry) -> u8
-    ensures { λ r. ⌜ r ≡ lastNumber e ⌝ }
-{
-    match e {
-        Entry::StartLl(_) => 0,
-        Entry::StartVl(_) => 0,
-        Entry::StartSc(_, _) => 0,
-        Entry::Step(_) => 0,
-        Entry::Finish(_) => limits::UNANSWERED,
-    }
 }

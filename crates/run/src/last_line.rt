@@ -5,10 +5,12 @@ use crate::state::Run;
 use machine::records::Records;
 use model::Bench;
 
-// What a text run leaves of the bench and the records, and what it returns: its number, the entries done and the listing bytes written.
+// What a text run leaves of the bench and the records, how many of the records may differ from before, and what it returns: its number, the
+// entries done and the listing bytes written.
 pub struct Whole {
     pub bench: Bench,
     pub all: Records,
+    pub stored: usize,
     pub number: u8,
     pub entries: usize,
     pub written: usize,
@@ -28,15 +30,16 @@ pub fn fresh(bench: Bench, all: Records, number: u8, traced: bool) -> Run
     }
 }
 
-// What a run returns that has written so many bytes.
-pub fn returned(run: Run, written: usize) -> Whole
-    ensures { λ r. ⌜ r ≡ wholeOf run written ⌝ }
+// What a run returns that has written so many bytes; the first `stored` records are to be stored.
+pub fn returned(run: Run, stored: usize, written: usize) -> Whole
+    ensures { λ r. ⌜ r ≡ wholeOf run stored written ⌝ }
 {
     let bench = run.bench;
     let all = run.all;
     Whole {
         bench,
         all,
+        stored,
         number: run.stop,
         entries: run.entries,
         written,
@@ -44,16 +47,16 @@ pub fn returned(run: Run, written: usize) -> Whole
 }
 
 // "The last line is `end E` or `refused C E`".
-pub fn ended(run: Run, list: &mut [u8]) -> Whole
+pub fn ended(run: Run, stored: usize, list: &mut [u8]) -> Whole
     requires { ⌜ Closable run (now list) ⌝ }
-    ensures { λ r. ⌜ (r, now (list .exit)) ≡ closed run (now (list .entry)) ⌝ }
+    ensures { λ r. ⌜ (r, now (list .exit)) ≡ closed run stored (now (list .entry)) ⌝ }
 {
     let entries = run.entries as u64;
     let stop = run.stop as u64;
     if stop == 0 {
         let next = listing::end_line(list, run.written, entries);
-        return returned(run, next);
+        return returned(run, stored, next);
     }
     let next = listing::refused_line(list, run.written, stop, entries);
-    returned(run, next)
+    returned(run, stored, next)
 }

@@ -2,14 +2,15 @@
 // then 1, 2, 3, then the set-up, then the entries".
 ghost use mathlib.Core.Path.{_≡_};
 ghost use Prim.Native.Nat.{_≤_};
-ghost use lib.ListN.{take};
+ghost use lib.ListN.{length, take};
 ghost use Rattle.model.specs.Records.{noProcess};
 ghost use Rattle.machine.specs.Gathered.{gathered};
 ghost use Rattle.run.specs.TextRun.{runWith, runText, traceText};
-ghost use Rattle.run.specs.Whole.{memoryOf, fewOf, Answers, Lending, Headed, Right, saysAfter, refusedWith};
+ghost use Rattle.notation.specs.Grammar.{largest};
+ghost use Rattle.run.specs.Carried.{entriesIn};
+ghost use Rattle.run.specs.Whole.{memoryOf, fewOf, Others, Answers, Lending, Headed, startedWith, saysAfter, refusedWith};
+use crate::carrying;
 use crate::entries;
-use crate::items;
-use crate::items::Items;
 use crate::last_line;
 use crate::last_line::Whole;
 use crate::limits;
@@ -18,6 +19,8 @@ use crate::state;
 use machine::records::Records;
 use model::Bench;
 use notation::Header;
+use notation::items;
+use notation::items::Items;
 
 // The first line's numbers, and where the items begin.
 pub struct First {
@@ -37,25 +40,26 @@ fn refused(
     list: &mut [u8],
 ) -> Whole
     requires { ⌜ (Lending len all (now list)) × (number ≤ 15) ⌝ }
-    ensures { λ r. ⌜ Answers len r (now (words .exit)) (now (list .exit)) (refusedWith number (memoryOf bench all len (now (words .entry))) (now (list .entry))) ⌝ }
+    ensures { λ r. ⌜ Answers len all r (now (words .exit)) (now (list .exit)) (refusedWith number (memoryOf bench all len (now (words .entry))) (now (list .entry))) ⌝ }
 {
     let run = last_line::fresh(bench, all, number, false);
-    last_line::ended(run, list)
+    last_line::ended(run, 0, list)
 }
 
-// "then 1, 2, 3, then the set-up, then the entries", of a text that is known to be right. The value is looked at only where W is in its range.
+// "then 1, 2, 3, then the set-up, then the entries": those of the list, up to `count`. The value is looked at only where W is in its range.
 fn started(
     bench: Bench,
     all: Records,
     len: usize,
     traced: bool,
     first: First,
+    entries: &[u64],
+    count: usize,
     words: &mut [u64],
-    text: &[u8],
     list: &mut [u8],
 ) -> Whole
-    requires { ⌜ (Lending len all (now list)) × (Headed (now text) first) × (Right (now text) first) ⌝ }
-    ensures { λ r. ⌜ Answers len r (now (words .exit)) (now (list .exit)) (saysAfter traced (now (text .entry)) first (memoryOf bench all len (now (words .entry))) (now (list .entry))) ⌝ }
+    requires { ⌜ (Lending len all (now list)) × (first .initial ≤ largest) × (count ≤ length (now entries)) ⌝ }
+    ensures { λ r. ⌜ Answers len all r (now (words .exit)) (now (list .exit)) (startedWith traced first (entriesIn count (now (entries .entry))) (memoryOf bench all len (now (words .entry))) (now (list .entry))) ⌝ }
 {
     let n = first.n as usize;
     let w = first.w as usize;
@@ -68,12 +72,18 @@ fn started(
     let begun = machine::set_up::bench_at_set_up(bench, n, w);
     let records = set_up::records_at_set_up(all, n);
     let run = last_line::fresh(begun, records, 0, traced);
-    let read = items::read_items(text, first.items, limits::DEEPEST, run, len, words, list);
-    let done = read.run;
-    last_line::ended(done, list)
+    let done = carrying::carry_out(run, len, entries, count, words, list);
+    last_line::ended(done, n, list)
 }
 
-// "then 10 and 11 over the whole text": it is read once with a stopped run, which carries nothing out.
+// Room for the list of a text's entries: 60,000, and the one that is 12 whatever it says.
+fn empty_list() -> [u64; 60001]
+    ensures { λ r. ⌜ length r ≡ 60001 ⌝ }
+{
+    [0; 60001]
+}
+
+// "then 10 and 11 over the whole text": its items are read once, into the list of its entries.
 fn checked(
     bench: Bench,
     all: Records,
@@ -85,15 +95,24 @@ fn checked(
     list: &mut [u8],
 ) -> Whole
     requires { ⌜ (Lending len all (now list)) × (Headed (now text) first) ⌝ }
-    ensures { λ r. ⌜ Answers len r (now (words .exit)) (now (list .exit)) (saysAfter traced (now (text .entry)) first (memoryOf bench all len (now (words .entry))) (now (list .entry))) ⌝ }
+    ensures { λ r. ⌜ Answers len all r (now (words .exit)) (now (list .exit)) (saysAfter traced (now (text .entry)) first (memoryOf bench all len (now (words .entry))) (now (list .entry))) ⌝ }
 {
-    let run = last_line::fresh(bench, all, limits::TEXT_BROKEN, traced);
-    let reading = items::read_items(text, first.items, limits::DEEPEST, run, len, words, list);
-    let out = reading.out;
-    match out {
-        Items::Broken(k) => refused(bench, all, len, k, words, list),
-        Items::Closed(_) => refused(bench, all, len, limits::TEXT_BROKEN, words, list),
-        Items::Ended => started(bench, all, len, traced, first, words, text, list),
+    let mut entries = empty_list();
+    let read = items::read_items(text, first.items, limits::DEEPEST, &mut entries, 0);
+    match read {
+        Items::Broken(k, _) => refused(bench, all, len, k, words, list),
+        Items::Closed(_, _) => refused(bench, all, len, limits::TEXT_BROKEN, words, list),
+        Items::Ended(count) => started(
+            bench,
+            all,
+            len,
+            traced,
+            first,
+            &entries,
+            count,
+            words,
+            list,
+        ),
     }
 }
 
@@ -118,13 +137,14 @@ fn run_in_style(
     list: &mut [u8],
 ) -> Whole
     requires { ⌜ all ≡ gathered (take len (all .list)) noProcess 16 ⌝ }
-    ensures { λ r. ⌜ (record { number = r .number; entries = r .entries; written = r .written; memory = memoryOf (r .bench) (r .all) len (now (words .exit)); listing = now (list .exit) } ≡ runWith traced (memoryOf bench all len (now (words .entry))) (now (text .entry)) (now (list .entry))) × (r .all ≡ gathered (take len (r .all .list)) noProcess 16) ⌝ }
+    ensures { λ r. ⌜ (record { number = r .number; entries = r .entries; written = r .written; memory = memoryOf (r .bench) (r .all) len (now (words .exit)); listing = now (list .exit) } ≡ runWith traced (memoryOf bench all len (now (words .entry))) (now (text .entry)) (now (list .entry))) × (r .all ≡ gathered (take len (r .all .list)) noProcess 16) × Others all r ⌝ }
 {
     let lent = few(len);
     if list.len() < state::room_needed(traced) {
         return Whole {
             bench,
             all,
+            stored: 0,
             number: limits::NO_ROOM,
             entries: 0,
             written: 0,
@@ -135,7 +155,7 @@ fn run_in_style(
     }
     let header = notation::first_line(text);
     match header {
-        Header::NoFirst => refused(bench, all, lent, limits::TEXT_BROKEN, words, list),
+        Header::NoFirst(_) => refused(bench, all, lent, limits::TEXT_BROKEN, words, list),
         Header::First(n, w, initial, items) => {
             let first = First {
                 n,
@@ -159,7 +179,7 @@ pub fn run_by_value(
     list: &mut [u8],
 ) -> Whole
     requires { ⌜ all ≡ gathered (take len (all .list)) noProcess 16 ⌝ }
-    ensures { λ r. ⌜ (record { number = r .number; entries = r .entries; written = r .written; memory = record { bench = r .bench; records = take len (r .all .list); words = now (words .exit) }; listing = now (list .exit) } ≡ runText (record { bench = bench; records = take len (all .list); words = now (words .entry) }) (now (text .entry)) (now (list .entry))) × (r .all ≡ gathered (take len (r .all .list)) noProcess 16) ⌝ }
+    ensures { λ r. ⌜ (record { number = r .number; entries = r .entries; written = r .written; memory = record { bench = r .bench; records = take len (r .all .list); words = now (words .exit) }; listing = now (list .exit) } ≡ runText (record { bench = bench; records = take len (all .list); words = now (words .entry) }) (now (text .entry)) (now (list .entry))) × (r .all ≡ gathered (take len (r .all .list)) noProcess 16) × Others all r ⌝ }
 {
     run_in_style(bench, all, len, false, words, text, list)
 }
@@ -174,7 +194,7 @@ pub fn trace_by_value(
     list: &mut [u8],
 ) -> Whole
     requires { ⌜ all ≡ gathered (take len (all .list)) noProcess 16 ⌝ }
-    ensures { λ r. ⌜ (record { number = r .number; entries = r .entries; written = r .written; memory = memoryOf (r .bench) (r .all) len (now (words .exit)); listing = now (list .exit) } ≡ traceText (memoryOf bench all len (now (words .entry))) (now (text .entry)) (now (list .entry))) × (r .all ≡ gathered (take len (r .all .list)) noProcess 16) ⌝ }
+    ensures { λ r. ⌜ (record { number = r .number; entries = r .entries; written = r .written; memory = memoryOf (r .bench) (r .all) len (now (words .exit)); listing = now (list .exit) } ≡ traceText (memoryOf bench all len (now (words .entry))) (now (text .entry)) (now (list .entry))) × (r .all ≡ gathered (take len (r .all .list)) noProcess 16) × Others all r ⌝ }
 {
     run_in_style(bench, all, len, true, words, text, list)
 }

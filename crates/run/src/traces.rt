@@ -2,44 +2,35 @@
 ghost use mathlib.Core.Path.{_≡_};
 ghost use Rattle.listing.specs.Writing.{Room, Wrote};
 ghost use Rattle.run.specs.TextRun.{answers};
-ghost use Rattle.run.specs.Held.{Foreseen, Steppable, shownLine};
+ghost use Rattle.machine.specs.Ranges.{Ready};
+ghost use Rattle.run.specs.Held.{shownLine};
+ghost use Rattle.run.specs.Carried.{accessSeen};
 use access::Access;
-use access::Act;
-use access::Item;
 use access::access_of;
 use access::trace_lines;
-use machine::records;
-use machine::records::Records;
-use model::Bench;
+use machine::taken::Taken;
+use model::Process;
 use model::ProcessNumber;
 use model::Reply;
 use notation::Entry;
 
-// What stands for no access.
-fn no_access() -> Access {
-    Access {
-        line: 0,
-        item: Item::X,
-        act: Act::Vl(false),
-        first: 0,
-        second: 0,
-    }
-}
-
-// The access that a step of process p would make; a run that is not traced, and a process that is none of N, need none.
-pub fn access_before(traced: bool, bench: Bench, all: Records, p: u64, words: &[u64]) -> Access
-    requires { ⌜ Steppable (record { bench = bench; records = all .list; words = now words }) p ⌝ }
-    ensures { λ r. ⌜ Foreseen traced (record { bench = bench; records = all .list; words = now (words .entry) }) p r ⌝ }
+// The access that an entry makes, seen in the places taken out for it; a run that is not traced needs none.
+pub fn access_seen(
+    traced: bool,
+    n: usize,
+    w: usize,
+    p: ProcessNumber,
+    process: Process,
+    taken: Taken,
+    words: &[u64],
+) -> Access
+    requires { ⌜ Ready n w process p (now words) ⌝ }
+    ensures { λ r. ⌜ r ≡ accessSeen traced p n w taken process (now (words .entry)) ⌝ }
 {
     if !traced {
-        return no_access();
+        return access_of::no_access();
     }
-    if bench.n as u64 <= p {
-        return no_access();
-    }
-    let own = ProcessNumber(p as u8);
-    let process = records::record_at(all, own);
-    access_of::access_of(bench, process, own, words)
+    access_of::access_of(n, w, p, process, taken, words)
 }
 
 // Whether a reply answers the call.
@@ -74,9 +65,9 @@ pub fn trace_line(
     let k = entry as u64;
     let answered = answers(reply);
     match e {
-        Entry::StartLl(p) => trace_lines::start_line(list, at, k, p, 76, 0),
-        Entry::StartVl(p) => trace_lines::start_line(list, at, k, p, 86, 0),
-        Entry::StartSc(p, value) => trace_lines::start_line(list, at, k, p, 83, value),
+        Entry::StartLl(p) => trace_lines::start_line(list, at, k, p, b'L', 0),
+        Entry::StartVl(p) => trace_lines::start_line(list, at, k, p, b'V', 0),
+        Entry::StartSc(p, value) => trace_lines::start_line(list, at, k, p, b'S', value),
         Entry::Step(p) => trace_lines::step_line(list, at, k, p, access, answered),
         Entry::Finish(p) => trace_lines::step_line(list, at, k, p, access, answered),
     }

@@ -57,7 +57,8 @@ use Rattle.run.specs.declared.last_line.Whole.{Whole}
 use Rattle.run.specs.TextRun.{runText}
 use Rattle.bench.specs.declared.TextRun.{TextRun}
 use Rattle.bench.specs.Lent.{memory, recordsStored}
-use Rattle.bench.proofs.TextLaws.{gathered-again, settled}
+use Rattle.bench.specs.Running.{left, Ran}
+use Rattle.bench.proofs.TextLaws.{gathered-again, ran-stored}
 use Rattle.model.proofs.Bench as B
 use Rattle.model.proofs.Bench.Laws as B′
 use Rattle.model.proofs.Process as P
@@ -76,10 +77,10 @@ use Rattle.bench.proofs.lent.gather as gather
 use Rattle.bench.proofs.lent.gather.Symbol as gather-def
 use Rattle.bench.proofs.lent.gather.Symbol.{name as #bench·lent·gather}
 use Rattle.bench.proofs.lent.gather.Met as gather-thm
-use Rattle.run.proofs.text_run.run_by_value as by-value
-use Rattle.run.proofs.text_run.run_by_value.Symbol as by-value-def
-use Rattle.run.proofs.text_run.run_by_value.Symbol.{name as #run·text-run·run-by-value}
-use Rattle.run.proofs.text_run.run_by_value.Met as by-value-thm
+use Rattle.bench.proofs.run_gathered as gathered-run
+use Rattle.bench.proofs.run_gathered.Symbol as gathered-run-def
+use Rattle.bench.proofs.run_gathered.Symbol.{name as #bench·run-gathered}
+use Rattle.bench.proofs.run_gathered.Met as gathered-run-thm
 use Rattle.bench.proofs.lent.store_back as store-back
 use Rattle.bench.proofs.lent.store_back.Symbol as store-back-def
 use Rattle.bench.proofs.lent.store_back.Symbol.{name as #bench·lent·store-back}
@@ -114,6 +115,7 @@ told r = record { number = r .number; entries = r .entries; written = r .written
 
 -- its parts as machine numbers
 record Small (r : Whole) : Type 0 where
+  stored-fits : r .stored < 2 ^ 64
   number-fits : r .number < 2 ^ 8
   entries-fits : r .entries < 2 ^ 64
   written-fits : r .written < 2 ^ 64
@@ -127,7 +129,7 @@ module _ {M : Type 1} (𝓤 : URA M) (H : Heap 𝓤) (A : Atoms 𝓤) (at-mem : 
   GatherC = tripleOf 𝓤 H A gather.signature (gather.spec 𝓤 H A at-mem run)
 
   abbrev RunC : Contract 𝓤
-  RunC = tripleOf 𝓤 H A by-value.signature (by-value.spec 𝓤 H A at-mem run)
+  RunC = tripleOf 𝓤 H A gathered-run.signature (gathered-run.spec 𝓤 H A at-mem run)
 
   abbrev StoreC : Contract 𝓤
   StoreC = tripleOf 𝓤 H A store-back.signature (store-back.spec 𝓤 H A at-mem run)
@@ -174,6 +176,10 @@ module _ {M : Type 1} (𝓤 : URA M) (H : Heap 𝓤) (A : Atoms 𝓤) (W : Given
   abbrev a : Records
   a = gathered ys noProcess 16
 
+  -- what the run by value says
+  abbrev RanTo : Whole → List ℕ → List ℕ → Type 0
+  RanTo r vs ls = Ran h a (length ys) ws txt lst r vs ls
+
   abbrev Post : Val → SProp 𝓤
   Post = walkOf 𝓤 H A f.ended stayed (f.clauses 𝓤 H A at-mem run) .post (((κ₀, (κ₁, (κ₂, (κ₃, (κ₄, tt))))), (q₀, (q₁, (q₂, (q₃, (q₄, tt))))), tt, x, at), tt)
 
@@ -204,7 +210,7 @@ module _ {M : Type 1} (𝓤 : URA M) (H : Heap 𝓤) (A : Atoms 𝓤) (W : Given
 
   -- what the parts of the run by value are known to be, and what is returned of it
   known : (r : Whole) (w : Val) → Is O.the-row r (w ∷ []) → Is B.the-row (r .bench) (machB (r .bench) ∷ []) × (Is L.the-row (r .all) (machL (r .all) ∷ []) × Small r)
-  known r w is = let fields = LL.owed O.the-type O′.the-laws r _ is in (fields .0, (fields .1 .0, record { number-fits = fields .1 .1 .0 .1; entries-fits = fields .1 .1 .1 .0 .1; written-fits = fields .1 .1 .1 .1 .0 .1 }))
+  known r w is = let fields = LL.owed O.the-type O′.the-laws r _ is in (fields .0, (fields .1 .0, record { stored-fits = fields .1 .1 .0 .1; number-fits = fields .1 .1 .1 .0 .1; entries-fits = fields .1 .1 .1 .1 .0 .1; written-fits = fields .1 .1 .1 .1 .1 .0 .1 }))
 
   isT : (r : Whole) → Small r → Is T.the-row (told r) (machT (told r) ∷ [])
   isT r small = LL.owes T.the-type T′.the-laws (told r) ((refl, small .number-fits), ((refl, small .entries-fits), ((refl, small .written-fits), tt)))
@@ -248,25 +254,25 @@ module _ {M : Type 1} (𝓤 : URA M) (H : Heap 𝓤) (A : Atoms 𝓤) (W : Given
       owned ! L.the-row (Is L.the-row) (LL.makes L.the-type L′.the-plain 𝓤 H A) a _ gL $ fjoin ! $ owned ! B.the-row (Is B.the-row) (LL.makes B.the-type B′.the-plain 𝓤 H A) h _ gB $ fjoin ! $ done !
 
   abbrev to-store : Whole → StoreC 𝓤 H A at-mem run .Ghost
-  to-store r = (((κ₁, tt), (q₁, tt), tt, (rref γ₁, (r .all, (16, tt))), (s₁ ∷ [], (machL (r .all) ∷ [], (vint w64 16 ∷ [], tt)))), tt)
+  to-store r = (((κ₁, tt), (q₁, tt), tt, (rref γ₁, (r .all, (r .stored, tt))), (s₁ ∷ [], (machL (r .all) ∷ [], (vint w64 (r .stored) ∷ [], tt)))), tt)
 
-  goes-store : (r : Whole) → Is L.the-row (r .all) (machL (r .all) ∷ [])
+  goes-store : (r : Whole) → Is L.the-row (r .all) (machL (r .all) ∷ []) → r .stored < 2 ^ 64
       → ent 𝓤 (⋆ 𝓤 H A (‵ (fobs γ₁ (codedHoleys P.the-row .code (heres P.the-row ys))) ∷ ‵ (fbor κ₁ (Held P.the-row (length ys) b₁ o₁ γ₁)) ∷ ‵ (flft κ₁ q₁) ∷ [])) (StoreC 𝓤 H A at-mem run .pre (to-store r))
-  goes-store r g =
+  goes-store r g small =
       qed W (‵ (fobs γ₁ (codedHoleys P.the-row .code (heres P.the-row ys))) ∷ ‵ (fbor κ₁ (Held P.the-row (length ys) b₁ o₁ γ₁)) ∷ ‵ (flft κ₁ q₁) ∷ []) ∵ fjoin ! $ pureI ! (at-slice P.the-row (rref γ₁) (s₁ ∷ [])) (tt, (tt, tt)) (refl, room₁) $ fjoin ! $
       -- [the slice; κ₁]
       nothing ! $ move ! (2 ∷ 0 ∷ []) $ join ! $
-      nothing ! $ owned ! usize (Is usize) (uint-makes 𝓤 H A W w64) 16 _ (refl, lit< tt) $ fjoin ! $ owned ! L.the-row (Is L.the-row) (LL.makes L.the-type L′.the-plain 𝓤 H A) (r .all) _ g $ fjoin ! $ move ! (2 ∷ 0 ∷ []) $ fjoin ! $ move ! (1 ∷ 0 ∷ []) $ join ! $ frame ! $ done !
+      nothing ! $ owned ! usize (Is usize) (uint-makes 𝓤 H A W w64) (r .stored) _ (refl, small) $ fjoin ! $ owned ! L.the-row (Is L.the-row) (LL.makes L.the-type L′.the-plain 𝓤 H A) (r .all) _ g $ fjoin ! $ move ! (2 ∷ 0 ∷ []) $ fjoin ! $ move ! (1 ∷ 0 ∷ []) $ join ! $ frame ! $ done !
 
   -- what is left of lent memory is what the contract says
-  ended : (r : Whole) (zs : List Process) (vs ls : List ℕ) → (record { number = r .number; entries = r .entries; written = r .written; memory = memory (r .bench) (take (length ys) (r .all .list)) vs; listing = ls } ≡ runText (memory h (take (length ys) (a .list)) ws) txt lst) × (r .all ≡ gathered (take (length ys) (r .all .list)) noProcess 16) → zs ≡ recordsStored ys (r .all .list) 16
-      → record { number = r .number; entries = r .entries; written = r .written; memory = memory (r .bench) zs vs; listing = ls } ≡ runText (memory h ys ws) txt lst
-  ended r zs vs ls e e₁ = settled h ys ws txt lst r zs vs ls (e .0) (e .1) e₁
+  ended : (r : Whole) (zs : List Process) (vs ls : List ℕ) → RanTo r vs ls → zs ≡ recordsStored ys (r .all .list) (r .stored)
+      → left r zs vs ls ≡ runText (memory h ys ws) txt lst
+  ended r zs vs ls e e₁ = ran-stored h ys ws txt lst r zs vs ls e e₁
 
   abbrev Ends : Whole → List Process → List ℕ → List ℕ → List (Item 𝓤)
   Ends r zs vs ls = ‵ (fobs γ₀ (B.the-row .coded .code (r .bench))) ∷ ‵ (fbor κ₀ (Body (mem B.the-row) b₀ o₀ γ₀)) ∷ ‵ (flft κ₀ q₀) ∷ (‵ (flft κ₁ q₁) ⊛ ‵ ftrue) ∷ ‵ (finally P.the-row γ₁ zs) ∷ ‵ (flft κ₂ q₂) ∷ ‵ (finally u64 γ₂ vs) ∷ ‵ (flft κ₃ q₃) ∷ OwnT ∷ ‵ (flft κ₄ q₄) ∷ ‵ (finally u8 γ₄ ls) ∷ []
 
-  exits : (r : Whole) (zs : List Process) (vs ls : List ℕ) → (record { number = r .number; entries = r .entries; written = r .written; memory = memory (r .bench) (take (length ys) (r .all .list)) vs; listing = ls } ≡ runText (memory h (take (length ys) (a .list)) ws) txt lst) × (r .all ≡ gathered (take (length ys) (r .all .list)) noProcess 16) → zs ≡ recordsStored ys (r .all .list) 16 → length zs ≡ length ys → length vs ≡ length ws → length ls ≡ length lst → Small r
+  exits : (r : Whole) (zs : List Process) (vs ls : List ℕ) → RanTo r vs ls → zs ≡ recordsStored ys (r .all .list) (r .stored) → length zs ≡ length ys → length vs ≡ length ws → length ls ≡ length lst → Small r
       → ent 𝓤 (⋆ 𝓤 H A (Ends r zs vs ls)) (Post (machT (told r)))
   exits r zs vs ls e e₁ l₁ l₂ l₄ small =
       qed W (Ends r zs vs ls) ∵
@@ -278,7 +284,7 @@ module _ {M : Type 1} (𝓤 : URA M) (H : Heap 𝓤) (A : Atoms 𝓤) (W : Given
       move ! (1 ∷ 2 ∷ []) $ feqI ! (List Val) (vptr b₀ o₀ ∷ []) (vptr b₀ o₀ ∷ []) refl $ fjoin3 ! $ fjoin ! $ frame ! $
       owned ! T.the-row (Is T.the-row) (LL.makes T.the-type T′.the-plain 𝓤 H A) (told r) _ (isT r small) $ done !
 
-  module _ (C : Calls 𝓤 H) (Λ : Loops 𝓤 H) (fm : FmC 𝓤 H (W .laws) C) (known-none : Triple 𝓤 (C #machine·records·no-process) (NoneC 𝓤 H A at-mem run)) (known-gather : Triple 𝓤 (C #bench·lent·gather) (GatherC 𝓤 H A at-mem run)) (known-run : Triple 𝓤 (C #run·text-run·run-by-value) (RunC 𝓤 H A at-mem run)) (known-store : Triple 𝓤 (C #bench·lent·store-back) (StoreC 𝓤 H A at-mem run)) where
+  module _ (C : Calls 𝓤 H) (Λ : Loops 𝓤 H) (fm : FmC 𝓤 H (W .laws) C) (known-none : Triple 𝓤 (C #machine·records·no-process) (NoneC 𝓤 H A at-mem run)) (known-gather : Triple 𝓤 (C #bench·lent·gather) (GatherC 𝓤 H A at-mem run)) (known-run : Triple 𝓤 (C #bench·run-gathered) (RunC 𝓤 H A at-mem run)) (known-store : Triple 𝓤 (C #bench·lent·store-back) (StoreC 𝓤 H A at-mem run)) where
     module _ (l₀ l₁ l₂ l₃ l₄ l₅ l₆ l₇ l₈ l₉ l₁₀ l₁₁ l₁₂ l₁₃ l₁₄ l₁₅ l₁₆ l₁₇ l₁₈ l₁₉ : ℕ) where
       abbrev En : Env 𝓤 H
       En = (T′.mir, l₀) ∷ (tyRef (named 0) mut (pointee (B.the-row .written)), l₁) ∷ (sliceTy (tyRef (named 1) mut (pointee (P.the-row .written))), l₂) ∷ (sliceTy (tyRef (named 2) mut (tyInt w64)), l₃) ∷ (sliceTy (tyRef (named 3) imm (tyInt w8)), l₄) ∷ (sliceTy (tyRef (named 4) mut (tyInt w8)), l₅) ∷ (B′.mir, l₆) ∷ (tyInt w64, l₇) ∷ (P′.mir, l₈) ∷ (L′.mir, l₉) ∷ (O′.mir, l₁₀) ∷ (tyRef erased imm (pointee (P.the-row .written)), l₁₁) ∷ (sliceTy (tyRef erased imm (pointee (P.the-row .written))), l₁₂) ∷ (tyRef erased mut (tyInt w64), l₁₃) ∷ (sliceTy (tyRef erased mut (tyInt w64)), l₁₄) ∷ (tyRef erased mut (tyInt w8), l₁₅) ∷ (sliceTy (tyRef erased mut (tyInt w8)), l₁₆) ∷ (tyUnit, l₁₇) ∷ (tyRef erased mut (pointee (P.the-row .written)), l₁₈) ∷ (sliceTy (tyRef erased mut (pointee (P.the-row .written))), l₁₉) ∷ []
@@ -293,7 +299,7 @@ module _ {M : Type 1} (𝓤 : URA M) (H : Heap 𝓤) (A : Atoms 𝓤) (W : Given
       abbrev Rest : List (Item 𝓤)
       Rest = OwnW ∷ ‵ (flft κ₂ q₂) ∷ OwnT ∷ ‵ (flft κ₃ q₃) ∷ OwnL ∷ ‵ (flft κ₄ q₄) ∷ []
 
-      stage4 : (r : Whole) (vs ls : List ℕ) → (record { number = r .number; entries = r .entries; written = r .written; memory = memory (r .bench) (take (length ys) (r .all .list)) vs; listing = ls } ≡ runText (memory h (take (length ys) (a .list)) ws) txt lst) × (r .all ≡ gathered (take (length ys) (r .all .list)) noProcess 16) → length vs ≡ length ws → length ls ≡ length lst → Is B.the-row (r .bench) (machB (r .bench) ∷ []) → Is L.the-row (r .all) (machL (r .all) ∷ []) → Small r
+      stage4 : (r : Whole) (vs ls : List ℕ) → RanTo r vs ls → length vs ≡ length ws → length ls ≡ length lst → Is B.the-row (r .bench) (machB (r .bench) ∷ []) → Is L.the-row (r .all) (machL (r .all) ∷ []) → Small r
           → Sq W (Ctx (‵ (fat fullShare (O′.mir) l₁₀ 0 (machO r))) (‵ (fat fullShare (L′.mir) l₉ 0 (machL a))) (‵ (fat fullShare (P′.mir) l₈ 0 (machP noProcess))) (‵ (fat fullShare (tyInt w64) l₇ 0 (vint w64 (length ys)))) (‵ (fat fullShare (B′.mir) l₆ 0 (machB h))) (Held₁ (‵ (flft κ₂ q₂) ∷ ‵ (finally u64 γ₂ vs) ∷ ‵ (flft κ₃ q₃) ∷ OwnT ∷ ‵ (flft κ₄ q₄) ∷ ‵ (finally u8 γ₄ ls) ∷ []))) (runs C Λ En body.t-12 (atRet En Post))
       stage4 r vs ls e l₂ l₄ gB gL small =
           move ! (40 ∷ 41 ∷ 42 ∷ []) $ opens ! tt B.the-row {h = h} b₀ o₀ (λ vs₁. spelt ! B.the-row (Is B.the-row) (shows 𝓤 H A B.the-row) (LL.vals B.the-type B′.the-laws) (LL.tells B.the-type B′.the-laws) fullShare h vs₁ b₀ o₀ $
@@ -302,15 +308,15 @@ module _ {M : Type 1} (𝓤 : URA M) (H : Heap 𝓤) (A : Atoms 𝓤) (W : Given
           -- [obs₀; bor₀; κ₀; locals at 3; obs₁; bor₁; κ₁; κ₂; the last words; κ₃; the text; κ₄; the last listing]: `store_back`
           assigns ! (addr ! (from ! (fld ! refl (hop ! (look-in ! 37 (sub ! 0 refl (whole !))) (stop !))))) (from ! (stop !)) (init ! 5 refl (tt, tt)) $
           assigns ! (agg ! (and-then ! (load ! (from ! (stop !)) (look ! 5 refl)) (and-then ! (load ! (from ! (fld ! refl (stop !))) (look-in ! 37 (sub ! 1 refl (whole !)))) (no-more !)))) (from ! (stop !)) (init ! 3 refl (tt, (tt, (record { fits = room₁ .0 }, tt)))) $
-          move ! (43 ∷ 44 ∷ 45 ∷ []) $ use3 W (raw (StoreC 𝓤 H A at-mem run .pre (to-store r))) (goes-store r gL) $
-          calls-at ! fm (StoreC 𝓤 H A at-mem run) known-store (to-store r) (and-then ! (load ! (from ! (stop !)) (look ! 4 refl)) (and-then ! (load ! (from ! (fld ! {d = 216} refl (stop !))) (look-in ! 22 (sub ! 1 {d = 216} refl (whole !)))) (and-then ! (lit ! tt) (no-more !)))) (λ w.
-          use1 W (later (some (λ (u : Unit {0}). ((‵ (flft κ₁ q₁) ⊛ ‵ ftrue) ⊛ ‵ (unit .own u (w ∷ []))) ⊛ raw (ensured 𝓤 H A store-back.ended (store-back.clauses 𝓤 H A at-mem run) (κ₁, tt) (rref γ₁, (r .all, (16, tt))) tt u)))) (id⊢ 𝓤 _) $ await ! tt $ pick ! (λ u.
-          split ! $ move ! (1 ∷ []) $ use1 W (some (λ (zs : List Process × (Unit {0} × (Unit {0} × Unit {0}))). ‵ (lasts store-back.ended (κ₁, tt) (rref γ₁, (r .all, (16, tt))) zs) ⊛ raw (fact 𝓤 (zs .0 ≡ recordsStored ys (r .all .list) 16)))) (id⊢ 𝓤 _) $ pick ! (λ zs.
-          split ! $ move ! (1 ∷ []) $ heard ! (zs .0 ≡ recordsStored ys (r .all .list) 16) (λ e₁. fsplit ! $ fsplit ! $ move ! (1 ∷ []) $ feqL ! (λ l₁.
+          move ! (43 ∷ 44 ∷ 45 ∷ []) $ use3 W (raw (StoreC 𝓤 H A at-mem run .pre (to-store r))) (goes-store r gL (small .stored-fits)) $
+          calls-at ! fm (StoreC 𝓤 H A at-mem run) known-store (to-store r) (and-then ! (load ! (from ! (stop !)) (look ! 4 refl)) (and-then ! (load ! (from ! (fld ! {d = 216} refl (stop !))) (look-in ! 22 (sub ! 1 {d = 216} refl (whole !)))) (and-then ! (load ! (from ! (fld ! {d = 728} refl (stop !))) (look-in ! 22 (sub ! 2 {d = 728} refl (whole !)))) (no-more !)))) (λ w.
+          use1 W (later (some (λ (u : Unit {0}). ((‵ (flft κ₁ q₁) ⊛ ‵ ftrue) ⊛ ‵ (unit .own u (w ∷ []))) ⊛ raw (ensured 𝓤 H A store-back.ended (store-back.clauses 𝓤 H A at-mem run) (κ₁, tt) (rref γ₁, (r .all, (r .stored, tt))) tt u)))) (id⊢ 𝓤 _) $ await ! tt $ pick ! (λ u.
+          split ! $ move ! (1 ∷ []) $ use1 W (some (λ (zs : List Process × (Unit {0} × (Unit {0} × Unit {0}))). ‵ (lasts store-back.ended (κ₁, tt) (rref γ₁, (r .all, (r .stored, tt))) zs) ⊛ raw (fact 𝓤 (zs .0 ≡ recordsStored ys (r .all .list) (r .stored))))) (id⊢ 𝓤 _) $ pick ! (λ zs.
+          split ! $ move ! (1 ∷ []) $ heard ! (zs .0 ≡ recordsStored ys (r .all .list) (r .stored)) (λ e₁. fsplit ! $ fsplit ! $ move ! (1 ∷ []) $ feqL ! (λ l₁.
           move ! (2 ∷ []) $ split ! $ move ! (1 ∷ []) $ feqL ! (λ is-unit.
           -- [the token of κ₁; the last records; true; obs₀; bor₀; κ₀; locals at 6; κ₂; the last words; κ₃; the text; κ₄; the last listing]
           land ! (from ! (stop !)) (init ! 10 refl (subst (λ (z : Val). Holds (hasTy tyUnit z) × WT z) (sym (ap only is-unit)) (tt, tt))) $
-          assigns ! (agg ! (and-then ! (load ! (from ! (fld ! {d = 728} refl (stop !))) (look-in ! 24 (sub ! 2 {d = 728} refl (whole !)))) (and-then ! (load ! (from ! (fld ! {d = 736} refl (stop !))) (look-in ! 24 (sub ! 3 {d = 736} refl (whole !)))) (and-then ! (load ! (from ! (fld ! {d = 744} refl (stop !))) (look-in ! 24 (sub ! 4 {d = 744} refl (whole !)))) (no-more !))))) (from ! (stop !)) (init ! 44 refl (typedT (told r) (isT r small))) $
+          assigns ! (agg ! (and-then ! (load ! (from ! (fld ! {d = 736} refl (stop !))) (look-in ! 24 (sub ! 3 {d = 736} refl (whole !)))) (and-then ! (load ! (from ! (fld ! {d = 744} refl (stop !))) (look-in ! 24 (sub ! 4 {d = 744} refl (whole !)))) (and-then ! (load ! (from ! (fld ! {d = 752} refl (stop !))) (look-in ! 24 (sub ! 5 {d = 752} refl (whole !)))) (no-more !))))) (from ! (stop !)) (init ! 44 refl (typedT (told r) (isT r small))) $
           returns ! (look ! 44 refl) $ forget ! 6 refl $ forget ! 8 refl $ forget ! 10 refl $ forget ! 24 refl $ forget ! 26 refl $ forget ! 28 refl $ forget ! 30 refl $ forget ! 32 refl $ forget ! 34 refl $ forget ! 36 refl $ forget ! 38 refl $ forget ! 40 refl $ forget ! 42 refl $ forget ! 44 refl $
           move ! (44 ∷ 45 ∷ []) $ free1 ! $ move ! (42 ∷ 43 ∷ []) $ free1 ! $ move ! (40 ∷ 41 ∷ []) $ free1 ! $ move ! (38 ∷ 39 ∷ []) $ free1 ! $ move ! (36 ∷ 37 ∷ []) $ free1 ! $ move ! (34 ∷ 35 ∷ []) $ free1 ! $ move ! (32 ∷ 33 ∷ []) $ free1 ! $ move ! (30 ∷ 31 ∷ []) $ free1 ! $ move ! (28 ∷ 29 ∷ []) $ free1 ! $ move ! (26 ∷ 27 ∷ []) $ free1 ! $ move ! (24 ∷ 25 ∷ []) $ free1 ! $ move ! (22 ∷ 23 ∷ []) $ free1 ! $ move ! (20 ∷ 21 ∷ []) $ free1 ! $ move ! (18 ∷ 19 ∷ []) $ free1 ! $ move ! (16 ∷ 17 ∷ []) $ free1 ! $ move ! (14 ∷ 15 ∷ []) $ free1 ! $ move ! (12 ∷ 13 ∷ []) $ free1 ! $ move ! (10 ∷ 11 ∷ []) $ free1 ! $ move ! (8 ∷ 9 ∷ []) $ free1 ! $ move ! (6 ∷ 7 ∷ []) $ free1 ! $ free0 ! $
           keep ! (3 ∷ 4 ∷ 5 ∷ 0 ∷ 1 ∷ 6 ∷ 7 ∷ 8 ∷ 9 ∷ 10 ∷ 11 ∷ []) $ by ! (exits r (zs .0) vs ls e e₁ l₁ l₂ l₄ small))))))))
@@ -327,9 +333,9 @@ module _ {M : Type 1} (𝓤 : URA M) (H : Heap 𝓤) (A : Atoms 𝓤) (W : Given
           move ! (50 ∷ 52 ∷ []) $ join ! $ move ! (50 ∷ 0 ∷ []) $ join ! $ move ! (49 ∷ 1 ∷ []) $ join ! $ move ! (1 ∷ 0 ∷ 49 ∷ []) $ use3 W (raw (RunC 𝓤 H A at-mem run .pre to-run)) (goes-run gB gL) $
           -- [what the run asks; the text; locals at 2; obs₀; …]
           calls-at ! fm (RunC 𝓤 H A at-mem run) known-run to-run (and-then ! (load ! (from ! (stop !)) (look ! 28 refl)) (and-then ! (load ! (from ! (stop !)) (look ! 22 refl)) (and-then ! (load ! (from ! (stop !)) (look ! 26 refl)) (and-then ! (load ! (from ! (stop !)) (look ! 12 refl)) (and-then ! (load ! (from ! (stop !)) (look ! 32 refl)) (and-then ! (load ! (from ! (stop !)) (look ! 8 refl)) (no-more !))))))) (λ w.
-          use1 W (later (some (λ (r : Whole). ((‵ (flft κ₂ q₂) ⊛ ‵ (flft κ₃ q₃) ⊛ ‵ (flft κ₄ q₄) ⊛ ‵ ftrue) ⊛ ‵ (O.the-row .own r (w ∷ []))) ⊛ raw (ensured 𝓤 H A by-value.ended (by-value.clauses 𝓤 H A at-mem run) (κ₂, (κ₃, (κ₄, tt))) (h, (a, (length ys, (wref, (tref, (lref, tt)))))) tt r)))) (id⊢ 𝓤 _) $ await ! tt $ pick ! (λ r.
-          split ! $ move ! (1 ∷ []) $ use1 W (some (λ (zs : Unit {0} × (Unit {0} × (Unit {0} × (List ℕ × (Unit {0} × (List ℕ × Unit {0})))))). ‵ (lasts by-value.ended (κ₂, (κ₃, (κ₄, tt))) (h, (a, (length ys, (wref, (tref, (lref, tt)))))) zs) ⊛ raw (fact 𝓤 ((record { number = r .number; entries = r .entries; written = r .written; memory = memory (r .bench) (take (length ys) (r .all .list)) (zs .1 .1 .1 .0); listing = zs .1 .1 .1 .1 .1 .0 } ≡ runText (memory h (take (length ys) (a .list)) ws) txt lst) × (r .all ≡ gathered (take (length ys) (r .all .list)) noProcess 16))))) (id⊢ 𝓤 _) $ pick ! (λ zs.
-          split ! $ move ! (1 ∷ []) $ heard ! ((record { number = r .number; entries = r .entries; written = r .written; memory = memory (r .bench) (take (length ys) (r .all .list)) (zs .1 .1 .1 .0); listing = zs .1 .1 .1 .1 .1 .0 } ≡ runText (memory h (take (length ys) (a .list)) ws) txt lst) × (r .all ≡ gathered (take (length ys) (r .all .list)) noProcess 16)) (λ e.
+          use1 W (later (some (λ (r : Whole). ((‵ (flft κ₂ q₂) ⊛ ‵ (flft κ₃ q₃) ⊛ ‵ (flft κ₄ q₄) ⊛ ‵ ftrue) ⊛ ‵ (O.the-row .own r (w ∷ []))) ⊛ raw (ensured 𝓤 H A gathered-run.ended (gathered-run.clauses 𝓤 H A at-mem run) (κ₂, (κ₃, (κ₄, tt))) (h, (a, (length ys, (wref, (tref, (lref, tt)))))) tt r)))) (id⊢ 𝓤 _) $ await ! tt $ pick ! (λ r.
+          split ! $ move ! (1 ∷ []) $ use1 W (some (λ (zs : Unit {0} × (Unit {0} × (Unit {0} × (List ℕ × (Unit {0} × (List ℕ × Unit {0})))))). ‵ (lasts gathered-run.ended (κ₂, (κ₃, (κ₄, tt))) (h, (a, (length ys, (wref, (tref, (lref, tt)))))) zs) ⊛ raw (fact 𝓤 (RanTo r (zs .1 .1 .1 .0) (zs .1 .1 .1 .1 .1 .0))))) (id⊢ 𝓤 _) $ pick ! (λ zs.
+          split ! $ move ! (1 ∷ []) $ heard ! (RanTo r (zs .1 .1 .1 .0) (zs .1 .1 .1 .1 .1 .0)) (λ e.
           fsplit ! $ drop ! $ fsplit ! $ drop ! $ fsplit ! $ drop ! $ fsplit ! $ fsplit ! $ move ! (1 ∷ []) $ feqL ! (λ l₂.
           move ! (1 ∷ []) $ fsplit ! $ drop ! $ fsplit ! $ fsplit ! $ move ! (1 ∷ []) $ feqL ! (λ l₄.
           -- [the last listing; true; the last words; the tokens and the result; the text; locals at 5; obs₀; …]
@@ -394,7 +400,7 @@ module _ {M : Type 1} (𝓤 : URA M) (H : Heap 𝓤) (A : Atoms 𝓤) (W : Given
         stage1 l₀ l₁ l₂ l₃ l₄ l₅ l₆ l₇ l₈ l₉ l₁₀ l₁₁ l₁₂ l₁₃ l₁₄ l₁₅ l₁₆ l₁₇ l₁₈ l₁₉))))))))))))))))))))
 
 module _ {M : Type 1} (𝓤 : URA M) (H : Heap 𝓤) (A : Atoms 𝓤) (W : Given 𝓤 H A) (at-mem : Memory → SProp 𝓤) (run : Routine → Fun 𝓤) where
-  walks : (C : Calls 𝓤 H) (Λ : Loops 𝓤 H) → FmC 𝓤 H (W .laws) C → Triple 𝓤 (C #machine·records·no-process) (NoneC 𝓤 H A at-mem run) → Triple 𝓤 (C #bench·lent·gather) (GatherC 𝓤 H A at-mem run) → Triple 𝓤 (C #run·text-run·run-by-value) (RunC 𝓤 H A at-mem run) → Triple 𝓤 (C #bench·lent·store-back) (StoreC 𝓤 H A at-mem run)
+  walks : (C : Calls 𝓤 H) (Λ : Loops 𝓤 H) → FmC 𝓤 H (W .laws) C → Triple 𝓤 (C #machine·records·no-process) (NoneC 𝓤 H A at-mem run) → Triple 𝓤 (C #bench·lent·gather) (GatherC 𝓤 H A at-mem run) → Triple 𝓤 (C #bench·run-gathered) (RunC 𝓤 H A at-mem run) → Triple 𝓤 (C #bench·lent·store-back) (StoreC 𝓤 H A at-mem run)
       → Walks 𝓤 H A f.ended stayed (WpFn 𝓤 H C Λ code.function) (f.clauses 𝓤 H A at-mem run)
   walks C Λ fm k₁ k₂ k₃ k₄ = walked 𝓤 H A f.ended stayed (f.clauses 𝓤 H A at-mem run) (WpFn 𝓤 H C Λ code.function) (λ κs. (ptr-vals, (slice-vals, (slice-vals, (slice-vals, (slice-vals, tt))))))
       (λ κs. (mut-tells (named 0) (κs .0) B.the-row, (mut-slice-tells (named 1) (κs .1 .0) P.the-row, (mut-slice-tells (named 2) (κs .1 .1 .0) u64, (shr-slice-tells (named 3) (κs .1 .1 .1 .0) u8, (mut-slice-tells (named 4) (κs .1 .1 .1 .1 .0) u8, tt))))))
@@ -407,7 +413,7 @@ module _ {M : Type 1} (𝓤 : URA M) (H : Heap 𝓤) (A : Atoms 𝓤) (W : Given
   goes = (goes-ref 𝓤 H A W 5 0 tt (plain (λ _. B.the-row)), (goes-gave-slice 𝓤 H A W 5 1 tt (plain (λ _. P.the-row)), (goes-gave-slice 𝓤 H A W 5 2 tt (plain (λ _. u64)), (goes-none-slice 𝓤 H A W 5 (3 ∷ []) tt (plain (λ _. u8)) yes, (goes-gave-slice 𝓤 H A W 5 4 tt (plain (λ _. u8)), tt)))))
 
 meets : {M : Type 1} (𝓤 : URA M) (H : Heap 𝓤) (A : Atoms 𝓤) → Given 𝓤 H A → (at-mem : Memory → SProp 𝓤) (run : Routine → Fun 𝓤) (𝓣 : Tables 𝓤 H)
-    → Triple 𝓤 (𝓣 .C #machine·records·no-process) (NoneC 𝓤 H A at-mem run) → Triple 𝓤 (𝓣 .C #bench·lent·gather) (GatherC 𝓤 H A at-mem run) → Triple 𝓤 (𝓣 .C #run·text-run·run-by-value) (RunC 𝓤 H A at-mem run) → Triple 𝓤 (𝓣 .C #bench·lent·store-back) (StoreC 𝓤 H A at-mem run)
+    → Triple 𝓤 (𝓣 .C #machine·records·no-process) (NoneC 𝓤 H A at-mem run) → Triple 𝓤 (𝓣 .C #bench·lent·gather) (GatherC 𝓤 H A at-mem run) → Triple 𝓤 (𝓣 .C #bench·run-gathered) (RunC 𝓤 H A at-mem run) → Triple 𝓤 (𝓣 .C #bench·lent·store-back) (StoreC 𝓤 H A at-mem run)
     → Meets 𝓤 H A f.signature (WpFn 𝓤 H (𝓣 .C) (𝓣 .Λ) code.function) (f.spec 𝓤 H A at-mem run)
 meets 𝓤 H A W at-mem run 𝓣 k₁ k₂ k₃ k₄ = walk-meets 𝓤 H A f.ended stayed W (goes 𝓤 H A W at-mem run) (f.clauses 𝓤 H A at-mem run) (WpFn 𝓤 H (𝓣 .C) (𝓣 .Λ) code.function) (WpFn-mono 𝓤 H (W .laws) 𝓣 code.function) (walks 𝓤 H A W at-mem run (𝓣 .C) (𝓣 .Λ) (fmOf 𝓤 H (W .laws) 𝓣) k₁ k₂ k₃ k₄)
 
@@ -419,5 +425,5 @@ run-text-spec 𝓤 H 𝓜 𝓖 𝓡 =
     (meets 𝓤 H (𝓖 .A) (givenOf 𝓤 H 𝓜 𝓖) (𝓜 .mem) (𝓡 .run) (tablesOf 𝓤 H 𝓜 (tables 𝓤 H 𝓜 𝓡 code.env))
     (cited 𝓤 H (NoneC 𝓤 H (𝓖 .A) (𝓜 .mem) (𝓡 .run)) 𝓜 𝓡 code.env #machine·records·no-process none-def.routine code.calls-machine·records·no-process (none-thm.met 𝓤 H 𝓜 𝓖 𝓡))
     (cited 𝓤 H (GatherC 𝓤 H (𝓖 .A) (𝓜 .mem) (𝓡 .run)) 𝓜 𝓡 code.env #bench·lent·gather gather-def.routine code.calls-bench·lent·gather (gather-thm.met 𝓤 H 𝓜 𝓖 𝓡))
-    (cited 𝓤 H (RunC 𝓤 H (𝓖 .A) (𝓜 .mem) (𝓡 .run)) 𝓜 𝓡 code.env #run·text-run·run-by-value by-value-def.routine code.calls-run·text-run·run-by-value (by-value-thm.met 𝓤 H 𝓜 𝓖 𝓡))
+    (cited 𝓤 H (RunC 𝓤 H (𝓖 .A) (𝓜 .mem) (𝓡 .run)) 𝓜 𝓡 code.env #bench·run-gathered gathered-run-def.routine code.calls-bench·run-gathered (gathered-run-thm.met 𝓤 H 𝓜 𝓖 𝓡))
     (cited 𝓤 H (StoreC 𝓤 H (𝓖 .A) (𝓜 .mem) (𝓡 .run)) 𝓜 𝓡 code.env #bench·lent·store-back store-back-def.routine code.calls-bench·lent·store-back (store-back-thm.met 𝓤 H 𝓜 𝓖 𝓡)))

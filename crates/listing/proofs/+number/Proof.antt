@@ -65,7 +65,9 @@ number-returns : (t : ℕ) → number-lts.Need-returns (
   number-below t,
   number.Post,
 ) (number-at t) number.Post
-number-returns t c = same (one-digit (c .before .before .before .before .before .before .args .n) (c .before .before .before .before .if1 .taken)) (c .before .before .put .ensures)
+number-returns t c =
+    let c4 = c .before .before .before .before in let c6 = c4 .before .before in
+    same (one-digit (c6 .args .n) (c4 .if1 .taken)) (c .before .before .put .ensures)
 
 number-number-requires : (t : ℕ) → number-lts.Need-number-requires (
   put-reads.Asked,
@@ -73,7 +75,9 @@ number-number-requires : (t : ℕ) → number-lts.Need-number-requires (
   number-below t,
   number.Post,
 ) (number-at t) number.Post
-number-number-requires t c κs = (omega (arith, c .before .before .before .pre .0, div-lt-self {n = c .before .before .before .args .n} {k = 10} (omega arith) (omega arith)), room-first _ _ (room-same (last-digit (c .before .before .before .args .n) (c .before .if1 .left) (omega arith)) (c .before .before .before .pre .1)))
+number-number-requires t c κs =
+    let c3 = c .before .before .before in
+    (omega (arith, c3 .pre .0, div-lt-self {n = c3 .args .n} {k = 10} (omega arith) (omega arith)), room-first _ _ (room-same (last-digit (c3 .args .n) (c .before .if1 .left) (omega arith)) (c3 .pre .1)))
 
 number-cast-put-2 : (t : ℕ) → number-lts.Need-cast-put-2 (
   put-reads.Asked,
@@ -97,7 +101,9 @@ number-put-requires-2 : (t : ℕ) → number-lts.Need-put-requires-2 (
   number-below t,
   number.Post,
 ) (number-at t) number.Post
-number-put-requires-2 t c κs = room-then _ (room-same (last-digit (c .before .before .before .before .before .before .before .args .n) (c .before .before .before .before .before .if1 .left) (omega arith)) (c .before .before .before .before .before .before .before .pre .1)) (c .before .before .before .number .ensures)
+number-put-requires-2 t c κs =
+    let c3 = c .before .before .before in let c5 = c3 .before .before in let c7 = c5 .before .before in
+    room-then _ (room-same (last-digit (c7 .args .n) (c5 .if1 .left) (omega arith)) (c7 .pre .1)) (c3 .number .ensures)
 
 number-same-length-2 : (t : ℕ) → number-lts.Need-same-length-2 (
   put-reads.Asked,
@@ -113,7 +119,11 @@ number-returns-2 : (t : ℕ) → number-lts.Need-returns-2 (
   number-below t,
   number.Post,
 ) (number-at t) number.Post
-number-returns-2 t c = same (last-digit (c .before .before .before .before .before .before .before .before .before .before .args .n) (c .before .before .before .before .before .before .before .before .if1 .left) (omega arith)) (then (c .before .before .before .before .before .before .number .ensures) (c .before .before .put2 .ensures))
+number-returns-2 t c =
+    let c6 = c .before .before .before .before .before .before in let c8 = c6 .before .before in
+    let c10 = c8 .before .before in
+    same (last-digit (c10 .args .n) (c8 .if1 .left) (omega arith))
+    (then (c6 .number .ensures) (c .before .before .put2 .ensures))
 
 pub +number-spec : {M : Type 1} → statement M
 +number-spec = close μ-number λ t. number-lts.spec (

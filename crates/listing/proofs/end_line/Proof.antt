@@ -20,14 +20,19 @@ number-requires c κs = room-first _ _ (room-then _ (c .before .before .before .
 
 put-requires : tie.Need-put-requires
 unfolding endLine
-put-requires c κs = room-then _ (room-then _ (c .before .before .before .before .before .before .before .before .before .before .before .pre) (c .before .before .before .before .before .before .before .plain .ensures)) (c .before .before .before .number .ensures)
+put-requires c κs =
+    let c3 = c .before .before .before in let c7 = c3 .before .before .before .before in
+    let c11 = c7 .before .before .before .before in
+    room-then _ (room-then _ (c11 .pre) (c7 .plain .ensures)) (c3 .number .ensures)
 
 same-length : tie.Need-same-length
 same-length c = search needs
 
 returns : tie.Need-returns
 unfolding endLine
-returns c = then (c .before .before .before .before .before .before .before .before .before .before .plain .ensures) (then (c .before .before .before .before .before .before .number .ensures) (c .before .before .put .ensures))
+returns c =
+    let c6 = c .before .before .before .before .before .before in let c10 = c6 .before .before .before .before in
+    then (c10 .plain .ensures) (then (c6 .number .ensures) (c .before .before .put .ensures))
 
 pub end-line-spec : {M : Type 1} → statement M
 end-line-spec =

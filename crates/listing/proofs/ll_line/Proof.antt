@@ -13,18 +13,25 @@ answer-head-requires c κs = room-first _ _ (c .before .before .before .pre .1)
 
 words-requires : tie.Need-words-requires
 unfolding llLine
-words-requires c κs = (c .before .before .before .before .before .before .before .pre .0, room-first _ _ (room-then _ (c .before .before .before .before .before .before .before .pre .1) (c .before .before .before .answer-head .ensures)))
+words-requires c κs =
+    let c3 = c .before .before .before in let c7 = c3 .before .before .before .before in
+    (c7 .pre .0, room-first _ _ (room-then _ (c7 .pre .1) (c3 .answer-head .ensures)))
 
 put-requires : tie.Need-put-requires
 unfolding llLine
-put-requires c κs = room-then _ (room-then _ (c .before .before .before .before .before .before .before .before .before .before .before .pre .1) (c .before .before .before .before .before .before .before .answer-head .ensures)) (c .before .before .before .words .ensures)
+put-requires c κs =
+    let c3 = c .before .before .before in let c7 = c3 .before .before .before .before in
+    let c11 = c7 .before .before .before .before in
+    room-then _ (room-then _ (c11 .pre .1) (c7 .answer-head .ensures)) (c3 .words .ensures)
 
 same-length : tie.Need-same-length
 same-length c = search needs
 
 returns : tie.Need-returns
 unfolding llLine
-returns c = then (c .before .before .before .before .before .before .before .before .before .before .answer-head .ensures) (then (c .before .before .before .before .before .before .words .ensures) (c .before .before .put .ensures))
+returns c =
+    let c6 = c .before .before .before .before .before .before in let c10 = c6 .before .before .before .before in
+    then (c10 .answer-head .ensures) (then (c6 .words .ensures) (c .before .before .put .ensures))
 
 pub ll-line-spec : {M : Type 1} → statement M
 ll-line-spec =

@@ -29,7 +29,9 @@ shared-slice-read-put : tie.Need-shared-slice-read-put Inv-loop μ-loop
 shared-slice-read-put c = omega (arith, c .before .before .loop-test .taken)
 
 put-requires : tie.Need-put-requires Inv-loop μ-loop
-put-requires c κs = byte-room _ _ (c .before .before .loop-test .taken) (c .before .before .before .before .before .before .pre) (c .before .before .before .loop .inv .wrote)
+put-requires c κs =
+    let c3 = c .before .before .before in let c6 = c3 .before .before .before in
+    byte-room _ _ (c .before .before .loop-test .taken) (c6 .pre) (c3 .loop .inv .wrote)
 
 add-i : tie.Need-add-i Inv-loop μ-loop
 add-i c = omega (arith, c .before .before .before .before .before .loop-test .taken)
@@ -38,7 +40,10 @@ loop-less : tie.Need-loop-less Inv-loop μ-loop
 loop-less c = omega (arith, c .before .before .before .before .before .loop-test .taken)
 
 loop-again : tie.Need-loop-again Inv-loop μ-loop
-loop-again c = record { wrote = same (take-more _ _ (c .before .before .before .before .before .loop-test .taken)) (then (c .before .before .before .before .before .before .loop .inv .wrote) (c .before .before .put .ensures)); within = omega (arith, c .before .before .before .before .before .loop-test .taken) }
+loop-again c =
+    let c5 = c .before .before .before .before .before in let c6 = c5 .before in
+    record
+    { wrote = same (take-more _ _ (c5 .loop-test .taken)) (then (c6 .loop .inv .wrote) (c .before .before .put .ensures)); within = omega (arith, c5 .loop-test .taken) }
 
 same-length : tie.Need-same-length Inv-loop μ-loop
 same-length c = kept (c .before .loop .inv .wrote)

@@ -20,22 +20,39 @@ number-requires c κs = room-first _ _ (room-then _ (c .before .before .before .
 
 put-requires : tie.Need-put-requires
 unfolding refusedLine
-put-requires c κs = room-first _ _ (room-then _ (room-then _ (c .before .before .before .before .before .before .before .before .before .before .before .pre) (c .before .before .before .before .before .before .before .plain .ensures)) (c .before .before .before .number .ensures))
+put-requires c κs =
+    let c3 = c .before .before .before in let c7 = c3 .before .before .before .before in
+    let c11 = c7 .before .before .before .before in
+    room-first _ _ (room-then _ (room-then _ (c11 .pre) (c7 .plain .ensures)) (c3 .number .ensures))
 
 number-requires-2 : tie.Need-number-requires-2
 unfolding refusedLine
-number-requires-2 c κs = room-first _ _ (room-then _ (room-then _ (room-then _ (c .before .before .before .before .before .before .before .before .before .before .before .before .before .before .before .pre) (c .before .before .before .before .before .before .before .before .before .before .before .plain .ensures)) (c .before .before .before .before .before .before .before .number .ensures)) (c .before .before .before .put .ensures))
+number-requires-2 c κs =
+    let c3 = c .before .before .before in let c7 = c3 .before .before .before .before in
+    let c11 = c7 .before .before .before .before in let c15 = c11 .before .before .before .before in
+    room-first _ _
+    (room-then _ (room-then _ (room-then _ (c15 .pre) (c11 .plain .ensures)) (c7 .number .ensures)) (c3 .put .ensures))
 
 put-requires-2 : tie.Need-put-requires-2
 unfolding refusedLine
-put-requires-2 c κs = room-then _ (room-then _ (room-then _ (room-then _ (c .before .before .before .before .before .before .before .before .before .before .before .before .before .before .before .before .before .before .before .pre) (c .before .before .before .before .before .before .before .before .before .before .before .before .before .before .before .plain .ensures)) (c .before .before .before .before .before .before .before .before .before .before .before .number .ensures)) (c .before .before .before .before .before .before .before .put .ensures)) (c .before .before .before .number2 .ensures)
+put-requires-2 c κs =
+    let c3 = c .before .before .before in let c7 = c3 .before .before .before .before in
+    let c11 = c7 .before .before .before .before in let c15 = c11 .before .before .before .before in
+    let c19 = c15 .before .before .before .before in
+    room-then _
+    (room-then _ (room-then _ (room-then _ (c19 .pre) (c15 .plain .ensures)) (c11 .number .ensures)) (c7 .put .ensures))
+    (c3 .number2 .ensures)
 
 same-length : tie.Need-same-length
 same-length c = search needs
 
 returns : tie.Need-returns
 unfolding refusedLine
-returns c = then (c .before .before .before .before .before .before .before .before .before .before .before .before .before .before .before .before .before .before .plain .ensures) (then (c .before .before .before .before .before .before .before .before .before .before .before .before .before .before .number .ensures) (then (c .before .before .before .before .before .before .before .before .before .before .put .ensures) (then (c .before .before .before .before .before .before .number2 .ensures) (c .before .before .put2 .ensures))))
+returns c =
+    let c6 = c .before .before .before .before .before .before in let c10 = c6 .before .before .before .before in
+    let c14 = c10 .before .before .before .before in let c18 = c14 .before .before .before .before in
+    then (c18 .plain .ensures)
+    (then (c14 .number .ensures) (then (c10 .put .ensures) (then (c6 .number2 .ensures) (c .before .before .put2 .ensures))))
 
 pub refused-line-spec : {M : Type 1} → statement M
 refused-line-spec =

@@ -15,28 +15,36 @@ slice-aggregate-plain c = search needs
 
 plain-requires : tie.Need-plain-requires
 unfolding truthLine
-plain-requires c κs = room-same (ap truth (c .before .before .if1 .taken)) (room-then _ (c .before .before .before .before .before .before .before .before .pre) (c .before .before .before .before .before .answer-head .ensures))
+plain-requires c κs =
+    let c5 = c .before .before .before .before .before in let c8 = c5 .before .before .before in
+    room-same (ap truth (c .before .before .if1 .taken)) (room-then _ (c8 .pre) (c5 .answer-head .ensures))
 
 same-length : tie.Need-same-length
 same-length c = search needs
 
 returns : tie.Need-returns
 unfolding truthLine
-returns c = then (c .before .before .before .before .before .before .before .before .answer-head .ensures) (same (ap truth (c .before .before .before .before .before .if1 .taken)) (c .before .before .plain .ensures))
+returns c =
+    let c5 = c .before .before .before .before .before in let c8 = c5 .before .before .before in
+    then (c8 .answer-head .ensures) (same (ap truth (c5 .if1 .taken)) (c .before .before .plain .ensures))
 
 slice-aggregate-plain-2 : tie.Need-slice-aggregate-plain-2
 slice-aggregate-plain-2 c = search needs
 
 plain-requires-2 : tie.Need-plain-requires-2
 unfolding truthLine
-plain-requires-2 c κs = room-same (ap truth (c .before .before .if1 .left)) (room-then _ (c .before .before .before .before .before .before .before .before .pre) (c .before .before .before .before .before .answer-head .ensures))
+plain-requires-2 c κs =
+    let c5 = c .before .before .before .before .before in let c8 = c5 .before .before .before in
+    room-same (ap truth (c .before .before .if1 .left)) (room-then _ (c8 .pre) (c5 .answer-head .ensures))
 
 same-length-2 : tie.Need-same-length-2
 same-length-2 c = search needs
 
 returns-2 : tie.Need-returns-2
 unfolding truthLine
-returns-2 c = then (c .before .before .before .before .before .before .before .before .answer-head .ensures) (same (ap truth (c .before .before .before .before .before .if1 .left)) (c .before .before .plain2 .ensures))
+returns-2 c =
+    let c5 = c .before .before .before .before .before in let c8 = c5 .before .before .before in
+    then (c8 .answer-head .ensures) (same (ap truth (c5 .if1 .left)) (c .before .before .plain2 .ensures))
 
 pub truth-line-spec : {M : Type 1} → statement M
 truth-line-spec =

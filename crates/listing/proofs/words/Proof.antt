@@ -27,19 +27,32 @@ unfolding wordsOf
 loop-holds c = record { wrote = none _ _; within = omega arith }
 
 put-requires : tie.Need-put-requires Inv-loop μ-loop
-put-requires c κs = room-first _ _ (word-room _ _ _ (c .before .before .before .before .before .pre .0) _ (c .before .loop-test .taken) (c .before .before .before .before .before .pre .1) (c .before .before .loop .inv .wrote))
+put-requires c κs =
+    let c5 = c .before .before .before .before .before in
+    room-first _ _
+    (word-room _ _ _ (c5 .pre .0) _ (c .before .loop-test .taken) (c5 .pre .1) (c .before .before .loop .inv .wrote))
 
 add-number : tie.Need-add-number Inv-loop μ-loop
-add-number c = omega (arith, c .before .before .before .before .before .loop-test .taken, c .before .before .before .before .before .before .before .before .before .pre .0)
+add-number c =
+    let c5 = c .before .before .before .before .before in let c9 = c5 .before .before .before .before in
+    omega (arith, c5 .loop-test .taken, c9 .pre .0)
 
 mul-number : tie.Need-mul-number Inv-loop μ-loop
-mul-number c = omega (arith, c .before .before .before .before .before .loop-test .taken, c .before .before .before .before .before .before .before .before .before .pre .0)
+mul-number c =
+    let c5 = c .before .before .before .before .before in let c9 = c5 .before .before .before .before in
+    omega (arith, c5 .loop-test .taken, c9 .pre .0)
 
 shared-slice-read-number : tie.Need-shared-slice-read-number Inv-loop μ-loop
-shared-slice-read-number c = omega (arith, c .before .before .before .before .before .before .loop-test .taken, c .before .before .before .before .before .before .before .before .before .before .pre .0)
+shared-slice-read-number c =
+    let c6 = c .before .before .before .before .before .before in let c10 = c6 .before .before .before .before in
+    omega (arith, c6 .loop-test .taken, c10 .pre .0)
 
 number-requires : tie.Need-number-requires Inv-loop μ-loop
-number-requires c κs = room-first _ _ (room-then _ (word-room _ _ _ (c .before .before .before .before .before .before .before .before .before .before .pre .0) _ (c .before .before .before .before .before .before .loop-test .taken) (c .before .before .before .before .before .before .before .before .before .before .pre .1) (c .before .before .before .before .before .before .before .loop .inv .wrote)) (c .before .before .before .before .put .ensures))
+number-requires c κs =
+    let c4 = c .before .before .before .before in let c6 = c4 .before .before in let c7 = c6 .before in
+    let c10 = c7 .before .before .before in
+    room-first _ _
+    (room-then _ (word-room _ _ _ (c10 .pre .0) _ (c6 .loop-test .taken) (c10 .pre .1) (c7 .loop .inv .wrote)) (c4 .put .ensures))
 
 add-i : tie.Need-add-i Inv-loop μ-loop
 add-i c = omega (arith, c .before .before .before .before .before .before .before .before .before .loop-test .taken)
@@ -48,7 +61,11 @@ loop-less : tie.Need-loop-less Inv-loop μ-loop
 loop-less c = omega (arith, c .before .before .before .before .before .before .before .before .before .loop-test .taken)
 
 loop-again : tie.Need-loop-again Inv-loop μ-loop
-loop-again c = record { wrote = same (word-more _ _ _ (c .before .before .before .before .before .before .before .before .before .before .before .before .before .pre .0) _ (c .before .before .before .before .before .before .before .before .before .loop-test .taken)) (then (c .before .before .before .before .before .before .before .before .before .before .loop .inv .wrote) (then (c .before .before .before .before .before .before .before .put .ensures) (c .before .before .number .ensures))); within = omega (arith, c .before .before .before .before .before .before .before .before .before .loop-test .taken) }
+loop-again c =
+    let c7 = c .before .before .before .before .before .before .before in let c9 = c7 .before .before in
+    let c10 = c9 .before in let c13 = c10 .before .before .before in
+    record
+    { wrote = same (word-more _ _ _ (c13 .pre .0) _ (c9 .loop-test .taken)) (then (c10 .loop .inv .wrote) (then (c7 .put .ensures) (c .before .before .number .ensures))); within = omega (arith, c9 .loop-test .taken) }
 
 same-length : tie.Need-same-length Inv-loop μ-loop
 same-length c = kept (c .before .loop .inv .wrote)

@@ -33,7 +33,10 @@ skip-requires : tie.Need-skip-requires
 skip-requires c κs = search needs
 
 returns-2 : tie.Need-returns-2
-returns-2 c = D.byte (c .before .before .before .before .before .before .if1 .left) (sym (c .before .before .before .before .class .ensures) ∙ c .before .before .enum-told2 .given .1) (record { next = _; skipped = c .before .skip .ensures; behind = D.ends (c .if2 .taken) })
+returns-2 c =
+    let c4 = c .before .before .before .before in let c6 = c4 .before .before in
+    D.byte (c6 .if1 .left) (sym (c4 .class .ensures) ∙ c .before .before .enum-told2 .given .1)
+    (record { next = _; skipped = c .before .skip .ensures; behind = D.ends (c .if2 .taken) })
 
 shared-slice-read-class-2 : tie.Need-shared-slice-read-class-2
 shared-slice-read-class-2 c = search needs
@@ -54,13 +57,25 @@ returns-3 : tie.Need-returns-3
 returns-3 c = D.byte (c .before .before .before .before .if1 .left) (sym (c .before .before .class .ensures) ∙ c .enum-told .given .1) refl
 
 returns-4 : tie.Need-returns-4
-returns-4 c = D.byte (c .before .before .before .before .before .before .before .before .before .before .if1 .left) (sym (c .before .before .before .before .before .before .before .before .class .ensures) ∙ c .before .before .before .before .before .before .enum-told2 .given .1) (record { next = _; skipped = c .before .before .before .before .before .skip .ensures; behind = D.byte (c .before .before .before .before .if2 .left) (sym (c .before .before .class2 .ensures) ∙ c .enum-told3 .given .1) refl })
+returns-4 c =
+    let c4 = c .before .before .before .before in let c5 = c4 .before in let c6 = c5 .before in
+    let c8 = c6 .before .before in let c10 = c8 .before .before in
+    D.byte (c10 .if1 .left) (sym (c8 .class .ensures) ∙ c6 .enum-told2 .given .1)
+    (record { next = _; skipped = c5 .skip .ensures; behind = D.byte (c4 .if2 .left) (sym (c .before .before .class2 .ensures) ∙ c .enum-told3 .given .1) refl })
 
 returns-5 : tie.Need-returns-5
-returns-5 c = D.byte (c .before .before .before .before .before .before .before .before .before .before .if1 .left) (sym (c .before .before .before .before .before .before .before .before .class .ensures) ∙ c .before .before .before .before .before .before .enum-told2 .given .1) (record { next = _; skipped = c .before .before .before .before .before .skip .ensures; behind = D.byte (c .before .before .before .before .if2 .left) (sym (c .before .before .class2 .ensures) ∙ c .enum-told4 .given .1) refl })
+returns-5 c =
+    let c4 = c .before .before .before .before in let c5 = c4 .before in let c6 = c5 .before in
+    let c8 = c6 .before .before in let c10 = c8 .before .before in
+    D.byte (c10 .if1 .left) (sym (c8 .class .ensures) ∙ c6 .enum-told2 .given .1)
+    (record { next = _; skipped = c5 .skip .ensures; behind = D.byte (c4 .if2 .left) (sym (c .before .before .class2 .ensures) ∙ c .enum-told4 .given .1) refl })
 
 returns-6 : tie.Need-returns-6
-returns-6 c = D.byte (c .before .before .before .before .before .before .before .before .before .if1 .left) (sym (c .before .before .before .before .before .before .before .class .ensures) ∙ c .before .before .before .before .before .enum-told2 .given .1) (record { next = _; skipped = c .before .before .before .before .skip .ensures; behind = D.byte (c .before .before .before .if2 .left) (sym (c .before .class2 .ensures)) (gap-stray _ (c .before .class2 .result) (c .match2 .keys3)) })
+returns-6 c =
+    let c3 = c .before .before .before in let c4 = c3 .before in let c5 = c4 .before in
+    let c7 = c5 .before .before in let c9 = c7 .before .before in
+    D.byte (c9 .if1 .left) (sym (c7 .class .ensures) ∙ c5 .enum-told2 .given .1)
+    (record { next = _; skipped = c4 .skip .ensures; behind = D.byte (c3 .if2 .left) (sym (c .before .class2 .ensures)) (gap-stray _ (c .before .class2 .result) (c .match2 .keys3)) })
 
 returns-7 : tie.Need-returns-7
 returns-7 c = D.byte (c .before .before .before .if1 .left) (sym (c .before .class .ensures)) (stray _ _ (c .before .class .result) (c .match .keys3))

@@ -10,14 +10,17 @@ use Rattle.notation.proofs.begin.Tie as tie
 number-at-requires : tie.Need-number-at-requires
 number-at-requires c κs = search needs
 
-enum-told : tie.Need-enum-told
-enum-told c = search needs
-
 enum-known-got : tie.Need-enum-known-got
 enum-known-got c = search needs
 
+enum-known-got-2 : tie.Need-enum-known-got-2
+enum-known-got-2 c = search needs
+
 returns : tie.Need-returns
-returns c = ends (subst (NumberAtSays _ _) (c .before .before .got .given .1) (c .before .before .before .before .number-at .ensures)) (c .if1 .taken)
+returns c =
+    let c2 = c .before .before in let c4 = c2 .before .before in
+    let w = subst (NumberAtSays _ _) (c2 .got2 .given .1) (c4 .number-at .ensures) in
+    ends w (c .if1 .taken)
 
 shared-slice-read-class : tie.Need-shared-slice-read-class
 shared-slice-read-class c = search needs
@@ -31,11 +34,11 @@ enum-known-sign c = search needs
 entry-of-requires : tie.Need-entry-of-requires
 entry-of-requires c κs = search needs
 
-add-t18 : tie.Need-add-t18
-add-t18 c = search needs
+add-t21 : tie.Need-add-t21
+add-t21 c = search needs
 
-enum-told-2 : tie.Need-enum-told-2
-enum-told-2 c = search needs
+enum-told : tie.Need-enum-told
+enum-told c = search needs
 
 add-number-at : tie.Need-add-number-at
 add-number-at c = search needs
@@ -43,64 +46,123 @@ add-number-at c = search needs
 number-at-requires-2 : tie.Need-number-at-requires-2
 number-at-requires-2 c κs = search needs
 
-enum-told-3 : tie.Need-enum-told-3
-enum-told-3 c = search needs
-
 enum-known-word : tie.Need-enum-known-word
 enum-known-word c = search needs
 
-enum-told-4 : tie.Need-enum-told-4
-enum-told-4 c = search needs
+enum-known-word-2 : tie.Need-enum-known-word-2
+enum-known-word-2 c = search needs
+
+enum-told-2 : tie.Need-enum-told-2
+enum-told-2 c = search needs
 
 returns-2 : tie.Need-returns-2
-returns-2 c = signed (subst (NumberAtSays _ _) (c .before .before .before .before .before .before .before .got .given .1) (c .before .before .before .before .before .before .before .before .before .number-at .ensures)) (c .before .before .before .before .before .if1 .left) (sym (c .before .before .before .class .ensures) ∙ c .before .enum-told4 .given .1) (count-zero _ _ (c .if2 .taken))
+returns-2 c =
+    let c1 = c .before in
+    let c3 = c1 .before .before in
+    let c5 = c3 .before .before in
+    let c7 = c5 .before .before in
+    let c9 = c7 .before .before in
+    let w = subst (NumberAtSays _ _) (c7 .got2 .given .1) (c9 .number-at .ensures) in
+    let e = sym (c3 .class .ensures) ∙ c1 .enum-told2 .given .1 in
+    signed w (c5 .if1 .left) e (count-zero _ _ _ (c .if2 .taken))
 
 returns-3 : tie.Need-returns-3
-returns-3 c = signed (subst (NumberAtSays _ _) (c .before .before .before .before .before .before .before .before .got .given .1) (c .before .before .before .before .before .before .before .before .before .before .number-at .ensures)) (c .before .before .before .before .before .before .if1 .left) (sym (c .before .before .before .before .class .ensures) ∙ c .before .before .enum-told4 .given .1) (count-over _ _ (c .before .if2 .left) (c .if3 .taken))
+returns-3 c =
+    let c1 = c .before in
+    let c2 = c1 .before in
+    let c4 = c2 .before .before in
+    let c6 = c4 .before .before in
+    let c8 = c6 .before .before in
+    let c10 = c8 .before .before in
+    let w = subst (NumberAtSays _ _) (c8 .got2 .given .1) (c10 .number-at .ensures) in
+    let e = sym (c4 .class .ensures) ∙ c2 .enum-told2 .given .1 in
+    signed w (c6 .if1 .left) e (count-over _ _ _ (c1 .if2 .left) (c .if3 .taken))
 
-add-t23 : tie.Need-add-t23
-add-t23 c = search needs
+add-t26 : tie.Need-add-t26
+add-t26 c = search needs
 
 returns-4 : tie.Need-returns-4
-returns-4 c = none (subst (NumberAtSays _ _) (c .enum-told .given .1) (c .before .before .number-at .ensures))
+returns-4 c =
+    let c1 = c .before in let c3 = c1 .before .before in
+    none (subst (NumberAtSays _ _) (c1 .got .given .1) (c3 .number-at .ensures))
 
 returns-5 : tie.Need-returns-5
-returns-5 c = rw (c .entry-of .ensures) (signed (subst (NumberAtSays _ _) (c .before .before .before .before .before .before .before .before .got .given .1) (c .before .before .before .before .before .before .before .before .before .before .number-at .ensures)) (c .before .before .before .before .before .before .if1 .left) (sym (c .before .before .before .before .class .ensures) ∙ c .before .before .sign .given .1) refl)
+returns-5 c =
+    let c2 = c .before .before in
+    let c4 = c2 .before .before in
+    let c6 = c4 .before .before in
+    let c8 = c6 .before .before in
+    let c10 = c8 .before .before in
+    let w = subst (NumberAtSays _ _) (c8 .got2 .given .1) (c10 .number-at .ensures) in
+    let e = sym (c4 .class .ensures) ∙ c2 .sign .given .1 in
+    rw (c .entry-of .ensures) (signed w (c6 .if1 .left) e refl)
 
 returns-6 : tie.Need-returns-6
-returns-6 c = signed (subst (NumberAtSays _ _) (c .before .before .before .before .before .before .before .before .before .got .given .1) (c .before .before .before .before .before .before .before .before .before .before .before .number-at .ensures)) (c .before .before .before .before .before .before .before .if1 .left) (sym (c .before .before .before .before .before .class .ensures) ∙ c .before .before .before .enum-told2 .given .1) (record { number = NoNumber; is = subst (NumberAtSays _ _) (c .enum-told3 .given .1) (c .before .before .number-at2 .ensures); same = refl })
+returns-6 c =
+    let c1 = c .before in
+    let c3 = c1 .before .before in
+    let c4 = c3 .before in
+    let c6 = c4 .before .before in
+    let c8 = c6 .before .before in
+    let c10 = c8 .before .before in
+    let c12 = c10 .before .before in
+    let w = subst (NumberAtSays _ _) (c10 .got2 .given .1) (c12 .number-at .ensures) in
+    let e = sym (c6 .class .ensures) ∙ c4 .enum-told .given .1 in
+    signed w (c8 .if1 .left) e (record { number = NoNumber _; is = subst (NumberAtSays _ _) (c1 .word .given .1) (c3 .number-at2 .ensures); same = refl })
 
 returns-7 : tie.Need-returns-7
-returns-7 c = signed (subst (NumberAtSays _ _) (c .before .before .before .before .before .before .before .before .before .before .got .given .1) (c .before .before .before .before .before .before .before .before .before .before .before .before .number-at .ensures)) (c .before .before .before .before .before .before .before .before .if1 .left) (sym (c .before .before .before .before .before .before .class .ensures) ∙ c .before .before .before .before .enum-told2 .given .1) (record { number = Value _ _; is = subst (NumberAtSays _ _) (c .before .word .given .1) (c .before .before .before .number-at2 .ensures); same = refl })
+returns-7 c =
+    let c1 = c .before in
+    let c3 = c1 .before .before in
+    let c4 = c3 .before in
+    let c6 = c4 .before .before in
+    let c8 = c6 .before .before in
+    let c10 = c8 .before .before in
+    let c12 = c10 .before .before in
+    let w = subst (NumberAtSays _ _) (c10 .got2 .given .1) (c12 .number-at .ensures) in
+    let e = sym (c6 .class .ensures) ∙ c4 .enum-told .given .1 in
+    signed w (c8 .if1 .left) e (record { number = Value _ _; is = subst (NumberAtSays _ _) (c1 .word2 .given .1) (c3 .number-at2 .ensures); same = refl })
 
 returns-8 : tie.Need-returns-8
-returns-8 c = signed (subst (NumberAtSays _ _) (c .before .before .before .before .before .before .before .before .got .given .1) (c .before .before .before .before .before .before .before .before .before .before .number-at .ensures)) (c .before .before .before .before .before .before .if1 .left) (sym (c .before .before .before .before .class .ensures) ∙ c .before .before .enum-told4 .given .1) (count-fits _ _ (c .before .if2 .left) (c .if3 .left))
+returns-8 c =
+    let c1 = c .before in
+    let c2 = c1 .before in
+    let c4 = c2 .before .before in
+    let c6 = c4 .before .before in
+    let c8 = c6 .before .before in
+    let c10 = c8 .before .before in
+    let w = subst (NumberAtSays _ _) (c8 .got2 .given .1) (c10 .number-at .ensures) in
+    let e = sym (c4 .class .ensures) ∙ c2 .enum-told2 .given .1 in
+    signed w (c6 .if1 .left) e (count-fits _ _ _ (c1 .if2 .left) (c .if3 .left))
 
 returns-9 : tie.Need-returns-9
-returns-9 c = signed (subst (NumberAtSays _ _) (c .before .before .before .before .before .got .given .1) (c .before .before .before .before .before .before .before .number-at .ensures)) (c .before .before .before .if1 .left) (sym (c .before .class .ensures)) (unsigned _ _ _ (c .before .class .result) (c .match2 .keys4))
+returns-9 c =
+    let c1 = c .before in let c3 = c1 .before .before in let c5 = c3 .before .before in let c7 = c5 .before .before in
+    let w = subst (NumberAtSays _ _) (c5 .got2 .given .1) (c7 .number-at .ensures) in
+    signed w (c3 .if1 .left) (sym (c1 .class .ensures)) (unsigned _ _ _ (c1 .class .result) (c .match2 .keys4))
 
 pub begin-spec : {M : Type 1} → statement M
 begin-spec =
     tie.close
     (tie.spec
     number-at-requires
-    enum-told
     enum-known-got
+    enum-known-got-2
     returns
     shared-slice-read-class
     class-requires
     enum-known-sign
     entry-of-requires
-    add-t18
-    enum-told-2
+    add-t21
+    enum-told
     add-number-at
     number-at-requires-2
-    enum-told-3
     enum-known-word
-    enum-told-4
+    enum-known-word-2
+    enum-told-2
     returns-2
     returns-3
-    add-t23
+    add-t26
     returns-4
     returns-5
     returns-6

@@ -56,7 +56,10 @@ returns-11 c = let r = c .before .match .rest in simp (lt-leb _ _ (c .if1 .taken
 
 returns-12 : tie.Need-returns-12
 unfolding kindOf
-returns-12 c = let h : 57 < c .before .before .before .args .b = omega (arith, c .if2 .left) in let r = c .before .before .match .rest in simp (le-leb _ _ (c .before .if1 .left), lt-leb _ _ h, ne-eqb _ _ (r .0 .0 .1), ne-eqb _ _ (r .0 .1), ne-eqb _ _ (r .1))
+returns-12 c =
+    let c3 = c .before .before .before in
+    let h : 57 < c3 .args .b = omega (arith, c .if2 .left) in let r = c .before .before .match .rest in simp
+    (le-leb _ _ (c .before .if1 .left), lt-leb _ _ h, ne-eqb _ _ (r .0 .0 .1), ne-eqb _ _ (r .0 .1), ne-eqb _ _ (r .1))
 
 pub class-spec : {M : Type 1} → statement M
 class-spec = tie.close (tie.spec sub-t9 returns returns-2 returns-3 returns-4 returns-5 returns-6 returns-7 returns-8 returns-9 returns-10 returns-11 returns-12)

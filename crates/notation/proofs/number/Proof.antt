@@ -38,16 +38,31 @@ enum-known-k : tie.Need-enum-known-k Inv-loop μ-loop
 enum-known-k c = search needs
 
 returns : tie.Need-returns Inv-loop μ-loop
-returns c = let a = c .before .before .before .before in record { stops = λ h. ap isDigit (sym (c .before .class .ensures)) ∙ not-digit (c .before .class .result) (c .match .keys2); small = a .loop .inv .small; on = a .loop .inv .on; within = a .loop .inv .within; counts = a .loop .inv .counts }
+returns c =
+    let c4 = c .before .before .before .before in
+    let a = c4 in record
+    { stops = λ h. ap isDigit (sym (c .before .class .ensures)) ∙ not-digit (c .before .class .result) (c .match .keys2); small = a .loop .inv .small; on = a .loop .inv .on; within = a .loop .inv .within; counts = a .loop .inv .counts }
 
 mul-more : tie.Need-mul-more Inv-loop μ-loop
 mul-more c = let a = c .before .before .before .before .before .before in omega (arith, a .loop .inv .small)
 
 add-more : tie.Need-add-more Inv-loop μ-loop
-add-more c = let a = c .before .before .before .before .before .before in omega (arith, a .loop .inv .small, digit-small _ _ (sym (c .before .before .before .class .ensures) ∙ c .before .k .given .1))
+add-more c =
+    let c3 = c .before .before .before in let c6 = c3 .before .before .before in
+    let a = c6 in omega
+    (arith, a .loop .inv .small, digit-small _ _ (sym (c3 .class .ensures) ∙ c .before .k .given .1))
 
 returns-2 : tie.Need-returns-2 Inv-loop μ-loop
-returns-2 c = let a = c .before .before .before .before .before .before .before in record { next = _; v′ = _; d = _; counts = a .loop .inv .counts; here = c .before .before .before .before .before .before .loop-test .taken; is = sym (c .before .before .before .before .class .ensures) ∙ c .before .before .k .given .1; large = omega (arith, c .if1 .taken) }
+returns-2 c =
+    let c2 = c .before .before in let c4 = c2 .before .before in let c6 = c4 .before .before in let c7 = c6 .before in
+    record {
+      v′ = _;
+      d = _;
+      counts = c7 .loop .inv .counts;
+      here = c6 .loop-test .taken;
+      is = sym (c4 .class .ensures) ∙ c2 .k .given .1;
+      large = omega (arith, c .if1 .taken);
+    }
 
 add-next : tie.Need-add-next Inv-loop μ-loop
 add-next c = omega arith
@@ -56,7 +71,10 @@ loop-less : tie.Need-loop-less Inv-loop μ-loop
 loop-less c = omega arith
 
 loop-again : tie.Need-loop-again Inv-loop μ-loop
-loop-again c = let a = c .before .before .before .before .before .before .before in record { on = omega (arith, a .loop .inv .on); within = omega arith; small = c .if1 .left; counts = digit (a .loop .inv .counts) (c .before .before .before .before .before .before .loop-test .taken) (sym (c .before .before .before .before .class .ensures) ∙ c .before .before .k .given .1) (c .if1 .left) }
+loop-again c =
+    let c4 = c .before .before .before .before in let c6 = c4 .before .before in let c7 = c6 .before in
+    let a = c7 in record
+    { on = omega (arith, a .loop .inv .on); within = omega arith; small = c .if1 .left; counts = digit (a .loop .inv .counts) (c6 .loop-test .taken) (sym (c4 .class .ensures) ∙ c .before .before .k .given .1) (c .if1 .left) }
 
 returns-3 : tie.Need-returns-3 Inv-loop μ-loop
 returns-3 c = let a = c .before in record { stops = λ h. absurd (lt-irrefl _ (lt-of-lt-of-le h (c .loop-test .left))); small = a .loop .inv .small; on = a .loop .inv .on; within = a .loop .inv .within; counts = a .loop .inv .counts }

@@ -23,16 +23,24 @@ enum-known-k : tie.Need-enum-known-k
 enum-known-k c = search needs
 
 returns-2 : tie.Need-returns-2
-returns-2 c = other (c .before .before .before .if1 .left) (ap isDigit (sym (c .before .class .ensures)) ∙ not-digit (c .before .class .result) (c .match .keys2))
+returns-2 c =
+    let c3 = c .before .before .before in
+    other (c3 .if1 .left)
+    (ap isDigit (sym (c .before .class .ensures)) ∙ not-digit (c .before .class .result) (c .match .keys2))
 
 add-number : tie.Need-add-number
 add-number c = search needs
 
 number-requires : tie.Need-number-requires
-number-requires c κs = (omega (arith, c .before .before .before .before .before .if1 .left), omega (arith, digit-small _ _ (sym (c .before .before .before .class .ensures) ∙ c .before .k .given .1)))
+number-requires c κs =
+    let c3 = c .before .before .before in let c5 = c3 .before .before in
+    (omega (arith, c5 .if1 .left), omega (arith, digit-small _ _ (sym (c3 .class .ensures) ∙ c .before .k .given .1)))
 
 returns-3 : tie.Need-returns-3
-returns-3 c = number-whole _ _ _ (c .number .result) (c .before .before .before .before .before .before .if1 .left) (sym (c .before .before .before .before .class .ensures) ∙ c .before .before .k .given .1) (c .number .ensures)
+returns-3 c =
+    let c4 = c .before .before .before .before in let c6 = c4 .before .before in
+    number-whole _ _ _ (c .number .result) (c6 .if1 .left)
+    (sym (c4 .class .ensures) ∙ c .before .before .k .given .1) (c .number .ensures)
 
 pub number-at-spec : {M : Type 1} → statement M
 number-at-spec =

@@ -36,7 +36,10 @@ enum-told : tie.Need-enum-told Inv-loop μ-loop
 enum-told c = search needs
 
 returns : tie.Need-returns Inv-loop μ-loop
-returns c = let a = c .before .before .before .before in record { gaps = a .loop .inv .gaps; on = a .loop .inv .on; within = a .loop .inv .within; stops = λ h. ap isGap (sym (c .before .class .ensures)) ∙ not-gap (c .before .class .result) (c .match .keys2) }
+returns c =
+    let c4 = c .before .before .before .before in
+    let a = c4 in record
+    { gaps = a .loop .inv .gaps; on = a .loop .inv .on; within = a .loop .inv .within; stops = λ h. ap isGap (sym (c .before .class .ensures)) ∙ not-gap (c .before .class .result) (c .match .keys2) }
 
 add-next : tie.Need-add-next Inv-loop μ-loop
 add-next c = omega arith
@@ -45,7 +48,10 @@ loop-less : tie.Need-loop-less Inv-loop μ-loop
 loop-less c = omega arith
 
 loop-again : tie.Need-loop-again Inv-loop μ-loop
-loop-again c = let a = c .before .before .before .before .before in record { on = omega (arith, a .loop .inv .on); within = omega arith; gaps = gap (a .loop .inv .gaps) (c .before .before .before .before .loop-test .taken) (sym (c .before .before .class .ensures) ∙ c .enum-told .given .1) }
+loop-again c =
+    let c4 = c .before .before .before .before in let c5 = c4 .before in
+    let a = c5 in record
+    { on = omega (arith, a .loop .inv .on); within = omega arith; gaps = gap (a .loop .inv .gaps) (c4 .loop-test .taken) (sym (c .before .before .class .ensures) ∙ c .enum-told .given .1) }
 
 returns-2 : tie.Need-returns-2 Inv-loop μ-loop
 returns-2 c = let a = c .before in record { gaps = a .loop .inv .gaps; on = a .loop .inv .on; within = a .loop .inv .within; stops = λ h. absurd (lt-irrefl _ (lt-of-lt-of-le h (c .loop-test .left))) }

@@ -1,9 +1,11 @@
 //! `witness bench-text KIND N W`: long texts to measure a program with.
 
-use crate::schedule::{listing_of, ENTRY_LIMIT};
+use crate::schedule::{listing_of, ENTRY_LIMIT, TEXT_LIMIT};
 use crate::texts::repeat;
 
-pub const KINDS: [&str; 6] = ["load", "store", "turns", "helped", "flat", "deep"];
+pub const KINDS: [&str; 8] = [
+    "load", "store", "turns", "helped", "flat", "deep", "gaps", "numbers",
+];
 
 /// A text whose run ends, as near to 60,000 entries as the listing room
 /// and the text's length allow.
@@ -20,6 +22,8 @@ pub fn bench_text(kind: &str, n: u64, w: u64) -> Result<String, String> {
         "helped" if n == 1 => return Err("nobody can help where N is 1".to_string()),
         "helped" => longest(|times| first.clone() + &repeat(&helped(n, w), times)),
         "deep" => longest(|times| first.clone() + &deep(times)),
+        "gaps" => return Ok(longest(|times| first.clone() + &gaps(times, first.len()))),
+        "numbers" => return Ok(longest(|times| first.clone() + &numbers(n).repeat(times))),
         "flat" => return Ok(longest(|times| first.clone() + &flat(n, w).repeat(times))),
         _ => return Err(format!("KIND is one of {}", KINDS.join(", "))),
     };
@@ -62,6 +66,20 @@ fn deep(times: usize) -> String {
         stores(0..1),
         ")".repeat(outer)
     )
+}
+
+/// Long to read and short to run: a group of one LL with as many gaps
+/// inside as the text has room for.
+fn gaps(times: usize, before: usize) -> String {
+    let group = |gap: &str| format!("{times}({gap}{})", loads(1));
+    let room = TEXT_LIMIT.saturating_sub(before + group("").len());
+    group(&" ".repeat(room))
+}
+
+/// Long numbers: the value of each SC has ten digits.
+fn numbers(n: usize) -> String {
+    let store = |p: usize| format!("{p}l {p}! {p}s4294967295 {p}!\n");
+    (0..n).map(store).collect()
 }
 
 /// No groups, only items: the most text for its entries.

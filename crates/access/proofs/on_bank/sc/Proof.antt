@@ -3,9 +3,6 @@ use borrow.Author.Needs.{needs}
 use Rattle.access.proofs.on_bank.sc.Statement.{statement}
 use Rattle.access.proofs.on_bank.sc.Tie as tie
 
-bank-at-requires : tie.Need-bank-at-requires
-bank-at-requires c κs = search needs
-
 is-linked-requires : tie.Need-is-linked-requires
 is-linked-requires c κs = search needs
 
@@ -13,7 +10,7 @@ on-bank-requires : tie.Need-on-bank-requires
 on-bank-requires c κs = search needs
 
 returns : tie.Need-returns
-returns c = simp ((c .on-bank .ensures), (c .before .is-linked .ensures), (c .before .before .bank-at .ensures))
+returns c = simp (c .on-bank .ensures, c .before .is-linked .ensures)
 
 pub sc-spec : {M : Type 1} → statement M
-sc-spec = tie.close (tie.spec bank-at-requires is-linked-requires on-bank-requires returns)
+sc-spec = tie.close (tie.spec is-linked-requires on-bank-requires returns)

@@ -13,7 +13,7 @@ on-x-requires : tie.Need-on-x-requires
 on-x-requires c κs = search needs
 
 returns : tie.Need-returns
-returns c = simp ((c .on-x .ensures), (c .before .is-linked .ensures), (c .before .before .following .ensures))
+returns c = simp (c .on-x .ensures, c .before .is-linked .ensures, c .before .before .following .ensures)
 
 pub sc-spec : {M : Type 1} → statement M
 sc-spec = tie.close (tie.spec following-requires is-linked-requires on-x-requires returns)

@@ -7,7 +7,7 @@ is-linked-requires : tie.Need-is-linked-requires
 is-linked-requires c κs = search needs
 
 returns : tie.Need-returns
-returns c = simp ((c .is-linked .ensures))
+returns c = simp (c .is-linked .ensures)
 
 pub vl-spec : {M : Type 1} → statement M
 vl-spec = tie.close (tie.spec is-linked-requires returns)

@@ -15,14 +15,19 @@ number-requires c κs = room-first _ _ (room-then _ (c .before .before .before .
 
 put-requires-2 : tie.Need-put-requires-2
 unfolding bracketed
-put-requires-2 c κs = room-then _ (room-then _ (c .before .before .before .before .before .before .before .before .before .before .pre) (c .before .before .before .before .before .before .before .put .ensures)) (c .before .before .before .number .ensures)
+put-requires-2 c κs =
+    let c3 = c .before .before .before in let c7 = c3 .before .before .before .before in
+    let c10 = c7 .before .before .before in
+    room-then _ (room-then _ (c10 .pre) (c7 .put .ensures)) (c3 .number .ensures)
 
 same-length : tie.Need-same-length
 same-length c = search needs
 
 returns : tie.Need-returns
 unfolding bracketed
-returns c = then (c .before .before .before .before .before .before .before .before .before .before .put .ensures) (then (c .before .before .before .before .before .before .number .ensures) (c .before .before .put2 .ensures))
+returns c =
+    let c6 = c .before .before .before .before .before .before in let c10 = c6 .before .before .before .before in
+    then (c10 .put .ensures) (then (c6 .number .ensures) (c .before .before .put2 .ensures))
 
 pub bracketed-spec : {M : Type 1} → statement M
 bracketed-spec =

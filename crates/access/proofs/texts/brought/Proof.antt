@@ -11,14 +11,19 @@ use Rattle.access.proofs.texts.brought.Tie as tie
 
 spaced-requires : tie.Need-spaced-requires
 unfolding broughtText
-spaced-requires c κs = room-same (ap (λ (t : Bool). cond t (spaced (c .before .before .before .args .value)) []) (eq-eqb _ _ (c .before .if1 .taken))) (c .before .before .before .pre)
+spaced-requires c κs =
+    let c3 = c .before .before .before in
+    room-same (ap (λ (t : Bool). cond t (spaced (c3 .args .value)) []) (eq-eqb _ _ (c .before .if1 .taken))) (c3 .pre)
 
 same-length : tie.Need-same-length
 same-length c = search needs
 
 returns : tie.Need-returns
 unfolding broughtText
-returns c = same (ap (λ (t : Bool). cond t (spaced (c .before .before .before .before .before .before .args .value)) []) (eq-eqb _ _ (c .before .before .before .before .if1 .taken))) (c .before .before .spaced .ensures)
+returns c =
+    let c4 = c .before .before .before .before in let c6 = c4 .before .before in
+    same (ap (λ (t : Bool). cond t (spaced (c6 .args .value)) []) (eq-eqb _ _ (c4 .if1 .taken)))
+    (c .before .before .spaced .ensures)
 
 returns-2 : tie.Need-returns-2
 unfolding broughtText

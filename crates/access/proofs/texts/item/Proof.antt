@@ -24,14 +24,19 @@ slice-aggregate-plain-2 c = search needs
 
 plain-requires-2 : tie.Need-plain-requires-2
 unfolding itemText
-plain-requires-2 c κs = room-first _ _ (room-same (ap itemText (c .before .before .before .item .given .1)) (c .before .before .before .before .before .before .pre))
+plain-requires-2 c κs =
+    let c3 = c .before .before .before in let c6 = c3 .before .before .before in
+    room-first _ _ (room-same (ap itemText (c3 .item .given .1)) (c6 .pre))
 
 cast-bracketed : tie.Need-cast-bracketed
 cast-bracketed c = search needs
 
 bracketed-requires : tie.Need-bracketed-requires
 unfolding itemText
-bracketed-requires c κs = room-then _ (room-same (ap itemText (c .before .before .before .before .before .before .before .before .item .given .1)) (c .before .before .before .before .before .before .before .before .before .before .before .pre)) (c .before .before .before .before .plain2 .ensures)
+bracketed-requires c κs =
+    let c4 = c .before .before .before .before in let c8 = c4 .before .before .before .before in
+    let c11 = c8 .before .before .before in
+    room-then _ (room-same (ap itemText (c8 .item .given .1)) (c11 .pre)) (c4 .plain2 .ensures)
 
 enum-known-item-2 : tie.Need-enum-known-item-2
 enum-known-item-2 c = search needs
@@ -41,14 +46,19 @@ slice-aggregate-plain-3 c = search needs
 
 plain-requires-3 : tie.Need-plain-requires-3
 unfolding itemText
-plain-requires-3 c κs = room-first _ _ (room-same (ap itemText (c .before .before .before .item2 .given .1)) (c .before .before .before .before .before .before .pre))
+plain-requires-3 c κs =
+    let c3 = c .before .before .before in let c6 = c3 .before .before .before in
+    room-first _ _ (room-same (ap itemText (c3 .item2 .given .1)) (c6 .pre))
 
 cast-bracketed-2 : tie.Need-cast-bracketed-2
 cast-bracketed-2 c = search needs
 
 bracketed-requires-2 : tie.Need-bracketed-requires-2
 unfolding itemText
-bracketed-requires-2 c κs = room-then _ (room-same (ap itemText (c .before .before .before .before .before .before .before .before .item2 .given .1)) (c .before .before .before .before .before .before .before .before .before .before .before .pre)) (c .before .before .before .before .plain3 .ensures)
+bracketed-requires-2 c κs =
+    let c4 = c .before .before .before .before in let c8 = c4 .before .before .before .before in
+    let c11 = c8 .before .before .before in
+    room-then _ (room-same (ap itemText (c8 .item2 .given .1)) (c11 .pre)) (c4 .plain3 .ensures)
 
 enum-known-item-3 : tie.Need-enum-known-item-3
 enum-known-item-3 c = search needs
@@ -58,18 +68,27 @@ slice-aggregate-plain-4 c = search needs
 
 plain-requires-4 : tie.Need-plain-requires-4
 unfolding itemText
-plain-requires-4 c κs = room-first _ _ (room-same (ap itemText (c .before .before .before .item3 .given .1)) (c .before .before .before .before .before .before .pre))
+plain-requires-4 c κs =
+    let c3 = c .before .before .before in let c6 = c3 .before .before .before in
+    room-first _ _ (room-same (ap itemText (c3 .item3 .given .1)) (c6 .pre))
 
 cast-bracketed-3 : tie.Need-cast-bracketed-3
 cast-bracketed-3 c = search needs
 
 bracketed-requires-3 : tie.Need-bracketed-requires-3
 unfolding itemText
-bracketed-requires-3 c κs = room-first _ _ (room-then _ (room-same (ap itemText (c .before .before .before .before .before .before .before .before .item3 .given .1)) (c .before .before .before .before .before .before .before .before .before .before .before .pre)) (c .before .before .before .before .plain4 .ensures))
+bracketed-requires-3 c κs =
+    let c4 = c .before .before .before .before in let c8 = c4 .before .before .before .before in
+    let c11 = c8 .before .before .before in
+    room-first _ _ (room-then _ (room-same (ap itemText (c8 .item3 .given .1)) (c11 .pre)) (c4 .plain4 .ensures))
 
 half-place-requires : tie.Need-half-place-requires
 unfolding itemText
-half-place-requires c κs = room-then _ (room-then _ (room-same (ap itemText (c .before .before .before .before .before .before .before .before .before .before .before .before .item3 .given .1)) (c .before .before .before .before .before .before .before .before .before .before .before .before .before .before .before .pre)) (c .before .before .before .before .before .before .before .before .plain4 .ensures)) (c .before .before .before .bracketed3 .ensures)
+half-place-requires c κs =
+    let c3 = c .before .before .before in let c8 = c3 .before .before .before .before .before in
+    let c12 = c8 .before .before .before .before in let c15 = c12 .before .before .before in
+    room-then _ (room-then _ (room-same (ap itemText (c12 .item3 .given .1)) (c15 .pre)) (c8 .plain4 .ensures))
+    (c3 .bracketed3 .ensures)
 
 same-length : tie.Need-same-length
 same-length c = search needs
@@ -83,21 +102,31 @@ same-length-2 c = search needs
 
 returns-2 : tie.Need-returns-2
 unfolding itemText
-returns-2 c = same (ap itemText (c .before .before .before .before .before .before .before .before .before .before .before .item .given .1)) (then (c .before .before .before .before .before .before .before .plain2 .ensures) (c .before .before .bracketed .ensures))
+returns-2 c =
+    let c7 = c .before .before .before .before .before .before .before in
+    let c11 = c7 .before .before .before .before in
+    same (ap itemText (c11 .item .given .1)) (then (c7 .plain2 .ensures) (c .before .before .bracketed .ensures))
 
 same-length-3 : tie.Need-same-length-3
 same-length-3 c = search needs
 
 returns-3 : tie.Need-returns-3
 unfolding itemText
-returns-3 c = same (ap itemText (c .before .before .before .before .before .before .before .before .before .before .before .item2 .given .1)) (then (c .before .before .before .before .before .before .before .plain3 .ensures) (c .before .before .bracketed2 .ensures))
+returns-3 c =
+    let c7 = c .before .before .before .before .before .before .before in
+    let c11 = c7 .before .before .before .before in
+    same (ap itemText (c11 .item2 .given .1)) (then (c7 .plain3 .ensures) (c .before .before .bracketed2 .ensures))
 
 same-length-4 : tie.Need-same-length-4
 same-length-4 c = search needs
 
 returns-4 : tie.Need-returns-4
 unfolding itemText
-returns-4 c = same (ap itemText (c .before .before .before .before .before .before .before .before .before .before .before .before .before .before .before .item3 .given .1)) (then (c .before .before .before .before .before .before .before .before .before .before .before .plain4 .ensures) (then (c .before .before .before .before .before .before .bracketed3 .ensures) (c .before .before .half-place .ensures)))
+returns-4 c =
+    let c6 = c .before .before .before .before .before .before in
+    let c11 = c6 .before .before .before .before .before in let c15 = c11 .before .before .before .before in
+    same (ap itemText (c15 .item3 .given .1))
+    (then (c11 .plain4 .ensures) (then (c6 .bracketed3 .ensures) (c .before .before .half-place .ensures)))
 
 pub item-spec : {M : Type 1} → statement M
 item-spec =

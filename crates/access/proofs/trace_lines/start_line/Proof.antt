@@ -14,26 +14,45 @@ slice-aggregate-plain c = search needs
 
 plain-requires : tie.Need-plain-requires
 unfolding startLine
-plain-requires c κs = room-first _ _ (room-then _ (c .before .before .before .before .before .before .before .pre) (c .before .before .before .before .head .ensures))
+plain-requires c κs =
+    let c4 = c .before .before .before .before in let c7 = c4 .before .before .before in
+    room-first _ _ (room-then _ (c7 .pre) (c4 .head .ensures))
 
 put-requires : tie.Need-put-requires
 unfolding startLine
-put-requires c κs = room-first _ _ (room-then _ (room-then _ (c .before .before .before .before .before .before .before .before .before .before .before .pre) (c .before .before .before .before .before .before .before .before .head .ensures)) (c .before .before .before .plain .ensures))
+put-requires c κs =
+    let c3 = c .before .before .before in let c8 = c3 .before .before .before .before .before in
+    let c11 = c8 .before .before .before in
+    room-first _ _ (room-then _ (room-then _ (c11 .pre) (c8 .head .ensures)) (c3 .plain .ensures))
 
 brought-requires : tie.Need-brought-requires
 unfolding startLine
-brought-requires c κs = room-first _ _ (room-then _ (room-then _ (room-then _ (c .before .before .before .before .before .before .before .before .before .before .before .before .before .before .before .pre) (c .before .before .before .before .before .before .before .before .before .before .before .before .head .ensures)) (c .before .before .before .before .before .before .before .plain .ensures)) (c .before .before .before .put .ensures))
+brought-requires c κs =
+    let c3 = c .before .before .before in let c7 = c3 .before .before .before .before in
+    let c12 = c7 .before .before .before .before .before in let c15 = c12 .before .before .before in
+    room-first _ _
+    (room-then _ (room-then _ (room-then _ (c15 .pre) (c12 .head .ensures)) (c7 .plain .ensures)) (c3 .put .ensures))
 
 put-requires-2 : tie.Need-put-requires-2
 unfolding startLine
-put-requires-2 c κs = room-then _ (room-then _ (room-then _ (room-then _ (c .before .before .before .before .before .before .before .before .before .before .before .before .before .before .before .before .before .before .before .pre) (c .before .before .before .before .before .before .before .before .before .before .before .before .before .before .before .before .head .ensures)) (c .before .before .before .before .before .before .before .before .before .before .before .plain .ensures)) (c .before .before .before .before .before .before .before .put .ensures)) (c .before .before .before .brought .ensures)
+put-requires-2 c κs =
+    let c3 = c .before .before .before in let c7 = c3 .before .before .before .before in
+    let c11 = c7 .before .before .before .before in let c16 = c11 .before .before .before .before .before in
+    let c19 = c16 .before .before .before in
+    room-then _
+    (room-then _ (room-then _ (room-then _ (c19 .pre) (c16 .head .ensures)) (c11 .plain .ensures)) (c7 .put .ensures))
+    (c3 .brought .ensures)
 
 same-length : tie.Need-same-length
 same-length c = search needs
 
 returns : tie.Need-returns
 unfolding startLine
-returns c = then (c .before .before .before .before .before .before .before .before .before .before .before .before .before .before .before .before .before .before .before .head .ensures) (then (c .before .before .before .before .before .before .before .before .before .before .before .before .before .before .plain .ensures) (then (c .before .before .before .before .before .before .before .before .before .before .put .ensures) (then (c .before .before .before .before .before .before .brought .ensures) (c .before .before .put2 .ensures))))
+returns c =
+    let c6 = c .before .before .before .before .before .before in let c10 = c6 .before .before .before .before in
+    let c14 = c10 .before .before .before .before in let c19 = c14 .before .before .before .before .before in
+    then (c19 .head .ensures)
+    (then (c14 .plain .ensures) (then (c10 .put .ensures) (then (c6 .brought .ensures) (c .before .before .put2 .ensures))))
 
 pub start-line-spec : {M : Type 1} → statement M
 start-line-spec =

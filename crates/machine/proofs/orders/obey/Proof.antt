@@ -1,83 +1,76 @@
--- `machine::orders::obey` meets its contract: each arm is its order's case.
--- Assumes nothing.
-use mathlib.Core.Path.{ap}
+-- `machine::orders::obey` meets its contract: the words are offered, the places taken, the order obeyed on them, and all put back.
+use mathlib.Core.Path.{_≡_, ap, _∙_}
+use denote.Ref.{now}
 use native.Mathlib.Omega.{arith}
+use lib.ListN.{length}
+use Rattle.model.specs.declared.Moved.{Moved}
+use Rattle.model.specs.Points.{pointOf}
+use Rattle.machine.proofs.IndexLaws.{bank-index-small, help-index-small}
+use Rattle.machine.proofs.TakenLaws.{offered-length, ready-same, whole-order}
 use borrow.Author.Needs.{needs}
-use Rattle.model.specs.Machine.{obey}
-use Rattle.model.specs.Refusals.{bringsValue}
-use Rattle.machine.proofs.WordLaws.{row-lies}
 use Rattle.machine.proofs.orders.obey.Statement.{statement}
 use Rattle.machine.proofs.orders.obey.Tie as tie
+use Rattle.machine.proofs.orders.obey.Reads as reads
+use Rattle.machine.proofs.orders.obey.Lts as lts
+use Rattle.machine.proofs.orders.obey_taken.Reads as obey-taken-reads
+use Rattle.machine.proofs.orders.offer.Reads as offer-reads
+use Rattle.machine.proofs.taken.bank_index.Reads as bank-index-reads
+use Rattle.machine.proofs.taken.help_index.Reads as help-index-reads
+use Rattle.machine.proofs.taken.put_back.Reads as put-back-reads
+use Rattle.machine.proofs.taken.take.Reads as take-reads
 
-enum-told : tie.Need-enum-told
-enum-told c = search needs
+offer-requires : tie.Need-offer-requires
+offer-requires c κs = search needs
 
-started-requires : tie.Need-started-requires
-started-requires c κs = search needs
+bank-index-requires : tie.Need-bank-index-requires
+bank-index-requires c κs = search needs
 
-enum-told-2 : tie.Need-enum-told-2
-enum-told-2 c = search needs
+help-index-requires : tie.Need-help-index-requires
+help-index-requires c κs = search needs
 
-offer-word-requires : tie.Need-offer-word-requires
-offer-word-requires c κs = search needs
+take-requires : tie.Need-take-requires
+take-requires c κs =
+    let c4 = c .before .before .before .before in let c8 = c4 .before .before .before .before in
+    let y = pointOf (c8 .args .process .line) in
+    let r = c8 .pre .ready in
+    (simp (c .before .bank-index .ensures) (bank-index-small r y), simp (c .help-index .ensures) (help-index-small r y))
 
-copy-in-requires : tie.Need-copy-in-requires
-copy-in-requires c κs = let h = c .before .before .before .before .before .before .pre in simp (c .before .offer-word .ensures) (row-lies (c .before .before .before .before .before .before .args .bench .n) (omega (arith, h .ready .lent)) (h .value (ap bringsValue (c .before .before .enum-told2 .given .1))) (h .ready .lent .words))
+obey-taken-requires : tie.Need-obey-taken-requires
+obey-taken-requires c κs =
+    let c6 = c .before .before .before .before .before .before in let c10 = c6 .before .before .before .before in
+    let a = c10 .args in
+    ready-same (c10 .pre .ready) (ap length (c6 .offer .ensures) ∙ offered-length (a .order) (a .p) (a .bench .n) (a .bench .w) (now (a .value)) (now (a .words)))
 
-started-requires-2 : tie.Need-started-requires-2
-started-requires-2 c κs = search needs
-
-enum-told-3 : tie.Need-enum-told-3
-enum-told-3 c = search needs
-
-started-requires-3 : tie.Need-started-requires-3
-started-requires-3 c κs = search needs
-
-enum-told-4 : tie.Need-enum-told-4
-enum-told-4 c = search needs
-
-step-requires : tie.Need-step-requires
-step-requires c κs = search needs
-
-returns : tie.Need-returns
-unfolding obey
-returns c = simp (c .before .enum-told .given .1, c .started .ensures)
+put-back-requires : tie.Need-put-back-requires
+put-back-requires c κs =
+    let c5 = c .before .before .before .before .before in let c9 = c5 .before .before .before .before in let c13 = c9 .before .before .before .before in
+    let y = pointOf (c13 .args .process .line) in
+    let r = c13 .pre .ready in
+    (simp (c5 .before .bank-index .ensures) (bank-index-small r y), simp (c5 .help-index .ensures) (help-index-small r y))
 
 same-length : tie.Need-same-length
-same-length c = search needs
+same-length c =
+    let c5 = c .before .before .before .before .before in let c9 = c5 .before .before .before .before in
+    c .before .before .words2 .given ∙ c9 .words .given
 
-returns-2 : tie.Need-returns-2
-unfolding obey
-returns-2 c = simp (c .before .before .before .before .before .before .enum-told2 .given .1, c .started2 .ensures, c .before .before .before .copy-in .ensures, c .before .before .before .before .before .offer-word .ensures)
-
-returns-3 : tie.Need-returns-3
-unfolding obey
-returns-3 c = simp (c .before .enum-told3 .given .1, c .started3 .ensures)
-
-same-length-2 : tie.Need-same-length-2
-same-length-2 c = search needs
-
-returns-4 : tie.Need-returns-4
-unfolding obey
-returns-4 c = simp (c .before .before .before .before .enum-told4 .given .1) (c .before .before .step .ensures)
+returns : tie.Need-returns
+returns c =
+    let c3 = c .before .before .before in let c5 = c3 .before .before in let c6 = c5 .before in
+    let c10 = c6 .before .before .before .before in let c14 = c10 .before .before .before .before in
+    let a = c14 .args in
+    let w = whole-order (a .p) (a .bench) (a .process) (now (a .words)) (a .order) (now (a .value)) in
+    ap (λ (r : Moved). (r, c3 .obey-taken .last .1 .1 .1 .1 .1 .1 .0)) (c .put-back .ensures) ∙
+    w (c10 .offer .ensures) (c6 .before .bank-index .ensures) (c6 .help-index .ensures) (c5 .take .ensures) (c3 .obey-taken .ensures)
 
 pub obey-spec : {M : Type 1} → statement M
 obey-spec =
     tie.close
     (tie.spec
-    enum-told
-    started-requires
-    enum-told-2
-    offer-word-requires
-    copy-in-requires
-    started-requires-2
-    enum-told-3
-    started-requires-3
-    enum-told-4
-    step-requires
-    returns
+    offer-requires
+    bank-index-requires
+    help-index-requires
+    take-requires
+    obey-taken-requires
+    put-back-requires
     same-length
-    returns-2
-    returns-3
-    same-length-2
-    returns-4)
+    returns)

@@ -48,7 +48,9 @@ same-length : tie.Need-same-length
 same-length c = search needs
 
 returns-3 : tie.Need-returns-3
-returns-3 c = line-of _ _ _ _ (c .before .before .before .before .before .before .reply .given .1) (rw (sym (c .before .before .before .before .return-word .ensures)) (c .before .before .ll-line .ensures))
+returns-3 c =
+    let c4 = c .before .before .before .before in let c6 = c4 .before .before in
+    line-of _ _ _ _ (c6 .reply .given .1) (rw (sym (c4 .return-word .ensures)) (c .before .before .ll-line .ensures))
 
 same-length-2 : tie.Need-same-length-2
 same-length-2 c = search needs

@@ -17,7 +17,9 @@ same-length : tie.Need-same-length
 same-length c = search needs
 
 returns : tie.Need-returns
-returns c = end-closed (c .before .before .before .before .before .before .before .before .args .run) _ _ (c .before .before .before .before .before .if1 .taken) (c .before .before .before .end-line .ensures) (c .returned .ensures)
+returns c =
+    let c3 = c .before .before .before in let c5 = c3 .before .before in let c8 = c5 .before .before .before in
+    end-closed (c8 .args .run) _ _ (c5 .if1 .taken) (c3 .end-line .ensures) (c .returned .ensures)
 
 refused-line-requires : tie.Need-refused-line-requires
 refused-line-requires c κs = refused-room (c .before .before .before .before .pre)
@@ -29,7 +31,9 @@ same-length-2 : tie.Need-same-length-2
 same-length-2 c = search needs
 
 returns-2 : tie.Need-returns-2
-returns-2 c = refused-closed (c .before .before .before .before .before .before .before .before .args .run) _ _ (c .before .before .before .before .before .if1 .left) (c .before .before .before .refused-line .ensures) (c .returned2 .ensures)
+returns-2 c =
+    let c3 = c .before .before .before in let c5 = c3 .before .before in let c8 = c5 .before .before .before in
+    refused-closed (c8 .args .run) _ _ (c5 .if1 .left) (c3 .refused-line .ensures) (c .returned2 .ensures)
 
 pub ended-spec : {M : Type 1} → statement M
 ended-spec =

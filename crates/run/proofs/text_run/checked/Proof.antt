@@ -1,47 +1,56 @@
--- `run::text_run::checked`: the whole text read once with a stopped run, and then carried out or refused.
-use mathlib.Core.Path.{subst, _∙_}
+-- `run::text_run::checked`: the items read once, and then carried out or refused.
+use mathlib.Core.Path.{subst}
 use native.Mathlib.Omega.{arith}
-use borrow.Author.Needs.{needs}
 use denote.Ref.{now}
-use Rattle.run.specs.Reading.{ItemsSay}
-use Rattle.run.specs.Whole.{memoryOf, refusedWith, saysAfter}
+use Rattle.notation.specs.Listed.{ItemsSay}
+use Rattle.notation.proofs.ListedLaws.{kept-within}
+use Rattle.run.specs.Whole.{memoryOf}
 use Rattle.run.proofs.FaultLaws.{broken-small}
-use Rattle.run.proofs.StartLaws.{stopped-sound}
-use Rattle.run.proofs.RunLaws.{answers-as, unread, lending-same, moved, broken-says, closed-says}
+use Rattle.run.proofs.RunLaws.{answers-as, broken-says, closed-says, kept-says}
+use borrow.Author.Needs.{needs}
 use Rattle.run.proofs.text_run.checked.Statement.{statement}
 use Rattle.run.proofs.text_run.checked.Tie as tie
 
-fresh-requires : tie.Need-fresh-requires
-fresh-requires c κs = search needs
+empty-list-requires : tie.Need-empty-list-requires
+empty-list-requires c κs = search needs
+
+slice-aggregate-read-items : tie.Need-slice-aggregate-read-items
+slice-aggregate-read-items c = search needs
 
 read-items-requires : tie.Need-read-items-requires
 read-items-requires c κs =
-    let c6 = c .before .before .before .before .before .before in
-    (c6 .pre .1 .within, rw (c .before .before .fresh .ensures) (stopped-sound (c6 .args .traced) (c6 .args .bench) (now (c6 .args .words)) (c6 .pre .0) 10 (λ y. omega arith) (omega arith)))
+    let c5 = c .before .before .before .before .before in
+    (c5 .pre .1 .within, omega arith, c5 .pre .1 .placeable)
 
-enum-known-out : tie.Need-enum-known-out
-enum-known-out c = search needs
+enum-known-read : tie.Need-enum-known-read
+enum-known-read c = search needs
 
 refused-requires : tie.Need-refused-requires
 refused-requires c κs =
-    let c3 = c .before .before .before in let c9 = c3 .before .before .before .before .before .before in let c12 = c9 .before .before .before in let c16 = c12 .before .before .before .before in
-    (lending-same ((unread (c9 .read-items .result .out) (c12 .fresh .ensures) (c9 .read-items .ensures)) .1) (c16 .pre .0), broken-small (subst (ItemsSay _ _ _ _ _ _) (c3 .out .given .1) (c9 .read-items .ensures) .are .read))
+    let c3 = c .before .before .before in let c6 = c3 .before .before .before in let c12 = c6 .before .before .before .before .before .before in
+    let read = subst (ItemsSay _ _ _ _ _ _) (c3 .read .given .1) (c6 .read-items .ensures) .are in
+    (c12 .pre .0, broken-small (read .is))
 
 enum-told : tie.Need-enum-told
 enum-told c = search needs
 
 refused-requires-2 : tie.Need-refused-requires-2
 refused-requires-2 c κs =
-    let c8 = c .before .before .before .before .before .before .before .before in let c11 = c8 .before .before .before in let c15 = c11 .before .before .before .before in
-    (lending-same ((unread (c8 .read-items .result .out) (c11 .fresh .ensures) (c8 .read-items .ensures)) .1) (c15 .pre .0), omega arith)
+    let c11 = c .before .before .before .before .before .before .before .before .before .before .before in
+    (c11 .pre .0, omega arith)
 
-enum-told-2 : tie.Need-enum-told-2
-enum-told-2 c = search needs
+enum-known-read-2 : tie.Need-enum-known-read-2
+enum-known-read-2 c = search needs
+
+slice-aggregate-started : tie.Need-slice-aggregate-started
+slice-aggregate-started c = search needs
 
 started-requires : tie.Need-started-requires
 started-requires c κs =
-    let c8 = c .before .before .before .before .before .before .before .before in let c11 = c8 .before .before .before in let c15 = c11 .before .before .before .before in
-    (lending-same ((unread (c8 .read-items .result .out) (c11 .fresh .ensures) (c8 .read-items .ensures)) .1) (c15 .pre .0), c15 .pre .1, record { says = (subst (ItemsSay _ _ _ _ _ _) (c .before .before .enum-told2 .given .1) (c8 .read-items .ensures) .are) .says; ended = (subst (ItemsSay _ _ _ _ _ _) (c .before .before .enum-told2 .given .1) (c8 .read-items .ensures) .are) .read })
+    let c4 = c .before .before .before .before in let c7 = c4 .before .before .before in
+    let c13 = c7 .before .before .before .before .before .before in
+    let read = subst (ItemsSay _ _ _ _ _ _) (c4 .read2 .given .1) (c7 .read-items .ensures) .are in
+    (c13 .pre .0, c13 .pre .1 .initial, kept-within (read .lists))
 
 same-length : tie.Need-same-length
 same-length c = search needs
@@ -51,8 +60,12 @@ same-length-2 c = search needs
 
 returns : tie.Need-returns
 returns c =
-    let c4 = c .before .before .before .before in let c8 = c4 .before .before .before .before in let c14 = c8 .before .before .before .before .before .before in let c17 = c14 .before .before .before in let c21 = c17 .before .before .before .before in
-    answers-as (c4 .refused .ensures) (moved (refusedWith (c8 .out .given .0 .0)) (c21 .args .bench) (c21 .args .all) (c21 .args .len) ((unread (c14 .read-items .result .out) (c17 .fresh .ensures) (c14 .read-items .ensures)) .0) ((unread (c14 .read-items .result .out) (c17 .fresh .ensures) (c14 .read-items .ensures)) .1) ∙ broken-says (c21 .args .traced) (now (c21 .args .text)) (c21 .args .first) (memoryOf (c21 .args .bench) (c21 .args .all) (c21 .args .len) (now (c21 .args .words))) (now (c21 .args .list)) (subst (ItemsSay _ _ _ _ _ _) (c8 .out .given .1) (c14 .read-items .ensures) .are .read))
+    let c4 = c .before .before .before .before in let c8 = c4 .before .before .before .before in let c11 = c8 .before .before .before in
+    let c17 = c11 .before .before .before .before .before .before in
+    let a = c17 .args in
+    let m = memoryOf (a .bench) (a .all) (a .len) (now (a .words)) in
+    let read = subst (ItemsSay _ _ _ _ _ _) (c8 .read .given .1) (c11 .read-items .ensures) .are in
+    answers-as (c4 .refused .ensures) (broken-says (a .traced) (now (a .text)) (a .first) m (now (a .list)) (read .is))
 
 same-length-3 : tie.Need-same-length-3
 same-length-3 c = search needs
@@ -62,8 +75,12 @@ same-length-4 c = search needs
 
 returns-2 : tie.Need-returns-2
 returns-2 c =
-    let c4 = c .before .before .before .before in let c7 = c4 .before .before .before in let c13 = c7 .before .before .before .before .before .before in let c16 = c13 .before .before .before in let c20 = c16 .before .before .before .before in
-    answers-as (c4 .refused2 .ensures) (moved (refusedWith 10) (c20 .args .bench) (c20 .args .all) (c20 .args .len) ((unread (c13 .read-items .result .out) (c16 .fresh .ensures) (c13 .read-items .ensures)) .0) ((unread (c13 .read-items .result .out) (c16 .fresh .ensures) (c13 .read-items .ensures)) .1) ∙ closed-says (c20 .args .traced) (now (c20 .args .text)) (c20 .args .first) (memoryOf (c20 .args .bench) (c20 .args .all) (c20 .args .len) (now (c20 .args .words))) (now (c20 .args .list)) (subst (ItemsSay _ _ _ _ _ _) (c7 .enum-told .given .1) (c13 .read-items .ensures) .are .read))
+    let c4 = c .before .before .before .before in let c7 = c4 .before .before .before in let c10 = c7 .before .before .before in
+    let c16 = c10 .before .before .before .before .before .before in
+    let a = c16 .args in
+    let m = memoryOf (a .bench) (a .all) (a .len) (now (a .words)) in
+    let read = subst (ItemsSay _ _ _ _ _ _) (c7 .enum-told .given .1) (c10 .read-items .ensures) .are in
+    answers-as (c4 .refused2 .ensures) (closed-says (a .traced) (now (a .text)) (a .first) m (now (a .list)) (read .read))
 
 same-length-5 : tie.Need-same-length-5
 same-length-5 c = search needs
@@ -73,20 +90,26 @@ same-length-6 c = search needs
 
 returns-3 : tie.Need-returns-3
 returns-3 c =
-    let c4 = c .before .before .before .before in let c13 = c4 .before .before .before .before .before .before .before .before .before in let c16 = c13 .before .before .before in let c20 = c16 .before .before .before .before in
-    answers-as (c4 .started .ensures) (moved (saysAfter (c20 .args .traced) (now (c20 .args .text)) (c20 .args .first)) (c20 .args .bench) (c20 .args .all) (c20 .args .len) ((unread (c13 .read-items .result .out) (c16 .fresh .ensures) (c13 .read-items .ensures)) .0) ((unread (c13 .read-items .result .out) (c16 .fresh .ensures) (c13 .read-items .ensures)) .1))
+    let c4 = c .before .before .before .before in let c9 = c4 .before .before .before .before .before in let c12 = c9 .before .before .before in
+    let c14 = c12 .before .before in let c18 = c14 .before .before .before .before in
+    let a = c18 .args in
+    let m = memoryOf (a .bench) (a .all) (a .len) (now (a .words)) in
+    let read = subst (ItemsSay _ _ _ _ _ _) (c9 .read2 .given .1) (c12 .read-items .ensures) .are in
+    answers-as (c4 .started .ensures) (kept-says (a .traced) (now (a .text)) (a .first) m (now (a .list)) (c14 .empty-list .ensures) read)
 
 pub checked-spec : {M : Type 1} → statement M
 checked-spec =
     tie.close
     (tie.spec
-    fresh-requires
+    empty-list-requires
+    slice-aggregate-read-items
     read-items-requires
-    enum-known-out
+    enum-known-read
     refused-requires
     enum-told
     refused-requires-2
-    enum-told-2
+    enum-known-read-2
+    slice-aggregate-started
     started-requires
     same-length
     same-length-2

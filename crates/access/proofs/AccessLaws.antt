@@ -1,0 +1,46 @@
+-- The access seen in the places taken out for a step is the one that `accessOf` sees in the bench.
+use mathlib.Core.Path.{_≡_, refl}
+use mathlib.Core.List.{List}
+use Prim.Native.Nat.{ℕ}
+use Rattle.model.specs.declared.SequenceNumber.{SequenceNumber}
+use Rattle.model.specs.declared.ProcessNumber.{ProcessNumber}
+use Rattle.model.specs.declared.Bench.{Bench}
+use Rattle.model.specs.declared.Process.{Process}
+use Rattle.model.specs.Points.{Point, idle, line1, line2, line3, line4, line5, line6, line7, line7copy, line8, line9, line10, line11, line12, line12valid, line13, line14, line14valid, line15, line17, line18, line19, line23}
+use Rattle.machine.specs.declared.taken.Taken.{Taken}
+use Rattle.machine.specs.Taken.{bankIndex, helpIndex, takenAt, takenFrom}
+use Rattle.access.specs.Accesses.{accessOf}
+use Rattle.access.specs.AccessOn.{accessOn}
+
+module _ (p : ProcessNumber) (b : Bench) (q : Process) (ws : List ℕ) where
+  pub access-by-taken : (y : Point) → accessOn y p (b .n) (b .w) (takenFrom y b p q) q ws ≡ accessOf y p b q ws
+  unfolding accessOn accessOf
+  access-by-taken idle = refl
+  access-by-taken line1 = refl
+  access-by-taken line2 = refl
+  access-by-taken line3 = refl
+  access-by-taken line4 = refl
+  access-by-taken line5 = refl
+  access-by-taken line6 = refl
+  access-by-taken line7 = refl
+  access-by-taken line7copy = refl
+  access-by-taken line8 = refl
+  access-by-taken line9 = refl
+  access-by-taken line10 = refl
+  access-by-taken line11 = refl
+  access-by-taken line12 = refl
+  access-by-taken line12valid = refl
+  access-by-taken line13 = refl
+  access-by-taken line14 = refl
+  access-by-taken line14valid = refl
+  access-by-taken line15 = refl
+  access-by-taken line17 = refl
+  access-by-taken line18 = refl
+  access-by-taken line19 = refl
+  access-by-taken line23 = refl
+
+  -- the parts of a step, put together
+  pub access-seen : (y : Point) {i : SequenceNumber} {j : ProcessNumber} {t : Taken}
+      → i ≡ bankIndex y (b .n) q → j ≡ helpIndex y (b .n) p q → t ≡ takenAt b i j
+      → accessOn y p (b .n) (b .w) t q ws ≡ accessOf y p b q ws
+  access-seen y e f g = rw (g, e, f) (access-by-taken y)

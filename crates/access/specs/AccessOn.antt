@@ -1,0 +1,41 @@
+-- The access of a step, from the places that were taken out for it: X, one place of Bank and one of Help.
+-- It is inner, what the code is held against; `Accesses.accessOf`, over the bench, is the one to believe, and `AccessLaws` proves them equal.
+use Prim.Native.Nat.{ℕ}
+use mathlib.Core.List.{List}
+use Rattle.model.specs.declared.ProcessNumber.{ProcessNumber}
+use Rattle.model.specs.declared.Process.{Process}
+use Rattle.model.specs.Places.{linked}
+use Rattle.model.specs.Tables.{next, helped}
+use Rattle.model.specs.Words.{returnWord, offerWord, wordOf}
+use Rattle.model.specs.Points.{Point, idle, line1, line2, line3, line4, line5, line6, line7, line7copy, line8, line9, line10, line11, line12, line12valid, line13, line14, line14valid, line15, line17, line18, line19, line23}
+use Rattle.machine.specs.declared.taken.Taken.{Taken}
+use Rattle.access.specs.declared.Act.the-variants.{Read, Write, Ll, Sc}
+use Rattle.access.specs.declared.Access.{Access}
+use Rattle.access.specs.Accesses.{xAccess, bankAccess, helpAccess, vlOfX, noAccess, llOfX, llOfHelp, scOfHelp, readHalf, writeHalf}
+
+-- Figure 2, point by point as in `accessOf`: p is the process that steps, n stands for N and w for W, t are the places taken out (`machine`'s
+-- `takenFrom`), q is p's record, ws are the lent words.
+unfoldable pub accessOn : Point → ProcessNumber → ℕ → ℕ → Taken → Process → List ℕ → Access
+accessOn idle p n w t q ws = noAccess
+accessOn line1 p n w t q ws = helpAccess 1 p Write (record { flag = 1; buf = q .mybuf })
+accessOn line2 p n w t q ws = llOfX 2 (t .x)
+accessOn line3 p n w t q ws = readHalf 3 (q .x .buf) w q ws
+accessOn line4 p n w t q ws = llOfHelp 4 p (t .help)
+accessOn line5 p n w t q ws = llOfX 5 (t .x)
+accessOn line6 p n w t q ws = readHalf 6 (q .x .buf) w q ws
+accessOn line7 p n w t q ws = vlOfX 7 (linked (t .x .links) p)
+accessOn line7copy p n w t q ws = readHalf 7 (q .b) w q ws
+accessOn line8 p n w t q ws = llOfHelp 8 p (t .help)
+accessOn line9 p n w t q ws = scOfHelp 9 p p (q .c) (t .help)
+accessOn line10 p n w t q ws = helpAccess 10 p Read (t .help .content)
+accessOn line11 p n w t q ws = writeHalf 11 (returnWord n w p (wordOf (q .word))) q ws
+accessOn line12 p n w t q ws = bankAccess 12 (q .x .seq) Ll (t .bank .content)
+accessOn line12valid p n w t q ws = vlOfX 12 (linked (t .x .links) p)
+accessOn line13 p n w t q ws = bankAccess 13 (q .x .seq) (Sc (linked (t .bank .links) p)) (q .x .buf)
+accessOn line14 p n w t q ws = llOfHelp 14 (helped n (q .x .seq)) (t .help)
+accessOn line14valid p n w t q ws = vlOfX 14 (linked (t .x .links) p)
+accessOn line15 p n w t q ws = scOfHelp 15 (helped n (q .x .seq)) p (q .mybuf) (t .help)
+accessOn line17 p n w t q ws = writeHalf 17 (offerWord n w p (wordOf (q .word))) q ws
+accessOn line18 p n w t q ws = bankAccess 18 (next n (q .x .seq)) Read (t .bank .content)
+accessOn line19 p n w t q ws = xAccess 19 (Sc (linked (t .x .links) p)) (record { buf = q .mybuf; seq = next n (q .x .seq) })
+accessOn line23 p n w t q ws = vlOfX 23 (linked (t .x .links) p)
