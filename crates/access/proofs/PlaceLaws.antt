@@ -8,8 +8,8 @@ use Rattle.model.specs.declared.ProcessNumber.{ProcessNumber}
 use Rattle.model.specs.declared.Process.{Process}
 use Rattle.model.specs.Sizes.{halves}
 use Rattle.model.specs.Words.{bufferWord, wordOf}
-use Rattle.machine.specs.Ranges.{Ready}
-use Rattle.machine.proofs.WordLaws.{lies}
+use Rattle.taken.specs.Ranges.{Ready}
+use Rattle.words.proofs.WordLaws.{lies}
 
 module _ {n w : ℕ} {q : Process} {p : ProcessNumber} {ws : List ℕ} (h : Ready n w q p ws) where
   -- in any of the 5N rows, at the word place

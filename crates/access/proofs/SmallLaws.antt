@@ -27,11 +27,11 @@ use Rattle.model.proofs.HalfLaws.{half-small}
 use Rattle.model.specs.Points.{Point, idle, line1, line2, line3, line4, line5, line6, line7, line7copy, line8, line9, line10, line11, line12, line12valid, line13, line14, line14valid, line15, line17, line18, line19, line23}
 use Rattle.model.specs.Machine.{Memory}
 use Rattle.model.specs.Refusals.{every, bufferOk, sequenceOk, xOk, linksOk, xPlaceOk, bankPlaceOk, helpPlaceOk, lineOk, countOk, processOk, benchOk, inRange}
-use Rattle.machine.specs.Ranges.{Ready}
-use Rattle.machine.proofs.AndLaws.{left, right}
-use Rattle.machine.proofs.ListLaws.{every-at}
-use Rattle.machine.proofs.WordLaws.{within}
-use Rattle.machine.proofs.IndexLaws.{bank-index-in, help-index-in}
+use Rattle.taken.specs.Ranges.{Ready}
+use Rattle.laws.proofs.AndLaws.{left, right}
+use Rattle.laws.proofs.ListLaws.{every-at}
+use Rattle.words.proofs.WordLaws.{within}
+use Rattle.taken.proofs.IndexLaws.{bank-index-in, help-index-in}
 use Rattle.access.specs.declared.Act.{Act}
 use Rattle.access.specs.declared.Act.the-variants.{Read, Write, Ll, Sc}
 use Rattle.access.specs.Accesses.{xAccess, bankAccess, helpAccess, halfAccess, vlOfX, scAtHelp, readHalf, writeHalf, accessOf}

@@ -24,7 +24,7 @@ use Rattle.model.specs.Tables.{noBank, noHelp, bankAt, helpAt, putX, putBank, p
 use Rattle.model.specs.Sizes.{halves}
 use Rattle.model.specs.Words.{bufferWord, wordOf, half, withHalf}
 use Rattle.model.proofs.HalfLaws.{half-set, half-kept}
-use Rattle.machine.proofs.WordLaws.{within}
+use Rattle.words.proofs.WordLaws.{within}
 use Rattle.access.specs.declared.Item.{Item}
 use Rattle.access.specs.declared.Item.the-variants.{X, Bank, Help, Half}
 use Rattle.access.specs.declared.Act.{Act}

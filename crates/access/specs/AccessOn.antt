@@ -8,12 +8,12 @@ use Rattle.model.specs.Places.{linked}
 use Rattle.model.specs.Tables.{next, helped}
 use Rattle.model.specs.Words.{returnWord, offerWord, wordOf}
 use Rattle.model.specs.Points.{Point, idle, line1, line2, line3, line4, line5, line6, line7, line7copy, line8, line9, line10, line11, line12, line12valid, line13, line14, line14valid, line15, line17, line18, line19, line23}
-use Rattle.machine.specs.declared.taken.Taken.{Taken}
+use Rattle.taken.specs.declared.Taken.{Taken}
 use Rattle.access.specs.declared.Act.the-variants.{Read, Write, Ll, Sc}
 use Rattle.access.specs.declared.Access.{Access}
 use Rattle.access.specs.Accesses.{xAccess, bankAccess, helpAccess, vlOfX, noAccess, llOfX, llOfHelp, scOfHelp, readHalf, writeHalf}
 
--- Figure 2, point by point as in `accessOf`: p is the process that steps, n stands for N and w for W, t are the places taken out (`machine`'s
+-- Figure 2, point by point as in `accessOf`: p is the process that steps, n stands for N and w for W, t are the places taken out (`taken`'s
 -- `takenFrom`), q is p's record, ws are the lent words.
 unfoldable pub accessOn : Point → ProcessNumber → ℕ → ℕ → Taken → Process → List ℕ → Access
 accessOn idle p n w t q ws = noAccess

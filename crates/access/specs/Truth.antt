@@ -9,7 +9,7 @@ use Rattle.model.specs.declared.ProcessNumber.{ProcessNumber}
 use Rattle.model.specs.declared.Bench.{Bench}
 use Rattle.model.specs.declared.Process.{Process}
 use Rattle.model.specs.Places.{noLinks, linked, link}
-use Rattle.machine.specs.Ranges.{Ready}
+use Rattle.taken.specs.Ranges.{Ready}
 use Rattle.access.specs.declared.Item.{Item}
 use Rattle.access.specs.declared.Act.{Act}
 use Rattle.access.specs.declared.Act.the-variants.{Read, Write, Ll, Sc, Vl}

@@ -1,7 +1,7 @@
 // The access that a step makes, by the line of its process.
 ghost use mathlib.Core.Path.{_≡_};
 ghost use Rattle.model.specs.Points.{pointOf};
-ghost use Rattle.machine.specs.Ranges.{Ready};
+ghost use Rattle.taken.specs.Ranges.{Ready};
 ghost use Rattle.access.specs.Accesses.{noAccess};
 ghost use Rattle.access.specs.AccessOn.{accessOn};
 use crate::Access;
@@ -12,9 +12,9 @@ use crate::on_help;
 use crate::on_words;
 use crate::on_x;
 use lines::points;
-use machine::taken::Taken;
 use model::Process;
 use model::ProcessNumber;
+use taken::Taken;
 
 // What stands for no access: none is made, or none is shown.
 pub fn no_access() -> Access

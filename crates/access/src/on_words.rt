@@ -4,15 +4,15 @@ ghost use Prim.Native.Nat.{_<_, _≤_};
 ghost use lib.ListN.{length, getD};
 ghost use Rattle.model.specs.Sizes.{halves};
 ghost use Rattle.model.specs.Words.{bufferWord, returnWord, offerWord, wordOf, half};
-ghost use Rattle.machine.specs.Ranges.{Ready};
+ghost use Rattle.taken.specs.Ranges.{Ready};
 ghost use Rattle.access.specs.Accesses.{halfAccess, readHalf, writeHalf};
 use crate::Access;
 use crate::Act;
 use crate::Item;
-use machine::word_places;
 use model::BufferNumber;
 use model::Process;
 use model::ProcessNumber;
+use words::word_places;
 
 // The half of place k of BUF[f], which takes or brings that half of the word that lies at `from`.
 fn on_half(line: u8, f: BufferNumber, k: usize, act: Act, from: usize, words: &[u64]) -> Access

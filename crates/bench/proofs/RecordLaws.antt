@@ -27,11 +27,14 @@ length-numbers a (suc n) = ap suc (length-numbers (suc a) n)
 -- a run of n values of f, and one more
 pub run-more : {A : Type 0} (l : List A) (f : ℕ → A) (s n : ℕ) → sets l 0 (map f (numbers s (suc n))) ≡ set (sets l 0 (map f (numbers s n))) n (f (s + n))
 run-more l f s n =
-    ap (λ (ks : List ℕ). sets l 0 (map f ks)) (numbers-more s n) ∙ ap (λ xs. sets l 0 xs) (map-append f (numbers s n) ((s + n) ∷ [])) ∙ sets-more l 0 (map f (numbers s n)) (f (s + n)) ∙
-    ap (λ (k : ℕ). set (sets l 0 (map f (numbers s n))) k (f (s + n))) (zero-add (length (map f (numbers s n))) ∙ length-map (numbers s n) f ∙ length-numbers s n)
+    ap (λ (ks : List ℕ). sets l 0 (map f ks)) (numbers-more s n) ∙
+    ap (λ xs. sets l 0 xs) (map-append f (numbers s n) ((s + n) ∷ [])) ∙ sets-more l 0 (map f (numbers s n)) (f (s + n)) ∙
+    ap (λ (k : ℕ). set (sets l 0 (map f (numbers s n))) k (f (s + n)))
+    (zero-add (length (map f (numbers s n))) ∙ length-map (numbers s n) f ∙ length-numbers s n)
 
 -- n records, each the one that f gives, are a run of stores
-pub written-numbers : (l : List Process) (f : ℕ → Process) (m s n : ℕ) → ((i : ℕ) → i < n → recordFor m i ≡ f (s + i)) → recordsWritten l m n ≡ sets l 0 (map f (numbers s n))
+pub written-numbers : (l : List Process) (f : ℕ → Process) (m s n : ℕ) → ((i : ℕ) → i < n → recordFor m i ≡ f (s + i))
+    → recordsWritten l m n ≡ sets l 0 (map f (numbers s n))
 unfolding recordsWritten
 written-numbers l f m s zero h = refl
 written-numbers l f m s (suc n) h =

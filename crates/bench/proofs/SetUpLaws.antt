@@ -9,12 +9,11 @@ use borrow.Author.Tests.{eqb-true}
 use Rattle.model.specs.declared.Bench.{Bench}
 use Rattle.model.specs.declared.Process.{Process}
 use Rattle.model.specs.SetUp.{recordsAtSetUp, setUp}
-use Rattle.machine.specs.declared.set_up.Prepared.{Prepared}
-use Rattle.machine.specs.Lengths.{setUpNumber}
-use Rattle.machine.specs.SetUpByValue.{Accepted, prepared}
-use Rattle.machine.proofs.SetUpLaws.{set-up-fits, set-up-law}
+use Rattle.setup.specs.declared.Prepared.{Prepared}
+use Rattle.setup.specs.SetUpByValue.{setUpNumber, Accepted, prepared}
+use Rattle.setup.proofs.SetUpLaws.{set-up-fits, set-up-law}
 use Rattle.bench.specs.Lent.{memory, recordsToWrite, recordsWritten}
-use Rattle.bench.specs.Settling.{settled}
+use Rattle.bench.specs.SettingUp.{setUpOver}
 use Rattle.bench.proofs.RecordLaws.{written-at-set-up}
 
 -- a set-up answers 0 only where no row holds
@@ -25,15 +24,19 @@ no-row k false a c u v e h = eqb→eq k 0 h
 
 few : (b : Bench) (len n w : ℕ) (v ws : List ℕ) → Holds (eqb (prepared b len n w v ws .0 .number) 0) → n ≤ 16
 unfolding prepared
-few b len n w v ws h = set-up-fits n w len (length ws) (length v) (no-row (setUpNumber n w len (length ws) (length v)) (eqb (setUpNumber n w len (length ws) (length v)) 0) _ _ _ _ refl h) .n-most
+few b len n w v ws h = set-up-fits n w len (length ws) (length v)
+    (no-row (setUpNumber n w len (length ws) (length v)) (eqb (setUpNumber n w len (length ws) (length v)) 0) _ _ _ _ refl h) .n-most
 
 written : (rs : List Process) (n : ℕ) (t : Bool) → (Holds t → n ≤ 16) → recordsWritten rs n (cond t n 0) ≡ cond t (recordsAtSetUp rs n) rs
 unfolding recordsWritten
 written rs n true h = written-at-set-up rs n (h tt)
 written rs n false h = refl
 
-pub settled-set-up : (b : Bench) (rs : List Process) (ws : List ℕ) (n w : ℕ) (v : List ℕ) → settled (memory b rs ws) n w v ≡ setUp (memory b rs ws) n w v
+pub set-up-same : (b : Bench) (rs : List Process) (ws : List ℕ) (n w : ℕ) (v : List ℕ) → setUpOver (memory b rs ws) n w v ≡ setUp (memory b rs ws) n w v
 unfolding recordsToWrite
-settled-set-up b rs ws n w v =
-    ap (λ (r : List Process). (prepared b (length rs) n w v ws .0 .number, memory (prepared b (length rs) n w v ws .0 .bench) r (prepared b (length rs) n w v ws .1)))
+set-up-same b rs ws n w v =
+    ap (λ (r : List Process). (
+      prepared b (length rs) n w v ws .0 .number,
+      memory (prepared b (length rs) n w v ws .0 .bench) r (prepared b (length rs) n w v ws .1),
+    ))
     (written rs n (eqb (prepared b (length rs) n w v ws .0 .number) 0) (few b (length rs) n w v ws)) ∙ set-up-law b rs ws n w v

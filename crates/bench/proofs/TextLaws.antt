@@ -13,9 +13,9 @@ use borrow.Author.Tests.{eqb-true, eqb-false}
 use Rattle.model.specs.declared.Bench.{Bench}
 use Rattle.model.specs.declared.Process.{Process}
 use Rattle.model.specs.Records.{noProcess}
-use Rattle.machine.specs.declared.records.Records.{Records}
-use Rattle.machine.specs.Gathered.{gathered}
-use Rattle.machine.proofs.GatheredLaws.{gathered-length, gathered-at}
+use Rattle.tables.specs.declared.records.Records.{Records}
+use Rattle.tables.specs.Gathered.{gathered}
+use Rattle.tables.proofs.GatheredLaws.{gathered-length, gathered-at}
 use Rattle.run.specs.declared.last_line.Whole.{Whole}
 use Rattle.run.specs.TextRun.{runText}
 use Rattle.run.specs.Whole.{fewOf, Others}
@@ -46,7 +46,8 @@ gathered-alike l m d (suc i) h =
 -- gathered again, they are the same
 pub gathered-again : (l : List Process) → gathered l noProcess 16 ≡ gathered (take (length l) (gathered l noProcess 16 .list)) noProcess 16
 gathered-again l =
-    gathered-alike l (take 16 l) noProcess 16 (λ j lt. sym (getD-take 16 l j noProcess lt)) ∙ ap (λ (m : List Process). gathered m noProcess 16) (sym (gathered-few l))
+    gathered-alike l (take 16 l) noProcess 16 (λ j lt. sym (getD-take 16 l j noProcess lt)) ∙
+    ap (λ (m : List Process). gathered m noProcess 16) (sym (gathered-few l))
 
 -- records stored back one by one
 stored-length : (l a : List Process) (i : ℕ) → length (recordsStored l a i) ≡ length l
@@ -59,8 +60,10 @@ unfolding recordsStored
 stored-below l a zero j h k = absurd (not-suc-le-zero h)
 stored-below l a (suc i) j h k = go (λ lt. stored-below l a i j lt k) (eqb j i) refl
   where
-    go : (j < i → getD (recordsStored l a i) j noProcess ≡ getD a j noProcess) → (t : Bool) → eqb j i ≡ t → getD (set (recordsStored l a i) i (getD a i noProcess)) j noProcess ≡ getD a j noProcess
-    go f true e = let s : j ≡ i = eqb-true j i e in rw s (getD-set-same (recordsStored l a i) i (getD a i noProcess) noProcess (let x = stored-length l a i in omega arith))
+    go : (j < i → getD (recordsStored l a i) j noProcess ≡ getD a j noProcess) → (t : Bool) → eqb j i ≡ t
+        → getD (set (recordsStored l a i) i (getD a i noProcess)) j noProcess ≡ getD a j noProcess
+    go f true e = let s : j ≡ i = eqb-true j i e in rw s
+        (getD-set-same (recordsStored l a i) i (getD a i noProcess) noProcess (let x = stored-length l a i in omega arith))
     go f false e = let ne = eqb-false j i e in getD-set-other (recordsStored l a i) i j (getD a i noProcess) noProcess ne ∙ f (omega (arith, ne))
 
 stored-above : (l a : List Process) (i j : ℕ) → i ≤ j → getD (recordsStored l a i) j noProcess ≡ getD l j noProcess
@@ -83,11 +86,13 @@ stored-back l a sixteen =
         let x = length-take (length l) a in
         let e : i ≡ length (take (length l) a) + (i - 16) = omega arith in
         let f : i ≡ 16 + (i - 16) = omega arith in
-        stored-above l a 16 i (omega arith) ∙ ap (λ k. getD l k noProcess) f ∙ sym (getD-drop 16 l (i - 16) noProcess) ∙ sym (getD-append-add (take (length l) a) (drop 16 l) (i - 16) noProcess) ∙
+        stored-above l a 16 i (omega arith) ∙ ap (λ k. getD l k noProcess) f ∙ sym (getD-drop 16 l (i - 16) noProcess) ∙
+        sym (getD-append-add (take (length l) a) (drop 16 l) (i - 16) noProcess) ∙
         ap (λ k. getD (take (length l) a ++ drop 16 l) k noProcess) (sym e)
 
 -- where a agrees from k on with what was gathered, its first k records say all that its sixteen do
-pub stored-few : (l a : List Process) (k : ℕ) → k ≤ 16 → ((j : ℕ) → k ≤ j → getD a j noProcess ≡ getD (gathered l noProcess 16 .list) j noProcess) → recordsStored l a k ≡ recordsStored l a 16
+pub stored-few : (l a : List Process) (k : ℕ) → k ≤ 16
+    → ((j : ℕ) → k ≤ j → getD a j noProcess ≡ getD (gathered l noProcess 16 .list) j noProcess) → recordsStored l a k ≡ recordsStored l a 16
 stored-few l a k few others =
     ext-getD noProcess (recordsStored l a k) (recordsStored l a 16)
     (stored-length l a k ∙ sym (stored-length l a 16))
@@ -95,7 +100,8 @@ stored-few l a k few others =
   where
     at : (i : ℕ) → i < length l → Dec (i < k) → Dec (i < 16) → getD (recordsStored l a k) i noProcess ≡ getD (recordsStored l a 16) i noProcess
     at i s (yes h) g = stored-below l a k i h s ∙ sym (stored-below l a 16 i (omega arith) s)
-    at i s (no h) (yes g) = stored-above l a k i (omega arith) ∙ sym (gathered-at l noProcess 16 i (omega arith) g) ∙ sym (others i (omega arith)) ∙ sym (stored-below l a 16 i g s)
+    at i s (no h) (yes g) = stored-above l a k i (omega arith) ∙ sym (gathered-at l noProcess 16 i (omega arith) g) ∙
+        sym (others i (omega arith)) ∙ sym (stored-below l a 16 i g s)
     at i s (no h) (no g) = stored-above l a k i (omega arith) ∙ sym (stored-above l a 16 i (omega arith))
 
 -- from what the run by value says and what is stored back, to a run over all lent memory
@@ -104,7 +110,8 @@ pub ran-stored : (b : Bench) (rs : List Process) (ws text listing : List ℕ) (r
     → zs ≡ recordsStored rs (r .all .list) (r .stored)
     → left r zs vs ls ≡ runText (memory b rs ws) text listing
 ran-stored b rs ws text listing r zs vs ls ran stored =
-    ap (λ (l : List Process). left r l vs ls) (stored ∙ stored-few rs (r .all .list) (r .stored) (ran .few) (ran .others) ∙ stored-back rs (r .all .list) sixteen) ∙
+    ap (λ (l : List Process). left r l vs ls) (stored ∙ stored-few rs (r .all .list) (r .stored) (ran .few) (ran .others) ∙
+    stored-back rs (r .all .list) sixteen) ∙
     ap (endedLonger (drop 16 rs)) (ran .same ∙ ap (λ (l : List Process). runText (memory b l ws) text listing) (gathered-few rs)) ∙
     sym (first-sixteen (memory b rs ws) text listing)
   where
@@ -112,14 +119,18 @@ ran-stored b rs ws text listing r zs vs ls ran stored =
     sixteen = ap (λ (a : Records). length (a .list)) (ran .again) ∙ gathered-length (take (length rs) (r .all .list)) noProcess 16
 
 -- no more than sixteen records are stored back
-pub at-most-sixteen : (b : Bench) (all : Records) (len : ℕ) (ws text list : List ℕ) (r : Whole) (k : ℕ) (ws′ list′ : List ℕ) → all ≡ gathered (take len (all .list)) noProcess 16
+pub at-most-sixteen : (b : Bench) (all : Records) (len : ℕ) (ws text list : List ℕ) (r : Whole) (k : ℕ) (ws′ list′ : List ℕ)
+    → all ≡ gathered (take len (all .list)) noProcess 16
     → k ≡ fewOf (r .stored)
-    → (left r (take len (r .all .list)) ws′ list′ ≡ runText (memory b (take len (all .list)) ws) text list) × (r .all ≡ gathered (take len (r .all .list)) noProcess 16) × Others all r
+    → (left r (take len (r .all .list)) ws′ list′ ≡ runText (memory b (take len (all .list)) ws) text list) ×
+    (r .all ≡ gathered (take len (r .all .list)) noProcess 16) × Others all r
     → Ran b all len ws text list (record { bench = r .bench; all = r .all; stored = k; number = r .number; entries = r .entries; written = r .written }) ws′ list′
-at-most-sixteen b all len ws text list r k ws′ list′ q e x = record { same = x .0; again = x .1; others = others; few = subst (λ (n : ℕ). n ≤ 16) (sym e) (few-small (r .stored)) }
+at-most-sixteen b all len ws text list r k ws′ list′ q e x = record
+    { same = x .0; again = x .1; others = others; few = subst (λ (n : ℕ). n ≤ 16) (sym e) (few-small (r .stored)) }
   where
     past : (l : Records) → l ≡ gathered (take len (l .list)) noProcess 16 → (j : ℕ) → 16 ≤ j → getD (l .list) j noProcess ≡ noProcess
-    past l g j h = List·getD-eq-default (l .list) noProcess (let n = ap (λ (m : Records). length (m .list)) g ∙ gathered-length (take len (l .list)) noProcess 16 in omega arith)
+    past l g j h = List·getD-eq-default (l .list) noProcess
+        (let n = ap (λ (m : Records). length (m .list)) g ∙ gathered-length (take len (l .list)) noProcess 16 in omega arith)
 
     either : (j : ℕ) → (t : Bool) → ltb 16 (r .stored) ≡ t → cond t 16 (r .stored) ≤ j → getD (r .all .list) j noProcess ≡ getD (all .list) j noProcess
     either j true f h = past (r .all) (x .1) j h ∙ sym (past all q j h)

@@ -1,3 +1,3 @@
 pub mod Lent
 pub mod Running
-pub mod Settling
+pub mod SettingUp

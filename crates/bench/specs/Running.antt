@@ -6,8 +6,8 @@ use lib.ListN.{take}
 use Rattle.model.specs.declared.Bench.{Bench}
 use Rattle.model.specs.declared.Process.{Process}
 use Rattle.model.specs.Records.{noProcess}
-use Rattle.machine.specs.declared.records.Records.{Records}
-use Rattle.machine.specs.Gathered.{gathered}
+use Rattle.tables.specs.declared.records.Records.{Records}
+use Rattle.tables.specs.Gathered.{gathered}
 use Rattle.run.specs.declared.last_line.Whole.{Whole}
 use Rattle.run.specs.TextRun.{Ended, runText}
 use Rattle.run.specs.Whole.{Others}
@@ -17,7 +17,8 @@ use Rattle.bench.specs.Lent.{memory}
 abbrev pub left : Whole → List Process → List ℕ → List ℕ → Ended
 left r rs ws list = record { number = r .number; entries = r .entries; written = r .written; memory = memory (r .bench) rs ws; listing = list }
 
--- a run over the records `all` that were gathered of `len` lent ones: what it leaves is what the model says, and from the `stored` first ones on the records are what they were
+-- a run over the records `all` that were gathered of `len` lent ones: what it leaves is what the model says,
+-- and the records from `stored` on are what they were
 pub record Ran (b : Bench) (all : Records) (len : ℕ) (ws text list : List ℕ) (r : Whole) (ws′ list′ : List ℕ) : Type 0 where
   pub same : left r (take len (r .all .list)) ws′ list′ ≡ runText (memory b (take len (all .list)) ws) text list
   pub again : r .all ≡ gathered (take len (r .all .list)) noProcess 16

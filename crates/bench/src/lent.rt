@@ -2,15 +2,15 @@
 ghost use mathlib.Core.Path.{_≡_};
 ghost use lib.ListN.{getD, set};
 ghost use Rattle.model.specs.Records.{noProcess};
-ghost use Rattle.machine.specs.Gathered.{gathered};
+ghost use Rattle.tables.specs.Gathered.{gathered};
 ghost use Rattle.run.specs.Whole.{fewOf};
 ghost use Rattle.bench.specs.Lent.{recordFor, recordsStored, recordsToWrite, recordsWritten};
-use machine::records::Records;
 use model::Process;
 use model::ProcessNumber;
+use tables::records::Records;
 
 // The record at i, or another one where there is none.
-pub fn take_or(records: &[Process], i: usize, other: Process) -> Process
+pub fn record_or(records: &[Process], i: usize, other: Process) -> Process
     ensures { λ r. ⌜ r ≡ getD (now (records .entry)) i other ⌝ }
 {
     if i < records.len() {
@@ -20,7 +20,7 @@ pub fn take_or(records: &[Process], i: usize, other: Process) -> Process
 }
 
 // The record at i is replaced, where there is one.
-pub fn put_or(records: &mut [Process], i: usize, q: Process)
+pub fn store_at(records: &mut [Process], i: usize, q: Process)
     ensures { λ _. ⌜ now (records .exit) ≡ set (now (records .entry)) i q ⌝ }
 {
     if i < records.len() {
@@ -32,11 +32,11 @@ pub fn put_or(records: &mut [Process], i: usize, q: Process)
 pub fn gather(records: &[Process], none: Process) -> Records
     ensures { λ r. ⌜ r ≡ gathered (now (records .entry)) none 16 ⌝ }
 {
-    let mut all = machine::records::records_of(none);
+    let mut all = tables::records::records_of(none);
     let mut i = 0;
     while i < 16 {
-        let q = take_or(records, i, none);
-        all = machine::records::with_record(all, i, q);
+        let q = record_or(records, i, none);
+        all = tables::records::with_record(all, i, q);
         i += 1;
     }
     all
@@ -47,12 +47,12 @@ pub fn record_for(n: usize, i: usize) -> Process
     ensures { λ r. ⌜ r ≡ recordFor n i ⌝ }
 {
     if 16 < n {
-        return machine::records::no_process();
+        return tables::records::no_process();
     }
     if 16 <= i {
-        return machine::records::no_process();
+        return tables::records::no_process();
     }
-    machine::set_up::record_at_set_up(n, ProcessNumber(i as u8))
+    setup::record_at_set_up(n, ProcessNumber(i as u8))
 }
 
 // How many records a set-up writes: a refused one writes none.
@@ -72,7 +72,7 @@ pub fn set_up_records(records: &mut [Process], n: usize, count: usize)
     let mut i = 0;
     while i < count {
         let q = record_for(n, i);
-        put_or(records, i, q);
+        store_at(records, i, q);
         i += 1;
     }
 }
@@ -94,7 +94,7 @@ pub fn pick(all: Records, i: usize) -> Process
     if i < 16 {
         return all.list[i];
     }
-    machine::records::no_process()
+    tables::records::no_process()
 }
 
 // The first n of sixteen records are stored back, where they are lent.
@@ -104,7 +104,7 @@ pub fn store_back(records: &mut [Process], all: Records, n: usize)
     let mut i = 0;
     while i < n {
         let q = pick(all, i);
-        put_or(records, i, q);
+        store_at(records, i, q);
         i += 1;
     }
 }

@@ -2,20 +2,20 @@
 ghost use mathlib.Core.Path.{_≡_};
 ghost use lib.ListN.{take};
 ghost use Rattle.model.specs.Records.{noProcess};
-ghost use Rattle.machine.specs.Gathered.{gathered};
+ghost use Rattle.tables.specs.Gathered.{gathered};
 ghost use Rattle.model.specs.Command.{command};
 ghost use Rattle.model.specs.SetUp.{setUp};
 ghost use Rattle.model.specs.View.{viewNumber, view};
 ghost use Rattle.run.specs.TextRun.{runText};
 ghost use Rattle.bench.specs.Lent.{memory};
-ghost use Rattle.bench.specs.Settling.{settling};
+ghost use Rattle.bench.specs.SettingUp.{setUpByValue};
 ghost use Rattle.bench.specs.Running.{Ran};
-use machine::records::Records;
 use model::Bench;
 use model::Order;
 use model::Process;
 use model::Reply;
 use run::last_line::Whole;
+use tables::records::Records;
 
 mod lent;
 
@@ -35,31 +35,38 @@ pub fn command(
 {
     let b = *bench;
     let len = records.len();
-    let none = machine::records::no_process();
+    let none = tables::records::no_process();
     let all = lent::gather(records, none);
-    let out = machine::decision::decide(b, all, len, process, order, value, words);
+    let out = machine::decide(b, all, len, process, order, value, words);
     *bench = out.bench;
     // A refusal names a place past the end, and there nothing is stored.
-    lent::put_or(records, out.at, out.process);
+    lent::store_at(records, out.at, out.process);
     out.reply
 }
 
 // What a set-up comes to: the number of its refusal, the bench, and how many records are to be set up.
-struct Settled {
+struct NewSetUp {
     number: u8,
     bench: Bench,
     count: usize,
 }
 
 // The set-up by value, but for the lent words, which it writes.
-fn settle(bench: Bench, len: usize, n: usize, w: usize, value: &[u64], words: &mut [u64]) -> Settled
-    ensures { λ r. ⌜ (r, now (words .exit)) ≡ settling bench len n w (now (value .entry)) (now (words .entry)) ⌝ }
+fn set_up_by_value(
+    bench: Bench,
+    len: usize,
+    n: usize,
+    w: usize,
+    value: &[u64],
+    words: &mut [u64],
+) -> NewSetUp
+    ensures { λ r. ⌜ (r, now (words .exit)) ≡ setUpByValue bench len n w (now (value .entry)) (now (words .entry)) ⌝ }
 {
-    let out = machine::set_up::prepare(bench, len, n, w, value, words);
+    let out = setup::prepare(bench, len, n, w, value, words);
     let number = out.number;
     let next = out.bench;
     let count = lent::records_to_write(number, n);
-    Settled {
+    NewSetUp {
         number,
         bench: next,
         count,
@@ -82,7 +89,7 @@ pub fn set_up(
 {
     let b = *bench;
     let len = records.len();
-    let out = settle(b, len, n, w, value, words);
+    let out = set_up_by_value(b, len, n, w, value, words);
     *bench = out.bench;
     lent::set_up_records(records, n, out.count);
     out.number
@@ -135,7 +142,7 @@ pub fn run_text(
 {
     let b = *bench;
     let len = records.len();
-    let none = machine::records::no_process();
+    let none = tables::records::no_process();
     let all = lent::gather(records, none);
     let out = run_gathered(b, all, len, words, text, listing);
     *bench = out.bench;
@@ -153,7 +160,7 @@ pub fn run_text(
 pub fn view_number(w: usize, value: &[u64], written: &[u64], k: usize) -> u8
     ensures { λ r. ⌜ r ≡ viewNumber w (now (value .entry)) (now (written .entry)) k ⌝ }
 {
-    machine::view::view_number(w, value, written, k)
+    viewing::view_number(w, value, written, k)
 }
 
 // The words of success k, no copy: the set-up value for 0, else a part of the list; an empty part of the set-up value at
@@ -163,5 +170,5 @@ pub fn view_number(w: usize, value: &[u64], written: &[u64], k: usize) -> u8
 pub fn view<'a>(w: usize, value: &'a [u64], written: &'a [u64], k: usize) -> &'a [u64]
     ensures { λ r. ⌜ (r .ptr, now r) ≡ view w (value .entry) (written .entry) k ⌝ }
 {
-    machine::view::view(w, value, written, k)
+    viewing::view(w, value, written, k)
 }

@@ -15,11 +15,13 @@ use Rattle.model.specs.Records.{noProcess}
 use Rattle.model.specs.Machine.{Memory, obey}
 use Rattle.model.specs.Refusals.{inRange, benchOk, every, processOk, row1, row2, row3, row4, row5, row6, row7, row8}
 use Rattle.model.specs.Command.{refusal, command}
-use Rattle.machine.specs.Decision.{decisionNumber, decided, obeyedAt}
-use Rattle.machine.specs.Gathered.{gathered, storedBack}
-use Rattle.machine.proofs.RowLaws.{n-in, neither, none-holds}
+use Rattle.rows.specs.CommandRows.{decisionNumber}
+use Rattle.machine.specs.Decision.{decided, obeyedAt}
+use Rattle.tables.specs.Gathered.{gathered}
+use Rattle.machine.specs.Decision.{storedBack}
+use Rattle.rows.proofs.RowLaws.{n-in, neither, none-holds}
 use Rattle.machine.proofs.ObeyLaws.{refused-law, obeyed-law}
-use Rattle.machine.proofs.GatheredLaws.{gathered-at, gathered-take}
+use Rattle.tables.proofs.GatheredLaws.{gathered-at, gathered-take}
 
 -- two tables with the same first three rows, and then the same number where those do not hold
 later : (a c d : Bool) (x y : ℕ) → (a ≡ false → d ≡ false → x ≡ y) → cond a 1 (cond c 2 (cond d 3 x)) ≡ cond a 1 (cond c 2 (cond d 3 y))

@@ -14,11 +14,12 @@ use Rattle.model.specs.declared.Moved.{Moved}
 use Rattle.model.specs.Records.{noProcess, recordAt}
 use Rattle.model.specs.Machine.{obey}
 use Rattle.model.specs.Refusals.{inRange, benchOk, every, processOk}
-use Rattle.machine.specs.Ranges.{Obeyable}
-use Rattle.machine.specs.Decision.{decisionNumber, refusedOutcome, obeyedAt, decided}
-use Rattle.machine.proofs.AndLaws.{right}
-use Rattle.machine.proofs.ListLaws.{every-at}
-use Rattle.machine.proofs.RowLaws.{Cleared, none-holds, InRange, in-range}
+use Rattle.taken.specs.Ranges.{Obeyable}
+use Rattle.rows.specs.CommandRows.{decisionNumber}
+use Rattle.machine.specs.Decision.{refusedOutcome, obeyedAt, decided}
+use Rattle.laws.proofs.AndLaws.{right}
+use Rattle.laws.proofs.ListLaws.{every-at}
+use Rattle.rows.proofs.RowLaws.{Cleared, none-holds, InRange, in-range}
 
 module _ (b : Bench) (list : List Process) (len p : ℕ) (o : Order) (value words : List ℕ) where
   in-list : length list ≡ 16 → (h : Cleared b list len p o (length value) (length words)) → InRange (b .n) (b .w) (getD list p noProcess)
@@ -54,6 +55,7 @@ module _ (b : Bench) (list : List Process) (len p : ℕ) (o : Order) (value word
   unfolding decided
   refused-law k e h = rw e (simp (ne-eqb (decisionNumber b list len p o (length value) (length words)) 0 (λ z. h (e ∙ z))))
 
-  pub obeyed-law : (out : Moved × List ℕ) → decisionNumber b list len p o (length value) (length words) ≡ 0 → out ≡ obey o (record { 0 = p }) value b (recordAt list (record { 0 = p })) words → obeyedAt p out ≡ decided b list len p o value words
+  pub obeyed-law : (out : Moved × List ℕ) → decisionNumber b list len p o (length value) (length words) ≡ 0
+      → out ≡ obey o (record { 0 = p }) value b (recordAt list (record { 0 = p })) words → obeyedAt p out ≡ decided b list len p o value words
   unfolding decided
   obeyed-law out e h = ap (obeyedAt p) h ∙ simp (eq-eqb (decisionNumber b list len p o (length value) (length words)) 0 e)

@@ -19,8 +19,8 @@ use Rattle.model.specs.Machine.{Memory}
 use Rattle.model.specs.Refusals.{row1, row2, row3, row4, row9, isIdle, inRange}
 use Rattle.model.specs.Command.{command, refusal, obeyed}
 use Rattle.model.specs.Replies.{numberOf}
-use Rattle.machine.specs.Ranges.{Ready}
-use Rattle.machine.proofs.RowLaws.{cleared, neither, n-in, w-in, in-range}
+use Rattle.taken.specs.Ranges.{Ready}
+use Rattle.rows.proofs.RowLaws.{cleared, neither, n-in, w-in, in-range}
 use Rattle.linearization.proofs.PointFacts.{point-of}
 use Rattle.linearization.proofs.GhostMachine.{State}
 use Rattle.linearization.proofs.Relation.{Related}

@@ -18,13 +18,14 @@ use Rattle.model.specs.Replies.{numberOf}
 use Rattle.model.specs.Machine.{obey}
 use Rattle.model.specs.Refusals.{Row, first, every}
 use Rattle.model.specs.Command.{command}
-use Rattle.machine.specs.declared.records.Records.{Records}
-use Rattle.machine.specs.declared.decision.Outcome.{Outcome}
-use Rattle.machine.specs.Ranges.{Obeyable}
-use Rattle.machine.specs.Decision.{decisionRows, decisionNumber, refusedOutcome, obeyedAt, decided}
-use Rattle.machine.specs.Gathered.{gathered, storedBack}
-use Rattle.machine.proofs.AndLaws.{left, right}
-use Rattle.machine.proofs.RowLaws.{Cleared, none-holds}
+use Rattle.tables.specs.declared.records.Records.{Records}
+use Rattle.machine.specs.declared.Outcome.{Outcome}
+use Rattle.taken.specs.Ranges.{Obeyable}
+use Rattle.rows.specs.CommandRows.{decisionRows, decisionNumber}
+use Rattle.machine.specs.Decision.{refusedOutcome, obeyedAt, decided, storedBack}
+use Rattle.tables.specs.Gathered.{gathered}
+use Rattle.laws.proofs.AndLaws.{left, right}
+use Rattle.rows.proofs.RowLaws.{Cleared, none-holds}
 use Rattle.machine.proofs.ObeyLaws.{obeyable, refused-law, obeyed-law}
 use Rattle.machine.proofs.DecisionLaws.{decision-law}
 use Rattle.run.specs.Held.{Filled}

@@ -17,11 +17,11 @@ use Rattle.model.specs.declared.Reply.{Reply}
 use Rattle.model.specs.Records.{noProcess}
 use Rattle.model.specs.Words.{returnArea, returnWord}
 use Rattle.model.specs.Refusals.{inRange, benchOk, every, processOk, bufferOk, xOk, lineOk, countOk, isIdle}
-use Rattle.machine.specs.declared.decision.Outcome.{Outcome}
-use Rattle.machine.proofs.AndLaws.{right}
-use Rattle.machine.proofs.ListLaws.{every-at}
-use Rattle.machine.proofs.RowLaws.{Cleared}
-use Rattle.machine.proofs.WordLaws.{within}
+use Rattle.machine.specs.declared.Outcome.{Outcome}
+use Rattle.laws.proofs.AndLaws.{right}
+use Rattle.laws.proofs.ListLaws.{every-at}
+use Rattle.rows.proofs.RowLaws.{Cleared}
+use Rattle.words.proofs.WordLaws.{within}
 use Rattle.notation.specs.Grammar.{largest}
 use Rattle.listing.specs.Lines.{letterS, letterV}
 use Rattle.listing.proofs.Lengths.{ll-length, truth-length}

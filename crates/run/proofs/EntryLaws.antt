@@ -20,16 +20,17 @@ use Rattle.model.specs.Points.{pointOf}
 use Rattle.model.specs.Machine.{obey}
 use Rattle.model.specs.Refusals.{first, row4, row5, row6, row7}
 use Rattle.model.specs.Replies.{numberOf}
-use Rattle.machine.specs.declared.taken.Taken.{Taken}
-use Rattle.machine.specs.declared.taken.Stepped.{Stepped}
-use Rattle.machine.specs.declared.decision.Outcome.{Outcome}
-use Rattle.machine.specs.Lengths.{row8Lent}
-use Rattle.machine.specs.Decision.{decisionNumber, lateNumber, refusedOutcome, obeyedOutcome, decided}
-use Rattle.machine.specs.Ranges.{Ready}
-use Rattle.machine.specs.Taken.{bankIndex, helpIndex, takenAt, putTaken, putBack}
-use Rattle.machine.proofs.RowLaws.{late-decides}
+use Rattle.taken.specs.declared.Taken.{Taken}
+use Rattle.taken.specs.declared.Stepped.{Stepped}
+use Rattle.machine.specs.declared.Outcome.{Outcome}
+use Rattle.rows.specs.Lengths.{row8Lent}
+use Rattle.rows.specs.CommandRows.{decisionNumber, lateNumber}
+use Rattle.machine.specs.Decision.{refusedOutcome, obeyedOutcome, decided}
+use Rattle.taken.specs.Ranges.{Ready}
+use Rattle.taken.specs.Taken.{bankIndex, helpIndex, takenAt, putTaken, putBack}
+use Rattle.rows.proofs.RowLaws.{late-decides}
 use Rattle.machine.proofs.ObeyLaws.{obeyable, refused-law, obeyed-law}
-use Rattle.machine.proofs.TakenLaws.{whole-order}
+use Rattle.steps.proofs.TakenLaws.{whole-order}
 use Rattle.notation.specs.declared.Entry.{Entry}
 use Rattle.notation.specs.declared.Entry.the-variants.{StartLl, StartVl, StartSc, Step, Finish}
 use Rattle.listing.specs.Writing.{Wrote}

@@ -17,7 +17,7 @@ use Rattle.model.specs.Replies.{numberOf}
 use Rattle.notation.specs.declared.Entry.{Entry}
 use Rattle.notation.specs.declared.Entry.the-variants.{StartLl, StartVl, StartSc, Step, Finish}
 use Rattle.notation.specs.EntryWords.{keptProcess, keptEntry}
-use Rattle.machine.proofs.RowLaws.{n-in}
+use Rattle.rows.proofs.RowLaws.{n-in}
 use Rattle.run.specs.TextRun.{Progress, stopped, mostEntries, roomNeeded, processOf, orderOf, valueOf, replied, commanded, single, unanswered, steps, carry, carryAll}
 
 -- what holds of both arms of a test, each where it is taken

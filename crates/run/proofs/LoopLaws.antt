@@ -18,11 +18,11 @@ use Rattle.model.specs.Sizes.{llMost}
 use Rattle.model.specs.Records.{noProcess, recordAt}
 use Rattle.model.specs.Points.{pointOf}
 use Rattle.lines.specs.Ranges.{Sized}
-use Rattle.machine.specs.declared.taken.Taken.{Taken}
-use Rattle.machine.specs.declared.records.Records.{Records}
-use Rattle.machine.specs.Ranges.{Ready}
-use Rattle.machine.specs.Taken.{bankIndex, helpIndex, takenAt, putTaken}
-use Rattle.machine.proofs.IndexLaws.{bank-index-small, help-index-small}
+use Rattle.taken.specs.declared.Taken.{Taken}
+use Rattle.tables.specs.declared.records.Records.{Records}
+use Rattle.taken.specs.Ranges.{Ready}
+use Rattle.taken.specs.Taken.{bankIndex, helpIndex, takenAt, putTaken}
+use Rattle.taken.proofs.IndexLaws.{bank-index-small, help-index-small}
 use Rattle.notation.specs.declared.Entry.{Entry}
 use Rattle.notation.specs.declared.Entry.the-variants.{StartLl, StartVl, StartSc, Step, Finish}
 use Rattle.notation.specs.Grammar.{largest}

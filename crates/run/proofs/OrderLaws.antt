@@ -11,8 +11,8 @@ use borrow.Author.Tests.{ltb-false}
 use Rattle.model.specs.declared.Process.{Process}
 use Rattle.model.specs.declared.Order.the-variants.{Step}
 use Rattle.model.specs.Refusals.{inRange, benchOk, every, processOk, row9}
-use Rattle.machine.specs.Decision.{InOrder}
-use Rattle.machine.proofs.RowLaws.{neither, n-in}
+use Rattle.rows.specs.CommandRows.{InOrder}
+use Rattle.rows.proofs.RowLaws.{neither, n-in}
 use Rattle.run.specs.Held.{Held, progress, Sound}
 use Rattle.run.proofs.RecordLaws.{lent-length}
 use Rattle.run.proofs.ReachedLaws.{Unhindered, unhindered}

@@ -10,9 +10,9 @@ use lib.Seq.{length-take-le, getD-set-other, getD-take, take-all, ext-getD}
 use borrow.Author.Tests.{ltb-true, ltb-false}
 use Rattle.model.specs.declared.Process.{Process}
 use Rattle.model.specs.Records.{noProcess}
-use Rattle.machine.specs.declared.records.Records.{Records}
-use Rattle.machine.specs.Gathered.{gathered}
-use Rattle.machine.proofs.GatheredLaws.{gathered-length, gathered-at}
+use Rattle.tables.specs.declared.records.Records.{Records}
+use Rattle.tables.specs.Gathered.{gathered}
+use Rattle.tables.proofs.GatheredLaws.{gathered-length, gathered-at}
 use Rattle.run.specs.Held.{Filled}
 use Rattle.run.specs.Whole.{fewOf}
 

@@ -12,9 +12,9 @@ use Rattle.model.specs.declared.Process.{Process}
 use Rattle.model.specs.Records.{noProcess}
 use Rattle.model.specs.Machine.{Memory}
 use Rattle.model.specs.SetUp.{atSetUp, setUpRefusal, setUp}
-use Rattle.machine.specs.declared.records.Records.{Records}
-use Rattle.machine.specs.Gathered.{gathered}
-use Rattle.machine.specs.Lengths.{setUpNumber}
+use Rattle.tables.specs.declared.records.Records.{Records}
+use Rattle.tables.specs.Gathered.{gathered}
+use Rattle.setup.specs.SetUpByValue.{setUpNumber}
 use Rattle.notation.specs.declared.Entry.{Entry}
 use Rattle.notation.specs.Grammar.{largest, deepest}
 use Rattle.notation.specs.Readers.{Headed, NotHeaded}

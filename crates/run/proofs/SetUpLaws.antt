@@ -9,8 +9,8 @@ use lib.ListN.{length, set}
 use lib.Seq.{sets}
 use Rattle.model.specs.declared.Process.{Process}
 use Rattle.model.specs.SetUp.{numbers, processAtSetUp, recordsAtSetUp}
-use Rattle.machine.specs.declared.records.Records.{Records}
-use Rattle.machine.proofs.ListLaws.{sets-append}
+use Rattle.tables.specs.declared.records.Records.{Records}
+use Rattle.laws.proofs.ListLaws.{sets-append}
 
 -- the first p of n records set up
 abbrev pub recordsSet : List Process → ℕ → ℕ → List Process

@@ -14,11 +14,11 @@ use Rattle.model.specs.Records.{noProcess}
 use Rattle.model.specs.Refusals.{row1, row2}
 use Rattle.model.specs.SetUp.{numbers, processAtSetUp, recordsAtSetUp, wordsAtSetUp, benchAtSetUp, atSetUp, setUpRefusal, setUp}
 use Rattle.model.specs.Machine.{Memory, Shaped}
-use Rattle.machine.specs.declared.records.Records.{Records}
-use Rattle.machine.specs.Lengths.{row3Lent, row8Always, setUpNumber, set-up-number}
-use Rattle.machine.specs.SetUpByValue.{Accepted}
-use Rattle.machine.proofs.RowLaws.{cleared, neither}
-use Rattle.machine.proofs.SetUpLaws.{first-row, set-up-fits}
+use Rattle.tables.specs.declared.records.Records.{Records}
+use Rattle.rows.specs.Lengths.{row3Lent}
+use Rattle.setup.specs.SetUpByValue.{row8Always, setUpNumber, set-up-number, Accepted}
+use Rattle.rows.proofs.RowLaws.{cleared, neither}
+use Rattle.setup.proofs.SetUpLaws.{first-row, set-up-fits}
 use Rattle.notation.specs.declared.Entry.{Entry}
 use Rattle.notation.specs.Grammar.{largest}
 use Rattle.run.specs.Held.{Held, held, progress, Filled, Sound}

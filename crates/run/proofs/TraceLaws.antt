@@ -18,11 +18,11 @@ use Rattle.model.specs.Records.{noProcess, recordAt}
 use Rattle.model.specs.Points.{pointOf}
 use Rattle.model.specs.Machine.{Memory}
 use Rattle.model.specs.Refusals.{inRange, isIdle}
-use Rattle.machine.specs.declared.taken.Taken.{Taken}
-use Rattle.machine.specs.Ranges.{Ready}
-use Rattle.machine.specs.Taken.{bankIndex, helpIndex, takenAt}
-use Rattle.machine.specs.Decision.{lateNumber}
-use Rattle.machine.proofs.RowLaws.{late-decides}
+use Rattle.taken.specs.declared.Taken.{Taken}
+use Rattle.taken.specs.Ranges.{Ready}
+use Rattle.taken.specs.Taken.{bankIndex, helpIndex, takenAt}
+use Rattle.rows.specs.CommandRows.{lateNumber}
+use Rattle.rows.proofs.RowLaws.{late-decides}
 use Rattle.machine.proofs.ObeyLaws.{obeyable}
 use Rattle.notation.specs.declared.Entry.{Entry}
 use Rattle.notation.specs.declared.Entry.the-variants.{StartLl, StartVl, StartSc, Step, Finish}

@@ -18,7 +18,7 @@ use Rattle.model.specs.Machine.{Memory, Shaped, obey}
 use Rattle.model.specs.Command.{command, refusal, obeyed}
 use Rattle.model.specs.SetUp.{setUp}
 use Rattle.model.specs.Replies.{numberOf}
-use Rattle.machine.proofs.WordLaws.{within}
+use Rattle.words.proofs.WordLaws.{within}
 use Rattle.linearization.proofs.ListFacts.{sets-out}
 use Rattle.notation.specs.declared.Entry.{Entry}
 use Rattle.notation.specs.declared.Entry.the-variants.{StartLl, StartVl, StartSc, Step, Finish}

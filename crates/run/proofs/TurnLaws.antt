@@ -9,9 +9,9 @@ use Rattle.model.specs.declared.ProcessNumber.{ProcessNumber}
 use Rattle.model.specs.declared.Process.{Process}
 use Rattle.model.specs.declared.Order.{Order}
 use Rattle.model.specs.declared.Reply.{Reply}
-use Rattle.machine.specs.declared.taken.Taken.{Taken}
-use Rattle.machine.specs.declared.taken.Stepped.{Stepped}
-use Rattle.machine.specs.Taken.{offered, obeyOn}
+use Rattle.taken.specs.declared.Taken.{Taken}
+use Rattle.taken.specs.declared.Stepped.{Stepped}
+use Rattle.steps.specs.Steps.{offered, obeyOn}
 use Rattle.notation.specs.declared.Entry.{Entry}
 use Rattle.listing.specs.Writing.{Room, Wrote}
 use Rattle.listing.proofs.WritingLaws.{then, same, room-same, room-first, room-then}

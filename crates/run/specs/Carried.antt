@@ -12,10 +12,10 @@ use Rattle.model.specs.Sizes.{llMost}
 use Rattle.model.specs.Records.{noProcess}
 use Rattle.model.specs.Points.{pointOf}
 use Rattle.model.specs.Refusals.{first, row4, row5, row6, row7}
-use Rattle.machine.specs.declared.taken.Taken.{Taken}
-use Rattle.machine.specs.declared.taken.Stepped.{Stepped}
-use Rattle.machine.specs.Taken.{offered, obeyOn}
-use Rattle.machine.specs.Ranges.{Ready}
+use Rattle.taken.specs.declared.Taken.{Taken}
+use Rattle.taken.specs.declared.Stepped.{Stepped}
+use Rattle.steps.specs.Steps.{offered, obeyOn}
+use Rattle.taken.specs.Ranges.{Ready}
 use Rattle.notation.specs.declared.Entry.{Entry}
 use Rattle.notation.specs.declared.Entry.the-variants.{StartLl, StartVl, StartSc, Step, Finish}
 use Rattle.notation.specs.EntryWords.{entryIn}

@@ -10,7 +10,7 @@ use Rattle.model.specs.declared.Bench.{Bench}
 use Rattle.model.specs.Records.{noProcess}
 use Rattle.model.specs.Machine.{Memory}
 use Rattle.model.specs.SetUp.{setUp}
-use Rattle.machine.specs.declared.records.Records.{Records}
+use Rattle.tables.specs.declared.records.Records.{Records}
 use Rattle.notation.specs.declared.Entry.{Entry}
 use Rattle.notation.specs.Grammar.{largest, deepest}
 use Rattle.notation.specs.EntryWords.{largestPlace}

@@ -10,9 +10,8 @@ use crate::refusals;
 use crate::state;
 use crate::state::Run;
 use crate::turn;
-use machine::taken;
-use machine::taken::Taken;
 use model::ProcessNumber;
+use taken::Taken;
 
 // Bench and records are worked on where they stand in this function: passed to another and back, they would be copied for each entry. An entry
 // that is refused stops the run; `!` stays at its place in the list until its call answers.

@@ -1,18 +1,17 @@
 // What an entry orders: its process, its order and its value.
 ghost use mathlib.Core.Path.{_≡_};
 ghost use lib.ListN.{replicate};
-ghost use Rattle.run.specs.TextRun.{processOf, orderOf};
-ghost use Rattle.machine.specs.Ranges.{Lent};
-ghost use Rattle.machine.specs.Taken.{offered};
+ghost use Rattle.run.specs.TextRun.{processOf, orderOf, valueOf};
+ghost use Rattle.taken.specs.Ranges.{Lent};
+ghost use Rattle.steps.specs.Steps.{offered};
 ghost use Rattle.notation.specs.EntryWords.{entryIn};
-ghost use Rattle.run.specs.TextRun.{valueOf};
 ghost use Rattle.run.specs.Carried.{placeOf, staysAt};
 use lines::points;
-use machine::word_places;
-use machine::word_runs;
 use model::Order;
 use model::ProcessNumber;
 use notation::Entry;
+use words::word_places;
+use words::word_runs;
 
 // The entry that a number of the list keeps.
 pub fn entry_in(word: u64) -> Entry

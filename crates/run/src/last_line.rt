@@ -2,8 +2,8 @@
 ghost use mathlib.Core.Path.{_≡_};
 ghost use Rattle.run.specs.Whole.{freshRun, wholeOf, closed, Closable};
 use crate::state::Run;
-use machine::records::Records;
 use model::Bench;
+use tables::records::Records;
 
 // What a text run leaves of the bench and the records, how many of the records may differ from before, and what it returns: its number, the
 // entries done and the listing bytes written.

@@ -1,4 +1,4 @@
-// 01's limits of a text run, and the numbers of its own refusals; rows 1 to 9 have theirs in `machine::causes`.
+// 01's limits of a text run, and the numbers of its own refusals; rows 1 to 9 have theirs in `rows::causes`.
 pub const MOST_ENTRIES: usize = 60000;
 
 // Room for an entry's line, and for a trace's line before it.

@@ -2,9 +2,9 @@
 ghost use mathlib.Core.Path.{_≡_};
 ghost use Rattle.run.specs.Carried.{refusalOf};
 use crate::limits;
-use machine::causes;
 use model::Order;
 use model::Process;
+use rows::causes;
 
 // "before each entry 12, then 14", then rows 4, 5, 6, 7; 0 for nothing. After a set-up rows 1, 2, 3 and 9 cannot hold, and a text's SC brings
 // W words, so nothing else can refuse. The record is not looked at where the process is none of N.

@@ -2,10 +2,9 @@
 ghost use mathlib.Core.Path.{_≡_};
 ghost use Prim.Native.Nat.{_≤_};
 ghost use Rattle.model.specs.SetUp.{recordsAtSetUp};
-use machine::records;
-use machine::records::Records;
-use machine::set_up;
 use model::ProcessNumber;
+use tables::records;
+use tables::records::Records;
 
 // "mybuf of p = 2N + p"; records from n on stay.
 pub fn records_at_set_up(all: Records, n: usize) -> Records
@@ -15,7 +14,7 @@ pub fn records_at_set_up(all: Records, n: usize) -> Records
     let mut next = all;
     let mut p = 0;
     while p < n {
-        let process = set_up::record_at_set_up(n, ProcessNumber(p as u8));
+        let process = setup::record_at_set_up(n, ProcessNumber(p as u8));
         next = records::with_record(next, p, process);
         p += 1;
     }

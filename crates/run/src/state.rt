@@ -2,8 +2,8 @@
 ghost use mathlib.Core.Path.{_≡_};
 ghost use Rattle.run.specs.TextRun.{roomNeeded};
 use crate::limits;
-use machine::records::Records;
 use model::Bench;
+use tables::records::Records;
 
 // The bench and the records, the bytes of the listing that are written, the entries done, the number of the refusal that stopped the run,
 // 0 while it goes on, and whether it writes a trace.

@@ -4,7 +4,7 @@ ghost use mathlib.Core.Path.{_≡_};
 ghost use Prim.Native.Nat.{_≤_};
 ghost use lib.ListN.{length, take};
 ghost use Rattle.model.specs.Records.{noProcess};
-ghost use Rattle.machine.specs.Gathered.{gathered};
+ghost use Rattle.tables.specs.Gathered.{gathered};
 ghost use Rattle.run.specs.TextRun.{runWith, runText, traceText};
 ghost use Rattle.notation.specs.Grammar.{largest};
 ghost use Rattle.run.specs.Carried.{entriesIn};
@@ -16,11 +16,11 @@ use crate::last_line::Whole;
 use crate::limits;
 use crate::set_up;
 use crate::state;
-use machine::records::Records;
 use model::Bench;
 use notation::Header;
 use notation::items;
 use notation::items::Items;
+use tables::records::Records;
 
 // The first line's numbers, and where the items begin.
 pub struct First {
@@ -63,13 +63,13 @@ fn started(
 {
     let n = first.n as usize;
     let w = first.w as usize;
-    let number = machine::set_up::set_up_number(n, w, len, words.len(), w);
+    let number = setup::set_up_number(n, w, len, words.len(), w);
     if number != 0 {
         return refused(bench, all, len, number, words, list);
     }
     let value = entries::repeated(first.initial);
-    machine::set_up::words_at_set_up(words, n, w, &value[..w]);
-    let begun = machine::set_up::bench_at_set_up(bench, n, w);
+    setup::words_at_set_up(words, n, w, &value[..w]);
+    let begun = setup::bench_at_set_up(bench, n, w);
     let records = set_up::records_at_set_up(all, n);
     let run = last_line::fresh(begun, records, 0, traced);
     let done = carrying::carry_out(run, len, entries, count, words, list);

@@ -2,17 +2,17 @@
 ghost use mathlib.Core.Path.{_≡_};
 ghost use Rattle.listing.specs.Writing.{Room, Wrote};
 ghost use Rattle.run.specs.TextRun.{answers};
-ghost use Rattle.machine.specs.Ranges.{Ready};
+ghost use Rattle.taken.specs.Ranges.{Ready};
 ghost use Rattle.run.specs.Held.{shownLine};
 ghost use Rattle.run.specs.Carried.{accessSeen};
 use access::Access;
 use access::access_of;
 use access::trace_lines;
-use machine::taken::Taken;
 use model::Process;
 use model::ProcessNumber;
 use model::Reply;
 use notation::Entry;
+use taken::Taken;
 
 // The access that an entry makes, seen in the places taken out for it; a run that is not traced needs none.
 pub fn access_seen(

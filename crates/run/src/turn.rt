@@ -3,11 +3,11 @@ ghost use Rattle.run.specs.Carried.{Turnable, Turns};
 use crate::answers;
 use crate::entries;
 use crate::traces;
-use machine::orders;
-use machine::taken::Taken;
 use model::Process;
 use model::ProcessNumber;
 use notation::Entry;
+use steps::orders;
+use taken::Taken;
 
 // The places and the process as the entry leaves them, and where its lines end.
 pub struct Turn {

@@ -5,7 +5,7 @@ fn main() {
     let mut words = [0; 5120];
     let mut list = io::large_buffer();
     let bench = model::empty_bench();
-    let all = machine::records::records_of(machine::records::no_process());
+    let all = tables::records::records_of(tables::records::no_process());
     let out = run::text_run::run_by_value(bench, all, 16, &mut words, &text[..got], &mut list);
     print(&list, out.written);
 }

@@ -1,4 +1,5 @@
--- `bench::lent::gather` meets its contract: a walk of its MIR, by hand, with a loop. A turn calls `take_or`, to which the slice is passed as a copy, and `with_record`, by value.
+-- `bench::lent::gather` meets its contract: a walk of its MIR, by hand, with a loop. A turn calls `record_or`, to which the slice
+-- is passed as a copy, and `with_record`, by value.
 -- The invariant: at i, the records so far are `gathered ys d i`. The variant: what is left of 16.
 -- Assumes nothing.
 use mathlib.Core.Path.{_≡_, refl, sym, ap, subst, _∙_}
@@ -24,8 +25,10 @@ use prog.Wp.{Heap, Out, Env, afterSeq, afterBlock, afterTurn, Calls, Loops, Wp, 
 use ghost.Atoms.{Atoms, sem}
 use contract.Monad.{Fun, fact}
 use contract.Running.{givenOf, tables, tablesOf}
-use types.Kit.{Given, use0, Item, Sq, runs, anyQ, atRet, ‵, raw, _⊛_, some, later, _$_, _∵_, !, qed, by, move, keep, drop, use1, use2, rewrite, split, join, pick, fsplit, fjoin, suffices, frame, await, done}
-use types.Run.{look, init, store, forget, stop, from, load, lit, bin, of-opd, and-then, no-more, assigns, assigns-last, first, skips, jumps, blocks, branches, exec, land, returns, enter, alloc1, alloc0, params1, pass1, pass0, free1, free0, Below, again, loops}
+use types.Kit.{Given, use0, Item, Sq, runs, anyQ, atRet, ‵, raw, _⊛_, some, later, _$_, _∵_, !, qed, by, move, keep, drop, use1, use2, rewrite, split}
+use types.Kit.{join, pick, fsplit, fjoin, suffices, frame, await, done}
+use types.Run.{look, init, store, forget, stop, from, load, lit, bin, of-opd, and-then, no-more, assigns, assigns-last, first, skips, jumps, blocks}
+use types.Run.{branches, exec, land, returns, enter, alloc1, alloc0, params1, pass1, pass0, free1, free0, Below, again, loops}
 use sound.WpLaws.{FmC, fmOf, WpFn-mono}
 use denote.RattleType.{owns}
 use denote.Laws.{Is, shows}
@@ -46,24 +49,25 @@ use denote.Triple.Table.{entered, cited}
 use denote.Triple.Walked.{says, Stays, stay-none-slice, stay-none, walkOf, AllGo, goes-none-slice, goes-none, Walks, ends-at, walked, walk-meets}
 use denote.Exit.{yes}
 use Rattle.model.specs.declared.Process.{Process}
-use Rattle.machine.specs.declared.records.Records.{Records}
-use Rattle.machine.specs.Gathered.{gathered}
+use Rattle.tables.specs.declared.records.Records.{Records}
+use Rattle.tables.specs.Gathered.{gathered}
 use Rattle.model.proofs.Process as P
 use Rattle.model.proofs.Process.Laws as P′
-use Rattle.machine.proofs.records.Records as L
-use Rattle.machine.proofs.records.Records.Laws as L′
-use Rattle.machine.proofs.records.records_of as all-of
-use Rattle.machine.proofs.records.records_of.Symbol as all-of-def
-use Rattle.machine.proofs.records.records_of.Symbol.{name as #machine·records·records-of}
-use Rattle.machine.proofs.records.records_of.Met as all-of-thm
-use Rattle.machine.proofs.records.with_record as with′
-use Rattle.machine.proofs.records.with_record.Symbol as with-def
-use Rattle.machine.proofs.records.with_record.Symbol.{name as #machine·records·with-record}
-use Rattle.machine.proofs.records.with_record.Met as with-thm
-use Rattle.bench.proofs.lent.take_or as take-or
-use Rattle.bench.proofs.lent.take_or.Symbol as take-or-def
-use Rattle.bench.proofs.lent.take_or.Symbol.{name as #bench·lent·take-or}
-use Rattle.bench.proofs.lent.take_or.Met as take-or-thm
+use Rattle.tables.proofs.records.Records as L
+use Rattle.tables.proofs.records.Records.Laws as L′
+use Rattle.tables.proofs.records.records_of as all-of
+use Rattle.tables.proofs.records.records_of.Symbol as all-of-def
+use Rattle.tables.proofs.records.records_of.Symbol.{name as #tables·records·records-of}
+use Rattle.tables.proofs.records.records_of.Met as all-of-thm
+use Rattle.tables.proofs.records.with_record as with′
+use Rattle.tables.proofs.records.with_record.Symbol as with-def
+use Rattle.tables.proofs.records.with_record.Symbol.{name as #tables·records·with-record}
+use Rattle.tables.proofs.records.with_record.Met as with-thm
+use Rattle.bench.proofs.Locals.{room, holds, locals, local, places, recordsTy}
+use Rattle.bench.proofs.lent.record_or as record-or
+use Rattle.bench.proofs.lent.record_or.Symbol as record-or-def
+use Rattle.bench.proofs.lent.record_or.Symbol.{name as #bench·lent·record-or}
+use Rattle.bench.proofs.lent.record_or.Met as record-or-thm
 use Rattle.bench.proofs.lent.gather.Key.{name as #key}
 use Rattle.bench.proofs.lent.gather as f
 use Rattle.bench.proofs.lent.gather.Statement as stated
@@ -95,8 +99,8 @@ one-more l d i = refl
 
 -- a turn after its test, which the generated MIR has under no name
 abbrev more-of : Body
-more-of = seq (call #bench·lent·take-or (copy (place 1 []) ∷ copy (place 4 []) ∷ copy (place 2 []) ∷ []) (place 5 []))
-    (seq (call #machine·records·with-record (copy (place 3 []) ∷ copy (place 4 []) ∷ copy (place 5 []) ∷ []) (place 3 []))
+more-of = seq (call #bench·lent·record-or (copy (place 1 []) ∷ copy (place 4 []) ∷ copy (place 2 []) ∷ []) (place 5 []))
+    (seq (call #tables·records·with-record (copy (place 3 []) ∷ copy (place 4 []) ∷ copy (place 5 []) ∷ []) (place 3 []))
     (assign (place 4 []) (op2 (add unsigned) (copy (place 4 [])) (int w64 1))))
 
 module _ {M : Type 1} (𝓤 : URA M) (H : Heap 𝓤) (A : Atoms 𝓤) (mem : Memory → SProp 𝓤) (run : Routine → Fun 𝓤) where
@@ -108,18 +112,21 @@ module _ {M : Type 1} (𝓤 : URA M) (H : Heap 𝓤) (A : Atoms 𝓤) (mem : Mem
   With = tripleOf 𝓤 H A with′.signature (with′.spec 𝓤 H A mem run)
 
   abbrev TakeOr : Contract 𝓤
-  TakeOr = tripleOf 𝓤 H A take-or.signature (take-or.spec 𝓤 H A mem run)
+  TakeOr = tripleOf 𝓤 H A record-or.signature (record-or.spec 𝓤 H A mem run)
 
   all-of-says : (d : Process) (r : Records) → ent 𝓤 (ensured 𝓤 H A all-of.ended (all-of.clauses 𝓤 H A mem run) tt (d, tt) tt r) (fact 𝓤 (r ≡ allOf d))
   all-of-says d r = exE 𝓤 _ (λ ws. snd∗ 𝓤 (sem 𝓤 H A (lasts all-of.ended tt (d, tt) ws)) (fact 𝓤 (r ≡ allOf d)))
 
-  with-says : (a : Records) (i : ℕ) (d : Process) (r : Records) → ent 𝓤 (ensured 𝓤 H A with′.ended (with′.clauses 𝓤 H A mem run) tt (a, (i, (d, tt))) tt r) (fact 𝓤 (r ≡ withAt a i d))
+  with-says : (a : Records) (i : ℕ) (d : Process) (r : Records)
+      → ent 𝓤 (ensured 𝓤 H A with′.ended (with′.clauses 𝓤 H A mem run) tt (a, (i, (d, tt))) tt r) (fact 𝓤 (r ≡ withAt a i d))
   with-says a i d r = exE 𝓤 _ (λ ws. snd∗ 𝓤 (sem 𝓤 H A (lasts with′.ended tt (a, (i, (d, tt))) ws)) (fact 𝓤 (r ≡ withAt a i d)))
 
-  take-or-says : (κ : Lft) (x : RefT (List Process)) (i : ℕ) (d r : Process) → ent 𝓤 (ensured 𝓤 H A take-or.ended (take-or.clauses 𝓤 H A mem run) (κ, tt) (x, (i, (d, tt))) tt r) (fact 𝓤 (r ≡ getD (x .now) i d))
-  take-or-says κ x i d r = exE 𝓤 _ (λ ws. snd∗ 𝓤 (sem 𝓤 H A (lasts take-or.ended (κ, tt) (x, (i, (d, tt))) ws)) (fact 𝓤 (r ≡ getD (x .now) i d)))
+  record-or-says : (κ : Lft) (x : RefT (List Process)) (i : ℕ) (d r : Process)
+      → ent 𝓤 (ensured 𝓤 H A record-or.ended (record-or.clauses 𝓤 H A mem run) (κ, tt) (x, (i, (d, tt))) tt r) (fact 𝓤 (r ≡ getD (x .now) i d))
+  record-or-says κ x i d r = exE 𝓤 _ (λ ws. snd∗ 𝓤 (sem 𝓤 H A (lasts record-or.ended (κ, tt) (x, (i, (d, tt))) ws)) (fact 𝓤 (r ≡ getD (x .now) i d)))
 
-module _ {M : Type 1} (𝓤 : URA M) (H : Heap 𝓤) (A : Atoms 𝓤) (W : Given 𝓤 H A) (mem : Memory → SProp 𝓤) (run : Routine → Fun 𝓤) (κ : Lft) (q : Share) (b o : ℕ) (γ : GName) (ys : List Process) (d : Process)
+module _ {M : Type 1} (𝓤 : URA M) (H : Heap 𝓤) (A : Atoms 𝓤) (W : Given 𝓤 H A) (mem : Memory → SProp 𝓤) (run : Routine → Fun 𝓤)
+    (κ : Lft) (q : Share) (b o : ℕ) (γ : GName) (ys : List Process) (d : Process)
     (gn : Room P.the-row (length ys)) (gd : Is P.the-row d (machP d ∷ [])) where
   abbrev ref : RefT (List Process)
   ref = record { ptr = (b, o); name = γ; now = ys }
@@ -145,11 +152,14 @@ module _ {M : Type 1} (𝓤 : URA M) (H : Heap 𝓤) (A : Atoms 𝓤) (W : Given
   typedL : (v : Records) (w : Val) → Is L.the-row v (w ∷ []) → Holds (hasTy L′.mir w) × WT w
   typedL v w g = LL.lawful L.the-type L′.the-laws 𝓤 H A W .typed v _ g .0
 
-  exits : Is L.the-row (G 16) (machL (G 16) ∷ []) → ent 𝓤 (sep 𝓤 (A .lft κ q) (sem 𝓤 H A (ShrSlice (named 0) κ P.the-row .own ref (s ∷ [])))) (Post (machL (G 16)))
+  exits : Is L.the-row (G 16) (machL (G 16) ∷ []) → ent 𝓤
+      (sep 𝓤 (A .lft κ q) (sem 𝓤 H A (ShrSlice (named 0) κ P.the-row .own ref (s ∷ [])))) (Post (machL (G 16)))
   exits g =
       qed W (‵ (flft κ q) ∷ ‵ (ShrSlice (named 0) κ P.the-row .own ref (s ∷ [])) ∷ []) ∵
-      suffices ! _ (ends-at 𝓤 H A f.ended stayed (f.clauses 𝓤 H A mem run) W (((κ, tt), (q, tt), tt, x, at), tt) (machL (G 16)) (G 16) (tt, (tt, tt)) (tt, (tt, tt))) $ says ! refl $
-      nothing ! $ move ! (1 ∷ 0 ∷ []) $ join ! $ frame ! $ nothing ! $ owned ! P.the-row (Is P.the-row) (LL.makes P.the-type P′.the-plain 𝓤 H A) d _ gd $ fjoin ! $ move ! (1 ∷ 0 ∷ []) $ fjoin ! $ frame ! $
+      suffices ! _ (ends-at 𝓤 H A f.ended stayed (f.clauses 𝓤 H A mem run) W (((κ, tt), (q, tt), tt, x, at), tt) (machL (G 16))
+      (G 16) (tt, (tt, tt)) (tt, (tt, tt))) $ says ! refl $
+      nothing ! $ move ! (1 ∷ 0 ∷ []) $ join ! $ frame ! $ nothing ! $
+      owned ! P.the-row (Is P.the-row) (LL.makes P.the-type P′.the-plain 𝓤 H A) d _ gd $ fjoin ! $ move ! (1 ∷ 0 ∷ []) $ fjoin ! $ frame ! $
       owned ! L.the-row (Is L.the-row) (LL.makes L.the-type L′.the-plain 𝓤 H A) (G 16) _ g $ done !
 
   -- what each callee's triple binds outside, and that the caller has what it asks
@@ -157,22 +167,28 @@ module _ {M : Type 1} (𝓤 : URA M) (H : Heap 𝓤) (A : Atoms 𝓤) (W : Given
   to-all = ((tt, tt, tt, (d, tt), (machP d ∷ [], tt)), tt)
 
   goes-all : ent 𝓤 (emp 𝓤) (AllOf 𝓤 H A mem run .pre to-all)
-  goes-all = qed W [] ∵ nothing ! $ owned ! P.the-row (Is P.the-row) (LL.makes P.the-type P′.the-plain 𝓤 H A) d _ gd $ fjoin ! $ nothing ! $ join ! $ frame ! $ done !
+  goes-all = qed W [] ∵ nothing ! $ owned ! P.the-row (Is P.the-row) (LL.makes P.the-type P′.the-plain 𝓤 H A) d _ gd $ fjoin ! $
+      nothing ! $ join ! $ frame ! $ done !
 
   abbrev to-take : ℕ → TakeOr 𝓤 H A mem run .Ghost
   to-take i = (((κ, tt), (q, tt), tt, (ref, (i, (d, tt))), (s ∷ [], (vint w64 i ∷ [], (machP d ∷ [], tt)))), tt)
 
-  goes-take : (i : ℕ) → i < 2 ^ 64 → ent 𝓤 (sep 𝓤 (A .lft κ q) (sem 𝓤 H A (ShrSlice (named 0) κ P.the-row .own ref (s ∷ [])))) (TakeOr 𝓤 H A mem run .pre (to-take i))
+  goes-take : (i : ℕ) → i < 2 ^ 64 → ent 𝓤 (sep 𝓤 (A .lft κ q) (sem 𝓤 H A (ShrSlice (named 0) κ P.the-row .own ref (s ∷ []))))
+      (TakeOr 𝓤 H A mem run .pre (to-take i))
   goes-take i gi =
       qed W (‵ (flft κ q) ∷ ‵ (ShrSlice (named 0) κ P.the-row .own ref (s ∷ [])) ∷ []) ∵ nothing ! $ move ! (1 ∷ 0 ∷ []) $ join ! $
-      nothing ! $ owned ! P.the-row (Is P.the-row) (LL.makes P.the-type P′.the-plain 𝓤 H A) d _ gd $ fjoin ! $ owned ! usize (Is usize) (uint-makes 𝓤 H A W w64) i _ (refl, gi) $ fjoin ! $ move ! (2 ∷ 0 ∷ []) $ fjoin ! $ move ! (1 ∷ 0 ∷ []) $ join ! $ frame ! $ done !
+      nothing ! $ owned ! P.the-row (Is P.the-row) (LL.makes P.the-type P′.the-plain 𝓤 H A) d _ gd $ fjoin ! $
+      owned ! usize (Is usize) (uint-makes 𝓤 H A W w64) i _ (refl, gi) $ fjoin ! $ move ! (2 ∷ 0 ∷ []) $ fjoin ! $
+      move ! (1 ∷ 0 ∷ []) $ join ! $ frame ! $ done !
 
   abbrev to-with : ℕ → Process → Val → With 𝓤 H A mem run .Ghost
   to-with i r w = ((tt, tt, tt, (G i, (i, (r, tt))), (machL (G i) ∷ [], (vint w64 i ∷ [], (w ∷ [], tt)))), tt)
 
-  goes-with : (i : ℕ) (r : Process) (w : Val) → i < 16 → i < 2 ^ 64 → Is L.the-row (G i) (machL (G i) ∷ []) → ent 𝓤 (sem 𝓤 H A (P.the-row .own r (w ∷ []))) (With 𝓤 H A mem run .pre (to-with i r w))
+  goes-with : (i : ℕ) (r : Process) (w : Val) → i < 16 → i < 2 ^ 64 → Is L.the-row (G i) (machL (G i) ∷ [])
+      → ent 𝓤 (sem 𝓤 H A (P.the-row .own r (w ∷ []))) (With 𝓤 H A mem run .pre (to-with i r w))
   goes-with i r w small gi g =
-      qed W (‵ (P.the-row .own r (w ∷ [])) ∷ []) ∵ says ! small $ nothing ! $ frame ! $ nothing ! $ move ! (1 ∷ 0 ∷ []) $ fjoin ! $ owned ! usize (Is usize) (uint-makes 𝓤 H A W w64) i _ (refl, gi) $ fjoin ! $
+      qed W (‵ (P.the-row .own r (w ∷ [])) ∷ []) ∵ says ! small $ nothing ! $ frame ! $ nothing ! $ move ! (1 ∷ 0 ∷ []) $
+      fjoin ! $ owned ! usize (Is usize) (uint-makes 𝓤 H A W w64) i _ (refl, gi) $ fjoin ! $
       owned ! L.the-row (Is L.the-row) (LL.makes L.the-type L′.the-plain 𝓤 H A) (G i) _ g $ fjoin ! $ done !
 
   -- the loop's state: i, that it is at most 16, and that the records so far are a value of their type
@@ -185,7 +201,8 @@ module _ {M : Type 1} (𝓤 : URA M) (H : Heap 𝓤) (A : Atoms 𝓤) (W : Given
   begins r w e is = record { i = 0; most = zero-le; is = known }
     where
       known : Is L.the-row (G 0) (machL (G 0) ∷ [])
-      known = subst (λ (z : Val). Is L.the-row (G 0) (z ∷ [])) (ap only (LL.tells L.the-type L′.the-laws r _ is) ∙ ap machL e) (subst (λ (z : Records). Is L.the-row z (w ∷ [])) e is)
+      known = subst (λ (z : Val). Is L.the-row (G 0) (z ∷ [])) (ap only (LL.tells L.the-type L′.the-laws r _ is) ∙ ap machL e)
+          (subst (λ (z : Records). Is L.the-row z (w ∷ [])) e is)
 
   abbrev Nearer : State → State → Type 0
   Nearer u v = 16 - u .i < 16 - v .i
@@ -193,7 +210,10 @@ module _ {M : Type 1} (𝓤 : URA M) (H : Heap 𝓤) (A : Atoms 𝓤) (W : Given
   Nearer-wf : WellFounded Nearer
   Nearer-wf = InvImage·wf (λ (u : State). 16 - u .i) (Nat·lt-wfRel .wf)
 
-  module _ (𝓣 : Tables 𝓤 H) (fm : FmC 𝓤 H (W .laws) (𝓣 .C)) (known-all : Triple 𝓤 (𝓣 .C #machine·records·records-of) (AllOf 𝓤 H A mem run)) (known-take : Triple 𝓤 (𝓣 .C #bench·lent·take-or) (TakeOr 𝓤 H A mem run)) (known-with : Triple 𝓤 (𝓣 .C #machine·records·with-record) (With 𝓤 H A mem run)) where
+  module _ (𝓣 : Tables 𝓤 H) (fm : FmC 𝓤 H (W .laws) (𝓣 .C))
+      (known-all : Triple 𝓤 (𝓣 .C #tables·records·records-of) (AllOf 𝓤 H A mem run))
+      (known-take : Triple 𝓤 (𝓣 .C #bench·lent·record-or) (TakeOr 𝓤 H A mem run))
+      (known-with : Triple 𝓤 (𝓣 .C #tables·records·with-record) (With 𝓤 H A mem run)) where
     abbrev C : Calls 𝓤 H
     C = 𝓣 .C
 
@@ -201,15 +221,15 @@ module _ {M : Type 1} (𝓤 : URA M) (H : Heap 𝓤) (A : Atoms 𝓤) (W : Given
     Λ = 𝓣 .Λ
 
     abbrev slice : Ty
-    slice = sliceTy (tyRef (named 0) imm (pointee (P.the-row .written)))
+    slice = recordsTy (named 0) imm
 
     module _ (l₀ l₁ l₂ l₃ l₄ l₅ l₆ : ℕ) where
       abbrev En : Env 𝓤 H
       En = (L′.mir, l₀) ∷ (slice, l₁) ∷ (P′.mir, l₂) ∷ (L′.mir, l₃) ∷ (tyInt w64, l₄) ∷ (P′.mir, l₅) ∷ (tyBool, l₆) ∷ []
 
       abbrev At : State → List (Item 𝓤)
-      At u = ‵ (froom tyBool l₆ 0) ∷ ‵ (fdies tyBool l₆) ∷ ‵ (froom P′.mir l₅ 0) ∷ ‵ (fdies P′.mir l₅) ∷ ‵ (fat fullShare (tyInt w64) l₄ 0 (vint w64 (u .i))) ∷ ‵ (fdies (tyInt w64) l₄) ∷ ‵ (fat fullShare L′.mir l₃ 0 (machL (G (u .i)))) ∷ ‵ (fdies L′.mir l₃)
-          ∷ ‵ (fat fullShare P′.mir l₂ 0 (machP d)) ∷ ‵ (fdies P′.mir l₂) ∷ ‵ (fat fullShare slice l₁ 0 s) ∷ ‵ (fdies slice l₁) ∷ ‵ (froom L′.mir l₀ 0) ∷ ‵ (fdies L′.mir l₀) ∷ ‵ (flft κ q) ∷ ‵ (ShrSlice (named 0) κ P.the-row .own ref (s ∷ [])) ∷ []
+      At u = locals En (room ∷ holds s ∷ holds (machP d) ∷ holds (machL (G (u .i))) ∷ holds (vint w64 (u .i)) ∷ [])
+          (‵ (flft κ q) ∷ ‵ (ShrSlice (named 0) κ P.the-row .own ref (s ∷ [])) ∷ [])
 
       abbrev Turned : State → Out → SProp 𝓤
       Turned u = afterTurn 𝓤 H (Below 𝓤 H A Nearer At u) (afterBlock 𝓤 H (afterSeq 𝓤 H (Wp 𝓤 H C Λ En body.t-4 (atReturn 𝓤 H En Post)) (atReturn 𝓤 H En Post)))
@@ -217,36 +237,53 @@ module _ {M : Type 1} (𝓤 : URA M) (H : Heap 𝓤) (A : Atoms 𝓤) (W : Given
       turns : (u : State) → Sq W (At u) (runs C Λ En body.turn-1 (anyQ (Turned u)))
       unfolding afterTurn
       turns u =
-          assigns ! (bin ! (load ! (from ! (stop !)) (look ! 4 refl)) (lit ! tt) tt) (from ! (stop !)) (init ! 0 refl (tt, tt)) $
-          first ! $ branches ! (load ! (from ! (stop !)) (look ! 0 refl))
+          assigns ! (bin ! (local ! 4 refl) (lit ! tt) tt) (from ! (stop !)) (init ! 0 refl (tt, tt)) $
+          first ! $ branches ! (local ! 0 refl)
           (λ less. let small : u .i < 16 = ltb→lt (u .i) 16 less in
           skips ! $ exec ! C Λ En more-of (anyQ (Turned u)) $
-          -- `take_or`, with a copy of the slice
-          move ! (15 ∷ []) $ use1 W (‵ (ShrSlice (named 0) κ P.the-row .own ref (s ∷ [])) ⊛ ‵ (ShrSlice (named 0) κ P.the-row .own ref (s ∷ []))) (shr-slice-copy 𝓤 H A W (named 0) κ P.the-row .twice ref (s ∷ [])) $ split ! $
+          -- `record_or`, with a copy of the slice
+          move ! (15 ∷ []) $ use1 W (‵ (ShrSlice (named 0) κ P.the-row .own ref (s ∷ [])) ⊛
+          ‵ (ShrSlice (named 0) κ P.the-row .own ref (s ∷ []))) (shr-slice-copy 𝓤 H A W (named 0) κ P.the-row .twice ref (s ∷ [])) $ split ! $
           move ! (16 ∷ 0 ∷ []) $ use2 W (raw (TakeOr 𝓤 H A mem run .pre (to-take (u .i)))) (goes-take (u .i) (fits small)) $
-          calls-at ! fm (TakeOr 𝓤 H A mem run) known-take (to-take (u .i)) (and-then ! (load ! (from ! (stop !)) (look ! 12 refl)) (and-then ! (load ! (from ! (stop !)) (look ! 6 refl)) (and-then ! (load ! (from ! (stop !)) (look ! 10 refl)) (no-more !)))) (λ w.
-          use1 W (later (some (λ (r : Process). ((‵ (flft κ q) ⊛ ‵ ftrue) ⊛ ‵ (P.the-row .own r (w ∷ []))) ⊛ raw (ensured 𝓤 H A take-or.ended (take-or.clauses 𝓤 H A mem run) (κ, tt) (ref, (u .i, (d, tt))) tt r)))) (id⊢ 𝓤 _) $ await ! tt $ pick ! (λ r.
-          split ! $ move ! (1 ∷ []) $ use1 W (raw (fact 𝓤 (r ≡ getD ys (u .i) d))) (take-or-says 𝓤 H A mem run κ ref (u .i) d r) $ heard ! (r ≡ getD ys (u .i) d) (λ e.
+          calls-at ! fm (TakeOr 𝓤 H A mem run) known-take (to-take (u .i))
+          (and-then ! (local ! 12 refl) (and-then ! (local ! 6 refl) (and-then ! (local ! 10 refl) (no-more !)))) (λ w.
+          use1 W (later (some (λ (r : Process). ((‵ (flft κ q) ⊛ ‵ ftrue) ⊛ ‵ (P.the-row .own r (w ∷ []))) ⊛
+          raw (ensured 𝓤 H A record-or.ended (record-or.clauses 𝓤 H A mem run) (κ, tt) (ref, (u .i, (d, tt))) tt r))))
+          (id⊢ 𝓤 _) $ await ! tt $ pick ! (λ r.
+          split ! $ move ! (1 ∷ []) $ use1 W (raw (fact 𝓤 (r ≡ getD ys (u .i) d)))
+          (record-or-says 𝓤 H A mem run κ ref (u .i) d r) $ heard ! (r ≡ getD ys (u .i) d) (λ e.
           split ! $ move ! (1 ∷ []) $ peeks ! P.the-row (Is P.the-row) (shows 𝓤 H A P.the-row) r (w ∷ []) (λ is.
           land ! (from ! (stop !)) (init ! 5 refl (typedP r w is)) $
           -- `with_record`
           use1 W (raw (With 𝓤 H A mem run .pre (to-with (u .i) r w))) (goes-with (u .i) r w small (fits small) (u .is)) $
-          calls-at ! fm (With 𝓤 H A mem run) known-with (to-with (u .i) r w) (and-then ! (load ! (from ! (stop !)) (look ! 9 refl)) (and-then ! (load ! (from ! (stop !)) (look ! 7 refl)) (and-then ! (load ! (from ! (stop !)) (look ! 5 refl)) (no-more !)))) (λ w′.
-          use1 W (later (some (λ (r′ : Records). (‵ ftrue ⊛ ‵ (L.the-row .own r′ (w′ ∷ []))) ⊛ raw (ensured 𝓤 H A with′.ended (with′.clauses 𝓤 H A mem run) tt (G (u .i), (u .i, (r, tt))) tt r′)))) (id⊢ 𝓤 _) $ await ! tt $ pick ! (λ r′.
-          split ! $ move ! (1 ∷ []) $ use1 W (raw (fact 𝓤 (r′ ≡ withAt (G (u .i)) (u .i) r))) (with-says 𝓤 H A mem run (G (u .i)) (u .i) r r′) $ heard ! (r′ ≡ withAt (G (u .i)) (u .i) r) (λ e′.
+          calls-at ! fm (With 𝓤 H A mem run) known-with (to-with (u .i) r w)
+          (and-then ! (local ! 9 refl) (and-then ! (local ! 7 refl) (and-then ! (local ! 5 refl) (no-more !)))) (λ w′.
+          use1 W (later (some (λ (r′ : Records). (‵ ftrue ⊛ ‵ (L.the-row .own r′ (w′ ∷ []))) ⊛
+          raw (ensured 𝓤 H A with′.ended (with′.clauses 𝓤 H A mem run) tt (G (u .i), (u .i, (r, tt))) tt r′)))) (id⊢ 𝓤 _) $
+          await ! tt $ pick ! (λ r′.
+          split ! $ move ! (1 ∷ []) $ use1 W (raw (fact 𝓤 (r′ ≡ withAt (G (u .i)) (u .i) r)))
+          (with-says 𝓤 H A mem run (G (u .i)) (u .i) r r′) $ heard ! (r′ ≡ withAt (G (u .i)) (u .i) r) (λ e′.
           split ! $ drop ! $ peeks ! L.the-row (Is L.the-row) (shows 𝓤 H A L.the-row) r′ (w′ ∷ []) (λ is′.
           let step : r′ ≡ G (u .i + 1) = e′ ∙ ap (λ (z : Process). withAt (G (u .i)) (u .i) z) e ∙ one-more ys d (u .i) ∙ ap G (sym (add-one (u .i))) in
           let val : w′ ≡ machL (G (u .i + 1)) = ap only (LL.tells L.the-type L′.the-laws r′ _ is′) ∙ ap machL step in
           land ! (from ! (stop !)) (store ! 9 refl (typedL r′ w′ is′)) $ rewrite ! 9 (λ (z : Val). ‵ (fat fullShare L′.mir l₃ 0 z)) val refl $
-          assigns-last ! (bin ! (load ! (from ! (stop !)) (look ! 7 refl)) (lit ! tt) (record { fits = more small })) (from ! (stop !)) (store ! 7 refl (tt, record { fits = more small })) $
+          assigns-last ! (bin ! (local ! 7 refl) (lit ! tt) (record { fits = more small })) (from ! (stop !))
+          (store ! 7 refl (tt, record { fits = more small })) $
           forget ! 3 refl $ forget ! 5 refl $ move ! (1 ∷ []) $ split ! $
-          keep ! (4 ∷ 5 ∷ 6 ∷ 7 ∷ 8 ∷ 9 ∷ 10 ∷ 11 ∷ 12 ∷ 13 ∷ 14 ∷ 15 ∷ 16 ∷ 17 ∷ 0 ∷ 3 ∷ []) $
-          again ! Nearer At u (record { i = u .i + 1; most = add-one-le small; is = subst (λ (z : Val). Is L.the-row (G (u .i + 1)) (z ∷ [])) val (subst (λ (z : Records). Is L.the-row z (w′ ∷ [])) step is′) }) (add-one-dec 16 (u .i) small))))))))))
+          keep ! (places 4 14 (0 ∷ 3 ∷ [])) $
+          again ! Nearer At u (record {
+            i = u .i + 1;
+            most = add-one-le small;
+            is = subst
+                (λ (z : Val). Is L.the-row (G (u .i + 1)) (z ∷ [])) val
+                (subst (λ (z : Records). Is L.the-row z (w′ ∷ [])) step is′);
+          }) (add-one-dec 16 (u .i) small))))))))))
           (λ over. jumps ! $ exec ! C Λ En body.t-4 (atRet En Post) $
           rewrite ! 6 (λ (k : ℕ). ‵ (fat fullShare L′.mir l₃ 0 (machL (G k)))) (last over) refl $
-          assigns ! (of-opd ! (load ! (from ! (stop !)) (look ! 6 refl))) (from ! (stop !)) (init ! 12 refl (typedL (G 16) (machL (G 16)) (whole over))) $
+          assigns ! (of-opd ! (local ! 6 refl)) (from ! (stop !)) (init ! 12 refl (typedL (G 16) (machL (G 16)) (whole over))) $
           returns ! (look ! 12 refl) $ forget ! 0 refl $ forget ! 4 refl $ forget ! 6 refl $ forget ! 8 refl $ forget ! 10 refl $ forget ! 12 refl $
-          move ! (12 ∷ 13 ∷ []) $ free1 ! $ move ! (10 ∷ 11 ∷ []) $ free1 ! $ move ! (8 ∷ 9 ∷ []) $ free1 ! $ move ! (6 ∷ 7 ∷ []) $ free1 ! $ move ! (4 ∷ 5 ∷ []) $ free1 ! $ move ! (2 ∷ 3 ∷ []) $ free1 ! $ free1 ! $ free0 ! $
+          move ! (12 ∷ 13 ∷ []) $ free1 ! $ move ! (10 ∷ 11 ∷ []) $ free1 ! $ move ! (8 ∷ 9 ∷ []) $ free1 ! $
+          move ! (6 ∷ 7 ∷ []) $ free1 ! $ move ! (4 ∷ 5 ∷ []) $ free1 ! $ move ! (2 ∷ 3 ∷ []) $ free1 ! $ free1 ! $ free0 ! $
           by ! (exits (whole over)))
         where
           fits : u .i < 16 → u .i < 2 ^ 64
@@ -266,43 +303,53 @@ module _ {M : Type 1} (𝓤 : URA M) (H : Heap 𝓤) (A : Atoms 𝓤) (W : Given
 
       -- where the parameters stand in their locals: [locals; the token; the slice]
       abbrev Entered : List (Item 𝓤)
-      Entered = ‵ (froom tyBool l₆ 0) ∷ ‵ (fdies tyBool l₆) ∷ ‵ (froom P′.mir l₅ 0) ∷ ‵ (fdies P′.mir l₅) ∷ ‵ (froom (tyInt w64) l₄ 0) ∷ ‵ (fdies (tyInt w64) l₄) ∷ ‵ (froom L′.mir l₃ 0) ∷ ‵ (fdies L′.mir l₃)
-          ∷ ‵ (fat fullShare P′.mir l₂ 0 (machP d)) ∷ ‵ (fdies P′.mir l₂) ∷ ‵ (fat fullShare slice l₁ 0 s) ∷ ‵ (fdies slice l₁) ∷ ‵ (froom L′.mir l₀ 0) ∷ ‵ (fdies L′.mir l₀) ∷ ‵ (flft κ q) ∷ ‵ (ShrSlice (named 0) κ P.the-row .own ref (s ∷ [])) ∷ []
+      Entered = locals En (room ∷ holds s ∷ holds (machP d) ∷ []) (‵ (flft κ q) ∷ ‵ (ShrSlice (named 0) κ P.the-row .own ref (s ∷ [])) ∷ [])
 
       begun : Sq W Entered (runs C Λ En body.t-1 (atRet En Post))
       begun =
           use0 W (raw (AllOf 𝓤 H A mem run .pre to-all)) goes-all $
-          calls-at ! fm (AllOf 𝓤 H A mem run) known-all to-all (and-then ! (load ! (from ! (stop !)) (look ! 9 refl)) (no-more !)) (λ w.
-          use1 W (later (some (λ (r : Records). (‵ ftrue ⊛ ‵ (L.the-row .own r (w ∷ []))) ⊛ raw (ensured 𝓤 H A all-of.ended (all-of.clauses 𝓤 H A mem run) tt (d, tt) tt r)))) (id⊢ 𝓤 _) $ await ! tt $ pick ! (λ r.
+          calls-at ! fm (AllOf 𝓤 H A mem run) known-all to-all (and-then ! (local ! 9 refl) (no-more !)) (λ w.
+          use1 W (later (some (λ (r : Records). (‵ ftrue ⊛ ‵ (L.the-row .own r (w ∷ []))) ⊛
+          raw (ensured 𝓤 H A all-of.ended (all-of.clauses 𝓤 H A mem run) tt (d, tt) tt r)))) (id⊢ 𝓤 _) $ await ! tt $ pick ! (λ r.
           split ! $ move ! (1 ∷ []) $ use1 W (raw (fact 𝓤 (r ≡ allOf d))) (all-of-says 𝓤 H A mem run d r) $ heard ! (r ≡ allOf d) (λ e.
           split ! $ drop ! $ peeks ! L.the-row (Is L.the-row) (shows 𝓤 H A L.the-row) r (w ∷ []) (λ is.
           -- [the result; locals at 1; the token; the slice]
-          land ! (from ! (stop !)) (init ! 7 refl (typedL r w is)) $ rewrite ! 7 (λ (z : Val). ‵ (fat fullShare L′.mir l₃ 0 z)) (ap only (LL.tells L.the-type L′.the-laws r _ is) ∙ ap machL (e ∙ start ys d)) refl $
+          land ! (from ! (stop !)) (init ! 7 refl (typedL r w is)) $
+          rewrite ! 7 (λ (z : Val). ‵ (fat fullShare L′.mir l₃ 0 z))
+          (ap only (LL.tells L.the-type L′.the-laws r _ is) ∙ ap machL (e ∙ start ys d)) refl $
           assigns ! (of-opd ! (lit ! tt)) (from ! (stop !)) (init ! 5 refl (tt, record { fits = lit< tt })) $
-          keep ! (1 ∷ 2 ∷ 3 ∷ 4 ∷ 5 ∷ 6 ∷ 7 ∷ 8 ∷ 9 ∷ 10 ∷ 11 ∷ 12 ∷ 13 ∷ 14 ∷ 15 ∷ 16 ∷ []) $ looped (begins r w (e ∙ start ys d) is)))))
+          keep ! (places 1 16 []) $ looped (begins r w (e ∙ start ys d) is)))))
 
     walk : ent 𝓤 (onEntry 𝓤 H A f.signature (κ, tt) (q, tt) x at) (WpFn 𝓤 H C Λ code.function (s ∷ machP d ∷ []) Post)
     walk =
-        qed W ((‵ (flft κ q) ⊛ ‵ ftrue) ∷ ‵ (owns (ShrSlice (named 0) κ P.the-row ∷ P.the-row ∷ []) x at) ∷ []) ∵ enter ! C Λ code.function (s ∷ machP d ∷ []) _ $
+        qed W ((‵ (flft κ q) ⊛ ‵ ftrue) ∷ ‵ (owns (ShrSlice (named 0) κ P.the-row ∷ P.the-row ∷ []) x at) ∷ []) ∵
+        enter ! C Λ code.function (s ∷ machP d ∷ []) _ $
         alloc1 ! (λ l₀. alloc1 ! (λ l₁. alloc1 ! (λ l₂. alloc1 ! (λ l₃. alloc1 ! (λ l₄. alloc1 ! (λ l₅. alloc1 ! (λ l₆. alloc0 ! $ params1 ! $
         pass1 ! (init ! 10 refl (tt, (tt, (record { fits = gn .0 }, tt)))) $ pass1 ! (init ! 8 refl (typedP d (machP d) gd)) $ pass0 ! $
         move ! (14 ∷ []) $ split ! $ move ! (16 ∷ []) $ fsplit ! $
         -- [the slice; the rest; the token; true; locals at 4]
-        keep ! (4 ∷ 5 ∷ 6 ∷ 7 ∷ 8 ∷ 9 ∷ 10 ∷ 11 ∷ 12 ∷ 13 ∷ 14 ∷ 15 ∷ 16 ∷ 17 ∷ 2 ∷ 0 ∷ []) $ begun l₀ l₁ l₂ l₃ l₄ l₅ l₆)))))))
+        keep ! (places 4 14 (2 ∷ 0 ∷ [])) $ begun l₀ l₁ l₂ l₃ l₄ l₅ l₆)))))))
 
 module _ {M : Type 1} (𝓤 : URA M) (H : Heap 𝓤) (A : Atoms 𝓤) (W : Given 𝓤 H A) (mem : Memory → SProp 𝓤) (run : Routine → Fun 𝓤) where
-  walks : (𝓣 : Tables 𝓤 H) → Triple 𝓤 (𝓣 .C #machine·records·records-of) (AllOf 𝓤 H A mem run) → Triple 𝓤 (𝓣 .C #bench·lent·take-or) (TakeOr 𝓤 H A mem run) → Triple 𝓤 (𝓣 .C #machine·records·with-record) (With 𝓤 H A mem run)
+  walks : (𝓣 : Tables 𝓤 H) → Triple 𝓤 (𝓣 .C #tables·records·records-of) (AllOf 𝓤 H A mem run)
+      → Triple 𝓤 (𝓣 .C #bench·lent·record-or) (TakeOr 𝓤 H A mem run) → Triple 𝓤 (𝓣 .C #tables·records·with-record) (With 𝓤 H A mem run)
       → Walks 𝓤 H A f.ended stayed (WpFn 𝓤 H (𝓣 .C) (𝓣 .Λ) code.function) (f.clauses 𝓤 H A mem run)
-  walks 𝓣 k₁ k₂ k₃ = walked 𝓤 H A f.ended stayed (f.clauses 𝓤 H A mem run) (WpFn 𝓤 H (𝓣 .C) (𝓣 .Λ) code.function) (λ κs. (slice-vals, (LL.vals P.the-type P′.the-laws, tt))) (λ κs. (shr-slice-tells (named 0) (κs .0) P.the-row, (LL.tells P.the-type P′.the-laws, tt)))
-      (λ κs qs bounds a g are. via 𝓤 _ (fst∗ 𝓤 _ (emp 𝓤)) (walk 𝓤 H A W mem run (κs .0) (qs .0) (a .0 .ptr .0) (a .0 .ptr .1) (a .0 .name) (a .0 .now) (a .1 .0) (are .0 .0 .1) (are .1 .0) 𝓣 (fmOf 𝓤 H (W .laws) 𝓣) k₁ k₂ k₃))
+  walks 𝓣 k₁ k₂ k₃ = walked 𝓤 H A f.ended stayed (f.clauses 𝓤 H A mem run) (WpFn 𝓤 H (𝓣 .C) (𝓣 .Λ) code.function)
+      (λ κs. (slice-vals, (LL.vals P.the-type P′.the-laws, tt)))
+      (λ κs. (shr-slice-tells (named 0) (κs .0) P.the-row, (LL.tells P.the-type P′.the-laws, tt)))
+      (λ κs qs bounds a g are. via 𝓤 _ (fst∗ 𝓤 _ (emp 𝓤))
+      (walk 𝓤 H A W mem run (κs .0) (qs .0) (a .0 .ptr .0) (a .0 .ptr .1) (a .0 .name) (a .0 .now) (a .1 .0) (are .0 .0 .1)
+      (are .1 .0) 𝓣 (fmOf 𝓤 H (W .laws) 𝓣) k₁ k₂ k₃))
 
   goes : AllGo 𝓤 H A W 1 (f.signature .params) (f.ended .kept) stayed
   goes = (goes-none-slice 𝓤 H A W 1 (0 ∷ []) tt (plain (λ _. P.the-row)) yes, (goes-none 𝓤 H A W 1 (λ _. P.the-row) yes (λ κs x f. refl), tt))
 
 meets : {M : Type 1} (𝓤 : URA M) (H : Heap 𝓤) (A : Atoms 𝓤) → Given 𝓤 H A → (mem : Memory → SProp 𝓤) (run : Routine → Fun 𝓤) (𝓣 : Tables 𝓤 H)
-    → Triple 𝓤 (𝓣 .C #machine·records·records-of) (AllOf 𝓤 H A mem run) → Triple 𝓤 (𝓣 .C #bench·lent·take-or) (TakeOr 𝓤 H A mem run) → Triple 𝓤 (𝓣 .C #machine·records·with-record) (With 𝓤 H A mem run)
+    → Triple 𝓤 (𝓣 .C #tables·records·records-of) (AllOf 𝓤 H A mem run)
+    → Triple 𝓤 (𝓣 .C #bench·lent·record-or) (TakeOr 𝓤 H A mem run) → Triple 𝓤 (𝓣 .C #tables·records·with-record) (With 𝓤 H A mem run)
     → Meets 𝓤 H A f.signature (WpFn 𝓤 H (𝓣 .C) (𝓣 .Λ) code.function) (f.spec 𝓤 H A mem run)
-meets 𝓤 H A W mem run 𝓣 k₁ k₂ k₃ = walk-meets 𝓤 H A f.ended stayed W (goes 𝓤 H A W mem run) (f.clauses 𝓤 H A mem run) (WpFn 𝓤 H (𝓣 .C) (𝓣 .Λ) code.function) (WpFn-mono 𝓤 H (W .laws) 𝓣 code.function) (walks 𝓤 H A W mem run 𝓣 k₁ k₂ k₃)
+meets 𝓤 H A W mem run 𝓣 k₁ k₂ k₃ = walk-meets 𝓤 H A f.ended stayed W (goes 𝓤 H A W mem run) (f.clauses 𝓤 H A mem run)
+    (WpFn 𝓤 H (𝓣 .C) (𝓣 .Λ) code.function) (WpFn-mono 𝓤 H (W .laws) 𝓣 code.function) (walks 𝓤 H A W mem run 𝓣 k₁ k₂ k₃)
 
 pub gather-spec : {M : Type 1} → stated.statement M
 unfolding code.routine tablesOf
@@ -310,6 +357,6 @@ gather-spec 𝓤 H 𝓜 𝓖 𝓡 =
     entered 𝓤 H (tripleOf 𝓤 H (𝓖 .A) f.signature (f.spec 𝓤 H (𝓖 .A) (𝓜 .mem) (𝓡 .run)))
     (tables 𝓤 H 𝓜 𝓡 code.env .C) (tables 𝓤 H 𝓜 𝓡 code.env .Λ) #key code.function (code.unfolded 𝓤 H 𝓜 𝓡)
     (meets 𝓤 H (𝓖 .A) (givenOf 𝓤 H 𝓜 𝓖) (𝓜 .mem) (𝓡 .run) (tablesOf 𝓤 H 𝓜 (tables 𝓤 H 𝓜 𝓡 code.env))
-    (cited 𝓤 H (AllOf 𝓤 H (𝓖 .A) (𝓜 .mem) (𝓡 .run)) 𝓜 𝓡 code.env #machine·records·records-of all-of-def.routine code.calls-machine·records·records-of (all-of-thm.met 𝓤 H 𝓜 𝓖 𝓡))
-    (cited 𝓤 H (TakeOr 𝓤 H (𝓖 .A) (𝓜 .mem) (𝓡 .run)) 𝓜 𝓡 code.env #bench·lent·take-or take-or-def.routine code.calls-bench·lent·take-or (take-or-thm.met 𝓤 H 𝓜 𝓖 𝓡))
-    (cited 𝓤 H (With 𝓤 H (𝓖 .A) (𝓜 .mem) (𝓡 .run)) 𝓜 𝓡 code.env #machine·records·with-record with-def.routine code.calls-machine·records·with-record (with-thm.met 𝓤 H 𝓜 𝓖 𝓡)))
+    (cited 𝓤 H (AllOf 𝓤 H (𝓖 .A) (𝓜 .mem) (𝓡 .run)) 𝓜 𝓡 code.env #tables·records·records-of all-of-def.routine code.calls-tables·records·records-of (all-of-thm.met 𝓤 H 𝓜 𝓖 𝓡))
+    (cited 𝓤 H (TakeOr 𝓤 H (𝓖 .A) (𝓜 .mem) (𝓡 .run)) 𝓜 𝓡 code.env #bench·lent·record-or record-or-def.routine code.calls-bench·lent·record-or (record-or-thm.met 𝓤 H 𝓜 𝓖 𝓡))
+    (cited 𝓤 H (With 𝓤 H (𝓖 .A) (𝓜 .mem) (𝓡 .run)) 𝓜 𝓡 code.env #tables·records·with-record with-def.routine code.calls-tables·records·with-record (with-thm.met 𝓤 H 𝓜 𝓖 𝓡)))

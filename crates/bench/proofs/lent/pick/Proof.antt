@@ -25,7 +25,8 @@ no-process-requires c κs = search needs
 
 returns-2 : tie.Need-returns-2
 returns-2 c =
-    let len : length (c .before .before .args .t1 .list) ≡ 16 = sym (length-map (c .before .before .args .t1 .list) _) ∙ c .before .before .good .0 .1 .1 .0 .1 .0 .1 in
+    let len : length (c .before .before .args .t1 .list) ≡ 16 = sym (length-map (c .before .before .args .t1 .list) _) ∙
+    c .before .before .good .0 .1 .1 .0 .1 .0 .1 in
     let past : length (c .before .before .args .t1 .list) ≤ c .before .before .args .i = omega (arith, len) in
     c .no-process .ensures ∙ sym (List·getD-eq-default (c .before .before .args .t1 .list) noProcess past)
 

@@ -11,9 +11,9 @@ use types.Run.{OneOf, miss}
 use denote.Enum.Declared.{tagOf}
 use Rattle.model.specs.declared.ProcessNumber.{ProcessNumber}
 use Rattle.model.specs.Words.{offerWord}
-use Rattle.machine.specs.Ranges.{Lent}
-use Rattle.machine.specs.Taken.{offered}
-use Rattle.machine.proofs.WordLaws.{row-lies}
+use Rattle.taken.specs.Ranges.{Lent}
+use Rattle.steps.specs.Steps.{offered}
+use Rattle.words.proofs.WordLaws.{row-lies}
 use Rattle.notation.specs.declared.Entry.{Entry}
 use Rattle.notation.specs.declared.Entry.the-variants.{StartLl, StartVl, StartSc, Step, Finish}
 use Rattle.notation.proofs.Entry.{the-type}

@@ -6,7 +6,7 @@ use borrow.Author.Tests.{le-leb, lt-leb, lt-ltb, le-ltb}
 use Rattle.model.specs.declared.Process.{Process}
 use Rattle.model.specs.declared.Order.{Order}
 use Rattle.model.specs.Refusals.{first, row5, row6, row7}
-use Rattle.machine.proofs.RowLaws.{over, here}
+use Rattle.rows.proofs.RowLaws.{over, here}
 use Rattle.run.specs.TextRun.{mostEntries}
 use Rattle.run.specs.Carried.{refusalOf}
 use borrow.Author.Needs.{needs}

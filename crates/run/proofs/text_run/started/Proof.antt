@@ -5,7 +5,7 @@ use native.Mathlib.Omega.{arith}
 use denote.Ref.{now}
 use lib.ListN.{length, length-map, length-replicate}
 use lib.Seq.{length-sets}
-use Rattle.machine.specs.SetUpByValue.{Accepted}
+use Rattle.setup.specs.SetUpByValue.{Accepted}
 use Rattle.run.specs.declared.state.Run.{Run}
 use Rattle.run.specs.Held.{Sound}
 use Rattle.run.specs.Carried.{entriesIn}

@@ -1,0 +1,105 @@
+-- The set-up: one place more, and what it means that no row holds.
+use mathlib.Core.Path.{_≡_, refl, sym, ap, _∙_}
+use mathlib.Core.List.{List, [], _∷_, _++_, map}
+use mathlib.Core.Bool.{false, cond}
+use Prim.Native.Nat.{ℕ, zero, suc, _+_, _-_, _*_, _≤_}
+use native.Mathlib.Nat.{add-zero, zero-add, add-suc, suc-add, mul-le-mul-right, one-mul}
+use native.Mathlib.Numerals.{add-one}
+use native.Mathlib.Omega.{arith}
+use lib.Dec.{eqb, ltb}
+use lib.ListN.{length, set, replicate}
+use lib.Seq.{sets}
+use borrow.Author.Tests.{eq-eqb, ne-eqb, eqb-true, ltb-false, not-false}
+use Rattle.model.specs.declared.BankPlace.{BankPlace}
+use Rattle.model.specs.declared.HelpPlace.{HelpPlace}
+use Rattle.model.specs.declared.Bench.{Bench}
+use Rattle.model.specs.declared.Process.{Process}
+use Rattle.model.specs.Tables.{putBank, putHelp}
+use Rattle.model.specs.Machine.{Memory}
+use Rattle.model.specs.Refusals.{row1, row2}
+use Rattle.model.specs.SetUp.{numbers, bankAtSetUp, helpAtSetUp, benchAtSetUp, wordsAtSetUp, setUp, setUpRefusal}
+use Rattle.setup.specs.declared.Prepared.{Prepared}
+use Rattle.rows.specs.Lengths.{row3Lent}
+use Rattle.setup.specs.SetUpByValue.{row8Always, setUpNumber, set-up-number, banksSet, helpsSet, Accepted, prepared, recordsSet}
+use Rattle.laws.proofs.ListLaws.{sets-append, sets-replicate}
+use Rattle.rows.proofs.RowLaws.{cleared, n-in, w-in, neither}
+
+module _ {ℓ} {A : Type ℓ} (f : ℕ → A) where
+  mapped-next : (a k : ℕ) → map f (numbers a (suc k)) ≡ map f (numbers a k) ++ (f (a + k) ∷ [])
+  mapped-next a zero = ap (λ (j : ℕ). f j ∷ []) (sym (add-zero a))
+  mapped-next a (suc k) = ap (λ (l : List A). f a ∷ l) (mapped-next (suc a) k ∙ ap (λ (j : ℕ). map f (numbers (suc a) k) ++ (f j ∷ [])) (suc-add a k ∙ sym (add-suc a k)))
+
+  mapped-length : (a k : ℕ) → length (map f (numbers a k)) ≡ k
+  mapped-length a zero = refl
+  mapped-length a (suc k) = ap suc (mapped-length (suc a) k)
+
+  sets-mapped : (l : List A) (k : ℕ) → set (sets l 0 (map f (numbers 0 k))) k (f k) ≡ sets l 0 (map f (numbers 0 (k + 1)))
+  sets-mapped l k = sym (rw (add-one k, mapped-next 0 k, sets-append l 0 (map f (numbers 0 k)) (f (0 + k) ∷ []), mapped-length 0 k, zero-add k))
+
+pub banks-next : (b : Bench) (k : ℕ) → putBank (banksSet b k) (record { 0 = k }) (bankAtSetUp k) ≡ banksSet b (k + 1)
+banks-next b k = ap (λ (l : List BankPlace). record { n = b .n; w = b .w; x = b .x; bank = l; help = b .help }) (sets-mapped bankAtSetUp (b .bank) k)
+
+pub helps-next : (b : Bench) (k : ℕ) → putHelp (helpsSet b k) (record { 0 = k }) helpAtSetUp ≡ helpsSet b (k + 1)
+helps-next b k =
+    ap (λ (l : List HelpPlace). record { n = b .n; w = b .w; x = b .x; bank = b .bank; help = l })
+    (ap (λ (j : ℕ). set (sets (b .help) 0 (replicate k helpAtSetUp)) j helpAtSetUp) (sym (zero-add k)) ∙ sym (sets-replicate (b .help) 0 k helpAtSetUp))
+
+-- BUF[0] is one of the 5N rows
+pub first-row : (n w : ℕ) → 1 ≤ n → w ≤ 5 * n * w
+first-row n w h = omega (arith, mul-le-mul-right {m = 1} {n = 5 * n} w (omega arith), one-mul w)
+
+pub words-set : (ws value : List ℕ) (n w : ℕ) → length value ≡ w → sets (sets ws 0 value) w (replicate (5 * n * w - w) 0) ≡ wordsAtSetUp ws n w value
+words-set ws value n w e =
+    ap (λ (j : ℕ). sets (sets ws 0 value) j (replicate (5 * n * w - w) 0)) (sym e ∙ sym (zero-add (length value))) ∙
+    sym (sets-append ws 0 value (replicate (5 * n * w - w) 0))
+
+-- where the number is 0, the set-up fits what is lent
+pub set-up-fits : (n w len words value : ℕ) → setUpNumber n w len words value ≡ 0 → Accepted n w words value
+unfolding setUpNumber
+set-up-fits n w len words value e =
+    let r8 : ℕ = cond (row8Always w value .holds) 8 0 in
+    let r3 : ℕ = cond (row3Lent n w len words .holds) 3 r8 in
+    let r2 : ℕ = cond (row2 w .holds) 2 r3 in
+    let c1 = cleared (row1 n .holds) 0 r2 e in
+    let c2 = cleared (row2 w .holds) 1 r3 (c1 .1) in
+    let c3 = cleared (row3Lent n w len words .holds) 2 r8 (c2 .1) in
+    let c8 = cleared (row8Always w value .holds) 7 0 (c3 .1) in
+    record {
+      n-most = n-in n (c1 .0) .1;
+      w-most = w-in w (c2 .0) .1;
+      n-some = n-in n (c1 .0) .0;
+      words-lent = ltb-false words (5 * n * w) (neither (ltb words (5 * n * w)) (ltb len n) (c3 .0) .0);
+      value-words = eqb-true value w (not-false (eqb value w) (c8 .0));
+    }
+
+-- the two answers of a set-up
+module _ (b : Bench) (len n w : ℕ) (value ws : List ℕ) where
+  pub prepared-refused : (k : ℕ) → k ≡ setUpNumber n w len (length ws) (length value) → (k ≡ 0 → ⊥)
+      → _≡_ {A = Prepared × List ℕ} (record { number = k; bench = b }, ws) (prepared b len n w value ws)
+  unfolding prepared
+  prepared-refused k e h = rw e (simp (ne-eqb (setUpNumber n w len (length ws) (length value)) 0 (λ z. h (e ∙ z))))
+
+  pub prepared-done : setUpNumber n w len (length ws) (length value) ≡ 0
+      → _≡_ {A = Prepared × List ℕ} (record { number = 0; bench = benchAtSetUp b n w }, wordsAtSetUp ws n w value) (prepared b len n w value ws)
+  unfolding prepared
+  prepared-done e = simp (eq-eqb (setUpNumber n w len (length ws) (length value)) 0 e)
+
+-- The by-value set-up is the set-up, once the records are set up too.
+module _ (b : Bench) (rs : List Process) (ws : List ℕ) (n w : ℕ) (value : List ℕ) where
+  abbrev number : ℕ
+  number = setUpNumber n w (length rs) (length ws) (length value)
+
+  by-number : (k : ℕ) → number ≡ k → recordsSet rs n (prepared b (length rs) n w value ws) ≡ setUp (record { bench = b; records = rs; words = ws }) n w value
+  unfolding prepared setUp
+  by-number zero e =
+      let m : Memory = record { bench = b; records = rs; words = ws } in
+      let s : setUpRefusal m n w value ≡ 0 = sym (set-up-number m n w value) ∙ e in
+      simp (eq-eqb number 0 e, s)
+  by-number (suc k) e =
+      let m : Memory = record { bench = b; records = rs; words = ws } in
+      let s : setUpRefusal m n w value ≡ number = sym (set-up-number m n w value) in
+      let t : eqb number 0 ≡ false = ne-eqb number 0 (λ z. omega (arith, e, z)) in
+      simp (s, t)
+
+  pub set-up-law : recordsSet rs n (prepared b (length rs) n w value ws) ≡ setUp (record { bench = b; records = rs; words = ws }) n w value
+  set-up-law = by-number number refl

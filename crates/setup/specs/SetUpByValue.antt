@@ -1,0 +1,52 @@
+-- The set-up by value: its refusal by the lengths of what is lent, and what it makes of the bench and of the words. The records are set up one by one, where they lie.
+use mathlib.Core.Path.{_≡_, refl}
+use Prim.Native.Nat.{ℕ, _*_, _≤_}
+use mathlib.Core.List.{List, [], _∷_, map}
+use mathlib.Core.Bool.{cond, not}
+use lib.Dec.{eqb}
+use lib.ListN.{length, replicate}
+use lib.Seq.{sets}
+use Rattle.model.specs.declared.Bench.{Bench}
+use Rattle.model.specs.declared.Process.{Process}
+use Rattle.model.specs.Refusals.{Row, first, row1, row2}
+use Rattle.model.specs.Machine.{Memory}
+use Rattle.model.specs.SetUp.{numbers, bankAtSetUp, helpAtSetUp, benchAtSetUp, recordsAtSetUp, wordsAtSetUp, setUpRefusal}
+use Rattle.rows.specs.Lengths.{row3Lent}
+use Rattle.setup.specs.declared.Prepared.{Prepared}
+
+abbrev pub row8Always : ℕ → ℕ → Row
+row8Always w k = record { number = 8; holds = not (eqb k w) }
+
+-- a set-up's refusal by the lengths of what is lent
+unfoldable pub setUpNumber : ℕ → ℕ → ℕ → ℕ → ℕ → ℕ
+setUpNumber n w records words value = first (row1 n ∷ row2 w ∷ row3Lent n w records words ∷ row8Always w value ∷ [])
+
+pub set-up-number : (m : Memory) (n w : ℕ) (value : List ℕ) → setUpNumber n w (length (m .records)) (length (m .words)) (length value) ≡ setUpRefusal m n w value
+unfolding setUpNumber setUpRefusal
+set-up-number m n w value = refl
+
+-- the bench with the first n places of a table set up
+abbrev pub banksSet : Bench → ℕ → Bench
+banksSet b n = record { n = b .n; w = b .w; x = b .x; bank = sets (b .bank) 0 (map bankAtSetUp (numbers 0 n)); help = b .help }
+
+abbrev pub helpsSet : Bench → ℕ → Bench
+helpsSet b n = record { n = b .n; w = b .w; x = b .x; bank = b .bank; help = sets (b .help) 0 (replicate n helpAtSetUp) }
+
+-- what an accepted set-up's rows leave
+pub record Accepted (n w words value : ℕ) : Type 0 where
+  pub n-most : n ≤ 16
+  pub w-most : w ≤ 64
+  pub n-some : 1 ≤ n
+  pub words-lent : 5 * n * w ≤ words
+  pub value-words : value ≡ w
+
+-- the number, the bench and the words after a set-up with `len` records lent
+unfoldable pub prepared : Bench → ℕ → ℕ → ℕ → List ℕ → List ℕ → Prepared × List ℕ
+prepared b len n w value words =
+    cond (eqb (setUpNumber n w len (length words) (length value)) 0)
+    (record { number = 0; bench = benchAtSetUp b n w }, wordsAtSetUp words n w value)
+    (record { number = setUpNumber n w len (length words) (length value); bench = b }, words)
+
+-- the number and all lent memory, once the caller has set up the records too
+abbrev pub recordsSet : List Process → ℕ → Prepared × List ℕ → ℕ × Memory
+recordsSet rs n out = (out .0 .number, record { bench = out .0 .bench; records = cond (eqb (out .0 .number) 0) (recordsAtSetUp rs n) rs; words = out .1 })

@@ -1,0 +1,55 @@
+-- `steps::orders::offer` meets its contract: an SC's words are copied, no other order has any.
+use mathlib.Core.Path.{_≡_, refl, ap}
+use mathlib.Core.List.{List, [], _∷_}
+use Prim.Native.Nat.{ℕ}
+use native.Mathlib.Omega.{arith}
+use types.Run.{OneOf, miss}
+use denote.Enum.Declared.{tagOf}
+use Rattle.model.specs.declared.ProcessNumber.{ProcessNumber}
+use Rattle.model.specs.declared.Order.{Order}
+use Rattle.model.specs.declared.Order.the-variants.{StartLl, StartSc, StartVl, Step}
+use Rattle.model.specs.Refusals.{bringsValue}
+use Rattle.model.proofs.Order.{the-type}
+use Rattle.steps.specs.Steps.{offered}
+use Rattle.words.proofs.WordLaws.{row-lies}
+use borrow.Author.Needs.{needs}
+use Rattle.steps.proofs.orders.offer.Statement.{statement}
+use Rattle.steps.proofs.orders.offer.Tie as tie
+use Rattle.steps.proofs.orders.offer.Reads as reads
+use Rattle.steps.proofs.orders.offer.Lts as lts
+use Rattle.words.proofs.word_places.offer_word.Reads as offer-word-reads
+use Rattle.words.proofs.word_runs.copy_in.Reads as copy-in-reads
+
+not-offered : (o : Order) → OneOf (0 ∷ 2 ∷ 3 ∷ []) (tagOf the-type o) → (p : ProcessNumber) (n w : ℕ) (value ws : List ℕ) → ws ≡ offered o p n w value ws
+not-offered StartLl e p n w value ws = refl
+not-offered StartSc e p n w value ws = absurd (miss (0 ∷ 2 ∷ 3 ∷ []) 1 tt e)
+not-offered StartVl e p n w value ws = refl
+not-offered Step e p n w value ws = refl
+
+enum-told : tie.Need-enum-told
+enum-told c = search needs
+
+returns : tie.Need-returns
+returns c = not-offered (c .before .before .before .args .order) (c .match .keys2) _ _ _ _ _
+
+offer-word-requires : tie.Need-offer-word-requires
+offer-word-requires c κs = search needs
+
+copy-in-requires : tie.Need-copy-in-requires
+copy-in-requires c κs =
+    let a = c .before .before .before .before .before .before in
+    let o = c .before .before .enum-told .given .1 in
+    simp (c .before .offer-word .ensures) (row-lies (a .args .bench .n) (omega (arith, a .pre .ready .lent)) (a .pre .value (ap bringsValue o)) (a .pre .ready .lent .words))
+
+same-length : tie.Need-same-length
+same-length c = search needs
+
+returns-2 : tie.Need-returns-2
+returns-2 c =
+    let c3 = c .before .before .before in let c5 = c3 .before .before in
+    simp (c5 .enum-told .given .1, c .before .before .copy-in .ensures, c3 .before .offer-word .ensures)
+
+pub offer-spec : {M : Type 1} → statement M
+offer-spec =
+    tie.close
+    (tie.spec enum-told returns offer-word-requires copy-in-requires same-length returns-2)

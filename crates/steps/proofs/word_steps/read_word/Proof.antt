@@ -1,0 +1,53 @@
+-- `steps::word_steps::read_word` meets its contract: both places are lent, and the half is copied.
+-- Assumes nothing.
+use native.Mathlib.Omega.{arith}
+use Rattle.words.proofs.WordLaws.{lies}
+use borrow.Author.Needs.{needs}
+use Rattle.steps.proofs.word_steps.read_word.Statement.{statement}
+use Rattle.steps.proofs.word_steps.read_word.Tie as tie
+
+buffer-word-requires : tie.Need-buffer-word-requires
+buffer-word-requires c κs = search needs
+
+return-word-requires : tie.Need-return-word-requires
+return-word-requires c κs = search needs
+
+copy-half-requires : tie.Need-copy-half-requires
+copy-half-requires c κs =
+    let start = c .before .before .before .before in
+    let h = start .pre .0 in
+    let a = start .args in (
+      simp (c .before .before .buffer-word .ensures) (lies (a .n) (omega arith) (omega arith) (h .lent .words)),
+      simp (c .before .return-word .ensures) (lies (a .n) (omega arith) (omega arith) (h .lent .words)),
+    )
+
+mul-do-word : tie.Need-mul-do-word
+mul-do-word c = search needs
+
+do-word-requires : tie.Need-do-word-requires
+do-word-requires c κs = search needs
+
+same-length : tie.Need-same-length
+same-length c = search needs
+
+returns : tie.Need-returns
+returns c =
+    let copied = c .before .before .before in
+    simp (
+      c .do-word .ensures,
+      copied .copy-half .ensures,
+      copied .before .before .before .buffer-word .ensures,
+      copied .before .before .return-word .ensures,
+    )
+
+pub read-word-spec : {M : Type 1} → statement M
+read-word-spec =
+    tie.close
+    (tie.spec
+    buffer-word-requires
+    return-word-requires
+    copy-half-requires
+    mul-do-word
+    do-word-requires
+    same-length
+    returns)

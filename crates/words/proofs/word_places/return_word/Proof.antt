@@ -1,0 +1,30 @@
+-- `words::word_places::return_word` meets its contract: the place fits.
+-- Assumes nothing.
+use Prim.Native.Nat.{_+_, _*_}
+use native.Mathlib.Omega.{arith}
+use Rattle.words.proofs.WordLaws.{fits}
+use borrow.Author.Needs.{needs}
+use Rattle.words.proofs.word_places.return_word.Statement.{statement}
+use Rattle.words.proofs.word_places.return_word.Tie as tie
+
+mul-result : tie.Need-mul-result
+mul-result c = search needs
+
+cast-result : tie.Need-cast-result
+cast-result c = search needs
+
+add-result : tie.Need-add-result
+add-result c = search needs
+
+mul-result-2 : tie.Need-mul-result-2
+mul-result-2 c = omega (arith, fits {r = 3 * c .before .args .n + c .before .args .p .0} {w = c .before .args .w} {k = c .before .args .k} (omega arith) (c .before .pre .1 .0) (c .before .pre .1 .1))
+
+add-result-2 : tie.Need-add-result-2
+add-result-2 c = omega (arith, fits {r = 3 * c .before .args .n + c .before .args .p .0} {w = c .before .args .w} {k = c .before .args .k} (omega arith) (c .before .pre .1 .0) (c .before .pre .1 .1))
+
+returns : tie.Need-returns
+returns c = search needs
+
+pub return-word-spec : {M : Type 1} → statement M
+return-word-spec =
+    tie.close (tie.spec mul-result cast-result add-result mul-result-2 add-result-2 returns)

@@ -1,0 +1,3 @@
+// The lent words: where each lies, its halves, and runs of words.
+pub mod word_places;
+pub mod word_runs;
