@@ -17,10 +17,12 @@ use Rattle.tables.specs.declared.records.Records.{Records}
 use Rattle.tables.specs.Gathered.{gathered}
 use Rattle.tables.proofs.GatheredLaws.{gathered-length, gathered-at}
 use Rattle.run.specs.declared.last_line.Whole.{Whole}
-use Rattle.run.specs.TextRun.{runText}
+use Rattle.run.specs.TextRun.{Ended, runText}
 use Rattle.run.specs.Whole.{fewOf, Others}
 use Rattle.run.proofs.RecordLaws.{few-small}
 use Rattle.run.proofs.TextFrame.{endedLonger, first-sixteen}
+use Rattle.run.specs.StopPlaces.{StopsAt}
+use Rattle.bench.specs.declared.RunLeft.{RunLeft}
 use Rattle.bench.specs.Lent.{memory, recordsStored}
 use Rattle.bench.specs.Running.{left, Ran}
 
@@ -105,7 +107,7 @@ stored-few l a k few others =
     at i s (no h) (no g) = stored-above l a k i (omega arith) ∙ sym (stored-above l a 16 i (omega arith))
 
 -- from what the run by value says and what is stored back, to a run over all lent memory
-pub ran-stored : (b : Bench) (rs : List Process) (ws text listing : List ℕ) (r : Whole) (zs : List Process) (vs ls : List ℕ)
+pub ran-stored : (b : Bench) (rs : List Process) (ws text listing : List ℕ) (r : RunLeft) (zs : List Process) (vs ls : List ℕ)
     → Ran b (gathered rs noProcess 16) (length rs) ws text listing r vs ls
     → zs ≡ recordsStored rs (r .all .list) (r .stored)
     → left r zs vs ls ≡ runText (memory b rs ws) text listing
@@ -122,8 +124,9 @@ ran-stored b rs ws text listing r zs vs ls ran stored =
 pub at-most-sixteen : (b : Bench) (all : Records) (len : ℕ) (ws text list : List ℕ) (r : Whole) (k : ℕ) (ws′ list′ : List ℕ)
     → all ≡ gathered (take len (all .list)) noProcess 16
     → k ≡ fewOf (r .stored)
-    → (left r (take len (r .all .list)) ws′ list′ ≡ runText (memory b (take len (all .list)) ws) text list) ×
-    (r .all ≡ gathered (take len (r .all .list)) noProcess 16) × Others all r
+    → (_≡_ {A = Ended} (record { number = r .number; entries = r .entries; written = r .written; memory = memory (r .bench) (take len (r .all .list)) ws′; listing = list′ })
+        (runText (memory b (take len (all .list)) ws) text list))
+    × (r .all ≡ gathered (take len (r .all .list)) noProcess 16) × Others all r × StopsAt false (memory b (take len (all .list)) ws) text list (r .place)
     → Ran b all len ws text list (record { bench = r .bench; all = r .all; stored = k; number = r .number; entries = r .entries; written = r .written }) ws′ list′
 at-most-sixteen b all len ws text list r k ws′ list′ q e x = record
     { same = x .0; again = x .1; others = others; few = subst (λ (n : ℕ). n ≤ 16) (sym e) (few-small (r .stored)) }

@@ -14,7 +14,6 @@ use model::Bench;
 use model::Order;
 use model::Process;
 use model::Reply;
-use run::last_line::Whole;
 use tables::records::Records;
 
 mod lent;
@@ -102,6 +101,16 @@ pub struct TextRun {
     pub written: usize,
 }
 
+// What the by-value run leaves of the bench and the records, how many of them to store back, and what it returns.
+pub struct RunLeft {
+    pub bench: Bench,
+    pub all: Records,
+    pub stored: usize,
+    pub number: u8,
+    pub entries: usize,
+    pub written: usize,
+}
+
 // The text run by value, but for the lent words and the listing, which it writes. There is no seventeenth record to store back.
 fn run_gathered(
     bench: Bench,
@@ -110,7 +119,7 @@ fn run_gathered(
     words: &mut [u64],
     text: &[u8],
     listing: &mut [u8],
-) -> Whole
+) -> RunLeft
     requires { ⌜ all ≡ gathered (take len (all .list)) noProcess 16 ⌝ }
     ensures { λ r. ⌜ Ran bench all len (now (words .entry)) (now (text .entry)) (now (listing .entry)) r (now (words .exit)) (now (listing .exit)) ⌝ }
 {
@@ -118,7 +127,7 @@ fn run_gathered(
     let next = out.bench;
     let records = out.all;
     let stored = lent::at_most_sixteen(out.stored);
-    Whole {
+    RunLeft {
         bench: next,
         all: records,
         stored,

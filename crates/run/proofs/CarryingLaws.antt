@@ -15,8 +15,9 @@ use Rattle.notation.specs.declared.Entry.{Entry}
 use Rattle.notation.specs.declared.Entry.the-variants.{StartLl, StartVl, StartSc, Step, Finish}
 use Rattle.run.specs.declared.state.Run.{Run}
 use Rattle.run.specs.TextRun.{Progress, stopped, single, unanswered, steps, carry, carryAll, processOf}
+use Rattle.run.specs.StopPlaces.{stopIndex}
 use Rattle.run.specs.Held.{Held, held, progress, stoppedRun, Sound, Kept, Becomes}
-use Rattle.run.specs.Carried.{staysAt, resumed, onward, Carrying}
+use Rattle.run.specs.Carried.{staysAt, resumed, onward, indexAfter, onwardIndex, OthersKept, Carries, Carrying}
 use Rattle.run.proofs.SingleLaws.{stops, stays}
 use Rattle.run.proofs.KeptLaws.{all-stay}
 
@@ -36,6 +37,18 @@ all-from-first : (es : List Entry) (s : Progress) → s .stop ≡ 0 → onward (
 unfolding onward carryAll
 all-from-first [] s z = refl
 all-from-first (e ∷ es) s z = ap (carryAll es) (from-first e s z)
+
+index-from-first : (es : List Entry) (s : Progress) → s .stop ≡ 0 → onwardIndex (llMost (s .memory .bench .w)) es s ≡ stopIndex es s
+unfolding onwardIndex stopIndex
+index-from-first [] s z = refl
+index-from-first (e ∷ es) s z = ap (indexAfter es) (from-first e s z)
+
+-- an entry that goes on is carried out whole, one that stops the run is not
+index-goes : (es : List Entry) (s : Progress) → s .stop ≡ 0 → indexAfter es s ≡ suc (stopIndex es s)
+index-goes es s z = simp (eq-eqb (s .stop) 0 z)
+
+index-stops : (es : List Entry) (s : Progress) → (s .stop ≡ 0 → ⊥) → indexAfter es s ≡ 0
+index-stops es s n = simp (ne-eqb (s .stop) 0 n)
 
 -- `!`: whether a further step follows
 goesOn : Entry → Progress → Bool
@@ -99,12 +112,23 @@ drop-all (a ∷ l) (suc i) h = drop-all l i (omega arith)
 
 -- before the first entry
 pub carrying-none : {len : ℕ} {h : Held} (es : List Entry) → Sound len h → h .run .stop ≡ 0 → Carrying len es h 0 (llMost (h .run .bench .w)) h
-carrying-none {len} {h} es s z = record { same = all-from-first es (progress len h) z; kept = stays s; goes = z; some = omega arith; width = refl }
+carrying-none {len} {h} es s z = record {
+  same = all-from-first es (progress len h) z;
+  index = omega (arith, index-from-first es (progress len h) z);
+  kept = stays s;
+  goes = z;
+  some = omega arith;
+  width = refl;
+}
 
 -- behind the last
-pub carrying-all : {len at left : ℕ} {es : List Entry} {h h′ : Held} → Carrying len es h at left h′ → length es ≤ at → Becomes len (carryAll es) h h′
-unfolding onward
-carrying-all {len} {at} {left} {es} {h} {h′} c l = record { same = sym (ap (λ (x : List Entry). onward left x (progress len h′)) (drop-all es at l)) ∙ c .same; kept = c .kept }
+pub carrying-all : {len at left : ℕ} {es : List Entry} {h h′ : Held} → Carrying len es h at left h′ → OthersKept h h′ → length es ≤ at → Carries len es h h′ at
+unfolding onward onwardIndex
+carrying-all {len} {at} {left} {es} {h} {h′} c o l = record {
+  becomes = record { same = sym (ap (λ (x : List Entry). onward left x (progress len h′)) (drop-all es at l)) ∙ c .same; kept = c .kept };
+  index = omega (arith, c .index, ap (λ (x : List Entry). onwardIndex left x (progress len h′)) (drop-all es at l));
+  others = o;
+}
 
 -- at an entry, which makes a step or is refused
 module _ {len at left : ℕ} {es : List Entry} {h h₁ h′ : Held} (c : Carrying len es h at left h₁) (l : at < length es) (d : Entry) (b : Becomes len (single (getD es at d)) h₁ h′) where
@@ -114,29 +138,58 @@ module _ {len at left : ℕ} {es : List Entry} {h h₁ h′ : Held} (c : Carryin
   abbrev rest : List Entry
   rest = drop (at + 1) es
 
-  opened : carryAll rest (cond (goesOn e (progress len h′)) (resumed (left - 1) e (progress len h′)) (progress len h′)) ≡ carryAll es (progress len h)
+  -- the run after the whole entry, where a further step follows or not
+  abbrev ahead : Bool → Progress
+  ahead t = cond t (resumed (left - 1) e (progress len h′)) (progress len h′)
+
+  stepped : resumed left e (progress len h₁) ≡ ahead (goesOn e (progress len h′))
+  stepped = one-step left e (progress len h₁) (progress len h′) (c .some) (b .same)
+
+  opened : carryAll rest (ahead (goesOn e (progress len h′))) ≡ carryAll es (progress len h)
   unfolding onward
-  opened =
-      ap (carryAll rest) (sym (one-step left e (progress len h₁) (progress len h′) (c .some) (b .same))) ∙
-      sym (ap (λ (x : List Entry). onward left x (progress len h₁)) (drop-at es at d l)) ∙ c .same
+  opened = ap (carryAll rest) (sym stepped) ∙ sym (ap (λ (x : List Entry). onward left x (progress len h₁)) (drop-at es at d l)) ∙ c .same
+
+  opened-index : at + indexAfter rest (ahead (goesOn e (progress len h′))) ≡ stopIndex es (progress len h)
+  unfolding onwardIndex
+  opened-index =
+      ap (λ (x : Progress). at + indexAfter rest x) (sym stepped)
+      ∙ sym (ap (λ (x : List Entry). at + onwardIndex left x (progress len h₁)) (drop-at es at d l)) ∙ c .index
+
+  -- with what is known of the further step
+  open-with : (t : Bool) → goesOn e (progress len h′) ≡ t → carryAll rest (ahead t) ≡ carryAll es (progress len h)
+  open-with t q = ap (λ (x : Bool). carryAll rest (ahead x)) (sym q) ∙ opened
+
+  index-with : (t : Bool) → goesOn e (progress len h′) ≡ t → at + indexAfter rest (ahead t) ≡ stopIndex es (progress len h)
+  index-with t q = ap (λ (x : Bool). at + indexAfter rest (ahead x)) (sym q) ∙ opened-index
+
+  -- where the run is stopped with this entry
+  stopped-index : (s : Progress) → (s .stop ≡ 0 → ⊥) → at + indexAfter rest s ≡ stopIndex es (progress len h) → at ≡ stopIndex es (progress len h)
+  stopped-index s n i = omega (arith, i, index-stops rest s n)
 
   abbrev kept-both : Kept len h h′
   kept-both = kept-then (c .kept) (b .kept)
 
-  pub ends-refused : (h′ .run .stop ≡ 0 → ⊥) → Becomes len (carryAll es) h h′
-  ends-refused n = record {
-    same = sym (all-stay rest (progress len h′) n) ∙ sym (ap (λ (t : Bool). carryAll rest (cond t (resumed (left - 1) e (progress len h′)) (progress len h′))) (goes-not e (progress len h′) n)) ∙ opened;
-    kept = kept-both;
-  }
+  pub ends-refused : OthersKept h h′ → (h′ .run .stop ≡ 0 → ⊥) → Carries len es h h′ at
+  ends-refused o n =
+      let over = goes-not e (progress len h′) n in
+      record {
+        becomes = record { same = sym (all-stay rest (progress len h′) n) ∙ open-with false over; kept = kept-both };
+        index = stopped-index (progress len h′) n (index-with false over);
+        others = o;
+      }
 
   module _ (z : h′ .run .stop ≡ 0) (w : h′ .run .bench .w ≡ h₁ .run .bench .w) {line : ℕ} (r : recordAt (progress len h′ .memory .records) (record { 0 = processOf e }) .line ≡ line) where
-    by-line : (t : Bool) → staysAt e line ≡ t → carryAll rest (cond t (resumed (left - 1) e (progress len h′)) (progress len h′)) ≡ carryAll es (progress len h)
-    by-line t q = ap (λ (x : Bool). carryAll rest (cond x (resumed (left - 1) e (progress len h′)) (progress len h′))) (sym (goes-by-line e (progress len h′) z r ∙ q)) ∙ opened
+    by-line : (t : Bool) → staysAt e line ≡ t → goesOn e (progress len h′) ≡ t
+    by-line t q = goes-by-line e (progress len h′) z r ∙ q
 
     -- it is over: the next entry begins
     pub goes-over : staysAt e line ≡ false → Carrying len es h (at + 1) (llMost (h .run .bench .w)) h′
     goes-over q = record {
-      same = ap (λ (k : ℕ). onward (llMost k) rest (progress len h′)) (sym (w ∙ c .width)) ∙ all-from-first rest (progress len h′) z ∙ by-line false q;
+      same = ap (λ (k : ℕ). onward (llMost k) rest (progress len h′)) (sym (w ∙ c .width)) ∙ all-from-first rest (progress len h′) z ∙ open-with false (by-line false q);
+      index =
+          let fresh : onwardIndex (llMost (h .run .bench .w)) rest (progress len h′) ≡ stopIndex rest (progress len h′)
+          = ap (λ (k : ℕ). onwardIndex (llMost k) rest (progress len h′)) (sym (w ∙ c .width)) ∙ index-from-first rest (progress len h′) z in
+          omega (arith, fresh, index-goes rest (progress len h′) z, index-with false (by-line false q));
       kept = kept-both;
       goes = z;
       some = omega arith;
@@ -145,9 +198,10 @@ module _ {len at left : ℕ} {es : List Entry} {h h₁ h′ : Held} (c : Carryin
 
     -- it stays, with a step fewer that may follow
     pub goes-further : staysAt e line ≡ true → (left - 1 ≡ 0 → ⊥) → Carrying len es h at (left - 1) h′
-    unfolding onward
+    unfolding onward onwardIndex
     goes-further q n = record {
-      same = ap (λ (x : List Entry). onward (left - 1) x (progress len h′)) (drop-at es at d l) ∙ by-line true q;
+      same = ap (λ (x : List Entry). onward (left - 1) x (progress len h′)) (drop-at es at d l) ∙ open-with true (by-line true q);
+      index = ap (λ (x : List Entry). at + onwardIndex (left - 1) x (progress len h′)) (drop-at es at d l) ∙ index-with true (by-line true q);
       kept = kept-both;
       goes = z;
       some = omega (arith, n);
@@ -155,10 +209,16 @@ module _ {len at left : ℕ} {es : List Entry} {h h₁ h′ : Held} (c : Carryin
     }
 
     -- row 13
-    pub ends-unanswered : staysAt e line ≡ true → left - 1 ≡ 0 → Becomes len (carryAll es) h (held (stoppedRun (h′ .run) 13) (h′ .words) (h′ .listing))
-    ends-unanswered q n =
+    pub ends-unanswered : OthersKept h h′ → staysAt e line ≡ true → left - 1 ≡ 0 → Carries len es h (held (stoppedRun (h′ .run) 13) (h′ .words) (h′ .listing)) at
+    ends-unanswered o q n =
         let s : Progress = stopped 13 (progress len h′) in
+        let some : s .stop ≡ 0 → ⊥ = λ y. omega (arith, y) in
+        let none : s ≡ ahead true = sym (none-left e (progress len h′) line q) ∙ ap (λ (k : ℕ). resumed k e (progress len h′)) (sym n) in
         record {
-          same = sym (all-stay rest s (λ y. omega (arith, y))) ∙ ap (carryAll rest) (sym (none-left e (progress len h′) line q) ∙ ap (λ (k : ℕ). resumed k e (progress len h′)) (sym n)) ∙ by-line true q;
-          kept = kept-then kept-both (stops 13 (λ y. omega (arith, y)) (omega arith) (b .kept .sound));
+          becomes = record {
+            same = sym (all-stay rest s some) ∙ ap (carryAll rest) none ∙ open-with true (by-line true q);
+            kept = kept-then kept-both (stops 13 (λ y. omega (arith, y)) (omega arith) (b .kept .sound));
+          };
+          index = stopped-index s some (ap (λ (x : Progress). at + indexAfter rest x) none ∙ index-with true (by-line true q));
+          others = o;
         }

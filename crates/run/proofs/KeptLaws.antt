@@ -19,6 +19,7 @@ use Rattle.notation.specs.declared.Entry.the-variants.{StartLl, StartVl, StartS
 use Rattle.notation.specs.EntryWords.{keptProcess, keptEntry}
 use Rattle.rows.proofs.RowLaws.{n-in}
 use Rattle.run.specs.TextRun.{Progress, stopped, mostEntries, roomNeeded, processOf, orderOf, valueOf, replied, commanded, single, unanswered, steps, carry, carryAll}
+use Rattle.run.specs.StopPlaces.{stopIndex}
 
 -- what holds of both arms of a test, each where it is taken
 either : {A : Type 0} (P : A → Type 0) (t : Bool) {a b : A} → (t ≡ true → P a) → (t ≡ false → P b) → P (cond t a b)
@@ -133,6 +134,11 @@ unfolding carryAll
 all-stay [] s n = refl
 all-stay (e ∷ es) s n = ap (carryAll es) (carry-stays e s n) ∙ all-stay es s n
 
+index-stays : (es : List Entry) (s : Progress) → (s .stop ≡ 0 → ⊥) → stopIndex es s ≡ 0
+unfolding stopIndex
+index-stays [] s n = refl
+index-stays (e ∷ es) s n = let still : eqb (carry e s .stop) 0 ≡ false = ne-eqb (carry e s .stop) 0 (rw (carry-stays e s n) n) in simp still
+
 -- so what is kept of the first k entries is enough where k and those done are more than 60,000
 kept-first : (k : ℕ) (es : List Entry) (s : Progress) → (s .stop ≡ 0 → (s .entries ≤ mostEntries) × (mostEntries < k + s .entries))
     → carryAll (map keptEntry (take k es)) s ≡ carryAll es s
@@ -143,6 +149,20 @@ kept-first (suc k) (e ∷ es) s h =
     ap (carryAll (map keptEntry (take k es))) (kept-carry e s)
     ∙ kept-first k es (carry e s) (λ z. let m = carry-more e s z in (m .few, omega (arith, m .more, h (m .before))))
 
+-- and the run stops at the same entry
+kept-first-index : (k : ℕ) (es : List Entry) (s : Progress) → (s .stop ≡ 0 → (s .entries ≤ mostEntries) × (mostEntries < k + s .entries))
+    → stopIndex (map keptEntry (take k es)) s ≡ stopIndex es s
+unfolding stopIndex
+kept-first-index zero es s h = sym (index-stays es s (λ z. omega (arith, h z)))
+kept-first-index (suc k) [] s h = refl
+kept-first-index (suc k) (e ∷ es) s h =
+    let next = carry e s in
+    ap (λ (x : Progress). cond (eqb (x .stop) 0) (suc (stopIndex (map keptEntry (take k es)) x)) 0) (kept-carry e s)
+    ∙ ap (λ (i : ℕ). cond (eqb (next .stop) 0) (suc i) 0) (kept-first-index k es next (λ z. let m = carry-more e s z in (m .few, omega (arith, m .more, h (m .before)))))
+
 -- what the list of a text keeps runs as the whole does: an entry after the 60,000th is 12 whatever it says, and a process number above 15 is refused alike
 pub kept-run : (es : List Entry) (s : Progress) → s .entries ≡ 0 → carryAll (map keptEntry (take 60001 es)) s ≡ carryAll es s
 kept-run es s z = kept-first 60001 es s (λ y. (omega (arith, z), omega (arith, z)))
+
+pub kept-index : (es : List Entry) (s : Progress) → s .entries ≡ 0 → stopIndex (map keptEntry (take 60001 es)) s ≡ stopIndex es s
+kept-index es s z = kept-first-index 60001 es s (λ y. (omega (arith, z), omega (arith, z)))

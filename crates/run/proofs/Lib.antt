@@ -18,7 +18,9 @@ pub mod SetUpLaws
 pub mod FaultLaws
 pub mod StartLaws
 pub mod RunLaws
+pub mod StopLaws
 pub mod Runs
+pub mod StopRuns
 pub mod CommandFrame
 pub mod TextFrame
 pub mod TableLengths

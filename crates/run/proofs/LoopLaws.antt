@@ -79,8 +79,9 @@ pub record Head (count : ℕ) (entries : List ℕ) (len n w needed : ℕ) (h : H
   pub others : OthersKept h h₁
 
 -- a run is the one that goes on
-pub from-run : {len : ℕ} {r : Run} {ws list : List ℕ} {es : List Entry} {h : Held} → r .stop ≡ 0 → Carries len es (held (goingRun (r .bench) (r .all) (r .written) (r .entries) (r .traced)) ws list) h → Carries len es (held r ws list) h
-from-run {len} {r} {ws} {list} {es} {h} z x = subst (λ (k : ℕ). Carries len es (held (stoppedRun r k) ws list) h) (sym z) x
+pub from-run : {len : ℕ} {r : Run} {ws list : List ℕ} {es : List Entry} {h : Held} {at : ℕ} → r .stop ≡ 0
+    → Carries len es (held (goingRun (r .bench) (r .all) (r .written) (r .entries) (r .traced)) ws list) h at → Carries len es (held r ws list) h at
+from-run {len} {r} {ws} {list} {es} {h} {at} z x = subst (λ (k : ℕ). Carries len es (held (stoppedRun r k) ws list) h at) (sym z) x
 
 pub first-head : {len count n w needed : ℕ} {entries : List ℕ} {r : Run} {ws list : List ℕ} → let h = held (goingRun (r .bench) (r .all) (r .written) (r .entries) (r .traced)) ws list in
     count ≤ length entries → Sound len (held r ws list) → r .stop ≡ 0 → n ≡ r .bench .n → w ≡ r .bench .w → needed ≡ roomNeeded (r .traced) → Head count entries len n w needed h 0 (llMost (r .bench .w)) h
@@ -96,8 +97,8 @@ first-head {len} {count} {entries = entries} {r = r} {ws = ws} {list = list} l s
 }
 
 -- behind the last entry
-pub head-all : {len count n w needed at left : ℕ} {entries : List ℕ} {h h₁ : Held} → Head count entries len n w needed h at left h₁ → count ≤ at → Carries len (entriesIn count entries) h h₁
-head-all {count = count} {entries = entries} x l = record { becomes = carrying-all (x .carrying) (omega (arith, l, count-entries count entries (x .fits))); others = x .others }
+pub head-all : {len count n w needed at left : ℕ} {entries : List ℕ} {h h₁ : Held} → Head count entries len n w needed h at left h₁ → count ≤ at → Carries len (entriesIn count entries) h h₁ at
+head-all {count = count} {entries = entries} x l = carrying-all (x .carrying) (x .others) (omega (arith, l, count-entries count entries (x .fits)))
 
 -- with an entry to carry out: what the code has in its hands
 pub record Looking (count : ℕ) (entries : List ℕ) (len n w needed : ℕ) (h : Held) (at left : ℕ) (h₁ : Held) (e : Entry) (p k : ℕ) (q : Process) (o : Order) : Type 0 where
@@ -151,8 +152,8 @@ module _ {count : ℕ} {entries : List ℕ} {len n w needed at left p k : ℕ} {
   same-refusal : refusal ≡ looked
   same-refusal = rw (x .order-is, x .record-is, x .place-is, x .process-is, x .head .n-is)
 
-  pub loop-refused : {stop : ℕ} → stop ≡ refusal → (stop ≡ 0 → ⊥) → Carries len es h (held (stoppedRun (h₁ .run) stop) (h₁ .words) (h₁ .listing))
-  loop-refused {stop} f y = record { becomes = ends-refused c inside (entryIn 0) (this (entry-refused e small s (c .goes) (x .head .needed-is) stop (f ∙ same-refusal) y)) y; others = x .head .others }
+  pub loop-refused : {stop : ℕ} → stop ≡ refusal → (stop ≡ 0 → ⊥) → Carries len es h (held (stoppedRun (h₁ .run) stop) (h₁ .words) (h₁ .listing)) at
+  loop-refused {stop} f y = ends-refused c inside (entryIn 0) (this (entry-refused e small s (c .goes) (x .head .needed-is) stop (f ∙ same-refusal) y)) (x .head .others) y
 
   module _ (f : refusal ≡ 0) where
     free : looked ≡ 0
@@ -241,7 +242,6 @@ module _ {count : ℕ} {entries : List ℕ} {len n w needed at left p k : ℕ} {
           pub loop-further : staysAt e (r .process .line) ≡ true → (left - 1 ≡ 0 → ⊥) → Head count entries len n w needed h at (left - 1) (afterAt k)
           loop-further y m = headed (goes-further c inside (entryIn 0) made refl refl line (same-stay ∙ y) m)
 
-          pub loop-unanswered : staysAt e (r .process .line) ≡ true → left - 1 ≡ 0 → Carries len es h (held (stoppedRun (afterAt k .run) 13) ws lst)
+          pub loop-unanswered : staysAt e (r .process .line) ≡ true → left - 1 ≡ 0 → Carries len es h (held (stoppedRun (afterAt k .run) 13) ws lst) at
           loop-unanswered y m =
-              stored (λ d. Carries len es h (held (stoppedRun (d .run) 13) ws lst))
-              (record { becomes = ends-unanswered c inside (entryIn 0) made refl refl line (same-stay ∙ y) m; others = others-kept })
+              stored (λ d. Carries len es h (held (stoppedRun (d .run) 13) ws lst) at) (ends-unanswered c inside (entryIn 0) made refl refl line others-kept (same-stay ∙ y) m)

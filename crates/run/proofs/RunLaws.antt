@@ -41,25 +41,29 @@ pub sound-closable : {len : ℕ} {h : Held} → Sound len h → Closable (h .run
 sound-closable s = record { entries = s .entries; stop = s .stop; room = s .room }
 
 -- with its last line a run is ended
-pub closed-answers : {len stored : ℕ} {all : Records} {list′ : List ℕ} {out : Whole} (r : Run) (ws list : List ℕ) → Filled len (r .all .list)
-    → ((j : ℕ) → stored ≤ j → getD (r .all .list) j noProcess ≡ getD (all .list) j noProcess) → _≡_ {A = Whole × List ℕ} (out, list′) (closed r stored list) → Answers len all out ws list′ (ended (progress len (held r ws list)))
-closed-answers {len} {stored} {all} {out = out} r ws list f o e = record {
+pub closed-answers : {len stored place : ℕ} {all : Records} {list′ : List ℕ} {out : Whole} (r : Run) (ws list : List ℕ) → Filled len (r .all .list)
+    → ((j : ℕ) → stored ≤ j → getD (r .all .list) j noProcess ≡ getD (all .list) j noProcess)
+    → _≡_ {A = Whole × List ℕ} (out, list′) (closed r stored place list) → Answers len all out ws list′ (ended (progress len (held r ws list)))
+closed-answers {len} {stored} {place} {all} {out = out} r ws list f o e = record {
   same = ap (λ (x : Whole × List ℕ). record { number = x .0 .number; entries = x .0 .entries; written = x .0 .written; memory = memoryOf (x .0 .bench) (x .0 .all) len ws; listing = x .1 }) e;
   filled = subst (λ (x : Whole). Filled len (x .all .list)) (sym same) f;
   others = subst (Others all) (sym same) o;
 }
   where
-    same : out ≡ closed r stored list .0
+    same : out ≡ closed r stored place list .0
     same = ap (λ (x : Whole × List ℕ). x .0) e
+
+pub closed-place : {stored place : ℕ} {list′ : List ℕ} {out : Whole} (r : Run) (list : List ℕ) → _≡_ {A = Whole × List ℕ} (out, list′) (closed r stored place list) → out .place ≡ place
+closed-place r list e = ap (λ (x : Whole × List ℕ). x .0 .place) e
 
 pub answers-as : {len : ℕ} {all : Records} {out : Whole} {ws list : List ℕ} {a b : Ended} → Answers len all out ws list a → a ≡ b → Answers len all out ws list b
 answers-as x e = record { same = x .same ∙ e; filled = x .filled; others = x .others }
 
 -- a set-up that is refused, and one that is not
-not-begun : (k : ℕ) (F : Memory → Ended) (x m : Memory) (e : Ended) → (k ≡ 0 → ⊥) → cond (eqb k 0) (F (cond (eqb k 0) x m)) e ≡ e
+pub not-begun : {A : Type 0} (k : ℕ) (F : Memory → A) (x m : Memory) (e : A) → (k ≡ 0 → ⊥) → cond (eqb k 0) (F (cond (eqb k 0) x m)) e ≡ e
 not-begun k F x m e n = simp (ne-eqb k 0 n)
 
-is-begun : (k : ℕ) (F : Memory → Ended) (x m : Memory) (e : Ended) → k ≡ 0 → cond (eqb k 0) (F (cond (eqb k 0) x m)) e ≡ F x
+pub is-begun : {A : Type 0} (k : ℕ) (F : Memory → A) (x m : Memory) (e : A) → k ≡ 0 → cond (eqb k 0) (F (cond (eqb k 0) x m)) e ≡ F x
 is-begun k F x m e z = simp (eq-eqb k 0 z)
 
 -- a text with a fault
@@ -159,5 +163,6 @@ answered {k} {out} {ws′} {list′} len b all ws g e q x =
       x .others,
     )
 
-pub ended-as : {a b c : Ended} {P Q : Type 0} → (a ≡ b) × P × Q → b ≡ c → (a ≡ c) × P × Q
-ended-as x e = (x .0 ∙ e, x .1, x .2)
+-- with the place at which the run stopped
+pub ended-as : {a b c : Ended} {P Q R : Type 0} → (a ≡ b) × P × Q → b ≡ c → R → (a ≡ c) × P × Q × R
+ended-as x e r = (x .0 ∙ e, x .1, x .2, r)

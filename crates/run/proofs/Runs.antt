@@ -30,16 +30,16 @@ pub record Run : Type 0 where
   pub shows : List String
 
 -- What is lent is full of dirt: more records and words than are needed, and none of its numbers in its range.
-dirtyX : XPlace
+unfoldable pub dirtyX : XPlace
 dirtyX = record { content = record { buf = record { 0 = 201 }; seq = record { 0 = 202 } }; links = 65535 }
 
-dirtyBank : BankPlace
+unfoldable pub dirtyBank : BankPlace
 dirtyBank = record { content = record { 0 = 203 }; links = 65535 }
 
-dirtyHelp : HelpPlace
+unfoldable pub dirtyHelp : HelpPlace
 dirtyHelp = record { content = record { flag = 204; buf = record { 0 = 205 } }; links = 65535 }
 
-dirtyProcess : Process
+unfoldable pub dirtyProcess : Process
 dirtyProcess = record {
   mybuf = record { 0 = 206 };
   x = record { buf = record { 0 = 207 }; seq = record { 0 = 208 } };
@@ -53,14 +53,14 @@ dirtyProcess = record {
   e = record { 0 = 215 };
 }
 
-lent : Memory
+unfoldable pub lent : Memory
 lent = record {
   bench = record { n = 216; w = 217; x = dirtyX; bank = replicate 32 dirtyBank; help = replicate 16 dirtyHelp };
   records = replicate 3 dirtyProcess;
   words = replicate 12 18446744073709551615;
 }
 
-dirtyBytes : ℕ → List ℕ
+unfoldable pub dirtyBytes : ℕ → List ℕ
 dirtyBytes k = replicate k 218
 
 pub record Outcome : Type 0 where

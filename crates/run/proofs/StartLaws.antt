@@ -133,7 +133,7 @@ module _ {len : ℕ} {all : Records} {list : List ℕ} (t : Bool) (b : Bench) (w
         rw (er, eb, ea, ew, v)
 
     -- and what the entries leave of the records from n on
-    pub others-left : {h h′ : Held} {es : List Entry} → h ≡ first → Carries len es h h′ → (j : ℕ) → n ≤ j → getD (h′ .run .all .list) j noProcess ≡ getD (all .list) j noProcess
+    pub others-left : {h h′ : Held} {es : List Entry} {at : ℕ} → h ≡ first → Carries len es h h′ at → (j : ℕ) → n ≤ j → getD (h′ .run .all .list) j noProcess ≡ getD (all .list) j noProcess
     others-left {h} {h′} e x j l =
         let above : n ≤ j = l in
         x .others j (rw e above) ∙ ap (λ (y : Held). getD (y .run .all .list) j noProcess) e ∙ sets-above (all .list) 0 newRecords j (omega (arith, mapped-length (2 * n) n))

@@ -1,5 +1,5 @@
 -- One entry carried out on the places taken out for it, as the code does it: inner to the run, whose meaning is in TextRun.
-use Prim.Native.Nat.{ℕ, _+_, _-_, _≤_, _<_}
+use Prim.Native.Nat.{ℕ, suc, _+_, _-_, _≤_, _<_}
 use mathlib.Core.Path.{_≡_}
 use mathlib.Core.List.{List, [], _∷_, _++_, map}
 use mathlib.Core.Bool.{Bool, false, not, cond}
@@ -18,18 +18,23 @@ use Rattle.steps.specs.Steps.{offered, obeyOn}
 use Rattle.taken.specs.Ranges.{Ready}
 use Rattle.notation.specs.declared.Entry.{Entry}
 use Rattle.notation.specs.declared.Entry.the-variants.{StartLl, StartVl, StartSc, Step, Finish}
-use Rattle.notation.specs.EntryWords.{entryIn}
+use Rattle.notation.specs.EntryWords.{entryIn, placeIn}
 use Rattle.listing.specs.Writing.{Wrote}
 use Rattle.access.specs.declared.Access.{Access}
 use Rattle.access.specs.Accesses.{noAccess}
 use Rattle.access.specs.AccessOn.{accessOn}
 use Rattle.run.specs.declared.turn.Turn.{Turn}
 use Rattle.run.specs.TextRun.{Progress, mostEntries, processOf, orderOf, valueOf, single, steps, carry, carryAll}
+use Rattle.run.specs.StopPlaces.{stopIndex}
 use Rattle.run.specs.Held.{Held, progress, Kept, Becomes, answerLine, shownLine}
 
 -- the entries that the list of a text keeps
 abbrev pub entriesIn : ℕ → List ℕ → List Entry
 entriesIn count list = map entryIn (take count list)
+
+-- and the places of their items
+abbrev pub placesIn : ℕ → List ℕ → List ℕ
+placesIn count list = map placeIn (take count list)
 
 -- what refuses an entry of a run that goes on, where no row that speaks of the lent memory holds: "before each entry 12, then 14", then rows
 -- 4, 5, 6, 7. (Row 8 can't hold: a text's SC brings W words.) 0 for nothing.
@@ -89,18 +94,28 @@ unfoldable pub onward : ℕ → List Entry → Progress → Progress
 onward left [] s = s
 onward left (e ∷ es) s = carryAll es (resumed left e s)
 
+-- how many of them are carried out whole, once the first has left the run so
+abbrev pub indexAfter : List Entry → Progress → ℕ
+indexAfter es s = cond (eqb (s .stop) 0) (suc (stopIndex es s)) 0
+
+unfoldable pub onwardIndex : ℕ → List Entry → Progress → ℕ
+onwardIndex left [] s = 0
+onwardIndex left (e ∷ es) s = indexAfter es (resumed left e s)
+
 -- the records from N on are what they were
 abbrev pub OthersKept : Held → Held → Type 0
 OthersKept h h′ = (j : ℕ) → h .run .bench .n ≤ j → getD (h′ .run .all .list) j noProcess ≡ getD (h .run .all .list) j noProcess
 
--- a whole list carried out
-pub record Carries (len : ℕ) (es : List Entry) (h h′ : Held) : Type 0 where
+-- a list carried out, up to its end or to the entry at `at` that stopped the run
+pub record Carries (len : ℕ) (es : List Entry) (h h′ : Held) (at : ℕ) : Type 0 where
   pub becomes : Becomes len (carryAll es) h h′
+  pub index : at ≡ stopIndex es (progress len h)
   pub others : OthersKept h h′
 
 -- A run in the middle of its list: what is left to do comes to what the whole list does.
 pub record Carrying (len : ℕ) (es : List Entry) (h : Held) (at left : ℕ) (h′ : Held) : Type 0 where
   pub same : onward left (drop at es) (progress len h′) ≡ carryAll es (progress len h)
+  pub index : at + onwardIndex left (drop at es) (progress len h′) ≡ stopIndex es (progress len h)
   pub kept : Kept len h h′
   pub goes : h′ .run .stop ≡ 0
   pub some : 0 < left

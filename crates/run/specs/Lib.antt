@@ -1,4 +1,5 @@
 pub mod TextRun
+pub mod StopPlaces
 pub mod Reached
 pub mod Held
 pub mod Carried

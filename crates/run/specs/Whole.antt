@@ -12,30 +12,33 @@ use Rattle.model.specs.Machine.{Memory}
 use Rattle.model.specs.SetUp.{setUp}
 use Rattle.tables.specs.declared.records.Records.{Records}
 use Rattle.notation.specs.declared.Entry.{Entry}
-use Rattle.notation.specs.Grammar.{largest, deepest}
+use Rattle.notation.specs.Grammar.{deepest}
 use Rattle.notation.specs.EntryWords.{largestPlace}
 use Rattle.notation.specs.Scan.{scan, between}
 use Rattle.notation.specs.FirstLine.{whole}
+use Rattle.notation.specs.Readers as R
 use Rattle.listing.specs.Lines.{endLine, refusedLine}
 use Rattle.run.specs.declared.state.Run.{Run}
 use Rattle.run.specs.declared.last_line.Whole.{Whole}
 use Rattle.run.specs.declared.text_run.First.{First}
 use Rattle.run.specs.TextRun.{Ended, ended, begun, started, carriedOut, mostEntries, roomNeeded}
+use Rattle.run.specs.StopPlaces.{startedPlace}
 use Rattle.run.specs.Held.{Filled, lastRoom}
 
 abbrev pub freshRun : Bench → Records → ℕ → Bool → Run
 freshRun b all k t = record { bench = b; all = all; written = 0; entries = 0; stop = k; traced = t }
 
-abbrev pub wholeOf : Run → ℕ → ℕ → Whole
-wholeOf r stored written = record { bench = r .bench; all = r .all; stored = stored; number = r .stop; entries = r .entries; written = written }
+abbrev pub wholeOf : Run → ℕ → ℕ → ℕ → Whole
+wholeOf r stored place written =
+    record { bench = r .bench; all = r .all; stored = stored; number = r .stop; entries = r .entries; written = written; place = place }
 
 -- the last line of a run
 abbrev pub lastOf : Run → List ℕ
 lastOf r = cond (eqb (r .stop) 0) (endLine (r .entries)) (refusedLine (r .stop) (r .entries))
 
 -- what a run comes to with its last line
-abbrev pub closed : Run → ℕ → List ℕ → Whole × List ℕ
-closed r stored list = (wholeOf r stored (r .written + length (lastOf r)), sets list (r .written) (lastOf r))
+abbrev pub closed : Run → ℕ → ℕ → List ℕ → Whole × List ℕ
+closed r stored place list = (wholeOf r stored place (r .written + length (lastOf r)), sets list (r .written) (lastOf r))
 
 -- there is room for the last line
 pub record Closable (r : Run) (list : List ℕ) : Type 0 where
@@ -69,8 +72,7 @@ pub record Lending (len : ℕ) (all : Records) (list : List ℕ) : Type 0 where
 
 -- the first line is read
 pub record Headed (s : List ℕ) (f : First) : Type 0 where
-  pub within : f .items ≤ length s
-  pub initial : f .initial ≤ largest
+  pub line : R.Headed s (f .n) (f .w) (f .initial) (f .items)
   pub placeable : length s ≤ largestPlace
 
 -- a run that is refused before its set-up: it comes to the same in both styles
@@ -80,6 +82,10 @@ refusedWith k m list = ended (begun false m list k)
 -- what is left once the items are read: the set-up and the entries
 abbrev pub startedWith : Bool → First → List Entry → Memory → List ℕ → Ended
 startedWith t f es m list = started t m list (record { n = f .n; w = f .w; initial = f .initial; entries = es }) (setUp m (f .n) (f .w) (replicate (f .w) (f .initial)))
+
+-- and the place of the item that stops it, where `ps` are the places of the entries
+abbrev pub placeWith : Bool → First → List Entry → List ℕ → Memory → List ℕ → ℕ
+placeWith t f es ps m list = startedPlace t list es ps (setUp m (f .n) (f .w) (replicate (f .w) (f .initial)))
 
 -- what is left of a text run once the first line is read
 abbrev pub saysAfter : Bool → List ℕ → First → Memory → List ℕ → Ended

@@ -13,6 +13,12 @@ use crate::turn;
 use model::ProcessNumber;
 use taken::Taken;
 
+// The run after its list, and its place in it: that of the entry that stopped the run, or the end.
+pub struct Carried {
+    pub run: Run,
+    pub at: usize,
+}
+
 // Bench and records are worked on where they stand in this function: passed to another and back, they would be copied for each entry. An entry
 // that is refused stops the run; `!` stays at its place in the list until its call answers.
 pub fn carry_out(
@@ -22,9 +28,9 @@ pub fn carry_out(
     count: usize,
     words: &mut [u64],
     list: &mut [u8],
-) -> Run
+) -> Carried
     requires { ⌜ (count ≤ length (now entries)) × (Sound len (held run (now words) (now list))) × (run .stop ≡ 0) ⌝ }
-    ensures { λ r. ⌜ Carries len (entriesIn count (now (entries .entry))) (held run (now (words .entry)) (now (list .entry))) (held r (now (words .exit)) (now (list .exit))) ⌝ }
+    ensures { λ r. ⌜ Carries len (entriesIn count (now (entries .entry))) (held run (now (words .entry)) (now (list .entry))) (held (r .run) (now (words .exit)) (now (list .exit))) (r .at) ⌝ }
 {
     let n = run.bench.n;
     let w = run.bench.w;
@@ -80,12 +86,13 @@ pub fn carry_out(
             break;
         }
     }
-    Run {
+    let run = Run {
         bench,
         all,
         written,
         entries: done,
         stop,
         traced,
-    }
+    };
+    Carried { run, at }
 }

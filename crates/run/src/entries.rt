@@ -4,7 +4,7 @@ ghost use lib.ListN.{replicate};
 ghost use Rattle.run.specs.TextRun.{processOf, orderOf, valueOf};
 ghost use Rattle.taken.specs.Ranges.{Lent};
 ghost use Rattle.steps.specs.Steps.{offered};
-ghost use Rattle.notation.specs.EntryWords.{entryIn};
+ghost use Rattle.notation.specs.EntryWords.{entryIn, placeIn};
 ghost use Rattle.run.specs.Carried.{placeOf, staysAt};
 use lines::points;
 use model::Order;
@@ -26,6 +26,13 @@ pub fn entry_in(word: u64) -> Entry
         3 => Entry::Step(p),
         _ => Entry::Finish(p),
     }
+}
+
+// The place of its item in the text.
+pub fn item_place(word: u64) -> usize
+    ensures { λ r. ⌜ r ≡ placeIn word ⌝ }
+{
+    (word / 1099511627776) as usize
 }
 
 // The record that is looked at for a process number.

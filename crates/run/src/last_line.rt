@@ -6,7 +6,7 @@ use model::Bench;
 use tables::records::Records;
 
 // What a text run leaves of the bench and the records, how many of the records may differ from before, and what it returns: its number, the
-// entries done and the listing bytes written.
+// entries done, the listing bytes written and the place in the text at which it stopped, 0 where it stopped at none.
 pub struct Whole {
     pub bench: Bench,
     pub all: Records,
@@ -14,6 +14,7 @@ pub struct Whole {
     pub number: u8,
     pub entries: usize,
     pub written: usize,
+    pub place: usize,
 }
 
 // A run before its first entry, or one that a refusal keeps from it.
@@ -31,8 +32,8 @@ pub fn fresh(bench: Bench, all: Records, number: u8, traced: bool) -> Run
 }
 
 // What a run returns that has written so many bytes; the first `stored` records are to be stored.
-pub fn returned(run: Run, stored: usize, written: usize) -> Whole
-    ensures { λ r. ⌜ r ≡ wholeOf run stored written ⌝ }
+pub fn returned(run: Run, stored: usize, place: usize, written: usize) -> Whole
+    ensures { λ r. ⌜ r ≡ wholeOf run stored place written ⌝ }
 {
     let bench = run.bench;
     let all = run.all;
@@ -43,20 +44,21 @@ pub fn returned(run: Run, stored: usize, written: usize) -> Whole
         number: run.stop,
         entries: run.entries,
         written,
+        place,
     }
 }
 
 // "The last line is `end E` or `refused C E`".
-pub fn ended(run: Run, stored: usize, list: &mut [u8]) -> Whole
+pub fn ended(run: Run, stored: usize, place: usize, list: &mut [u8]) -> Whole
     requires { ⌜ Closable run (now list) ⌝ }
-    ensures { λ r. ⌜ (r, now (list .exit)) ≡ closed run stored (now (list .entry)) ⌝ }
+    ensures { λ r. ⌜ (r, now (list .exit)) ≡ closed run stored place (now (list .entry)) ⌝ }
 {
     let entries = run.entries as u64;
     let stop = run.stop as u64;
     if stop == 0 {
         let next = listing::end_line(list, run.written, entries);
-        return returned(run, stored, next);
+        return returned(run, stored, place, next);
     }
     let next = listing::refused_line(list, run.written, stop, entries);
-    returned(run, stored, next)
+    returned(run, stored, place, next)
 }

@@ -1,14 +1,18 @@
 // A whole text run (01, "When the bench says no"): "A text run takes 14 at its start, then 12 for length, then 10 and 11 over the whole text,
 // then 1, 2, 3, then the set-up, then the entries".
 ghost use mathlib.Core.Path.{_≡_};
-ghost use Prim.Native.Nat.{_≤_};
-ghost use lib.ListN.{length, take};
+ghost use mathlib.Core.Bool.{true, false, cond};
+ghost use Prim.Native.Nat.{_≤_, _<_};
+ghost use lib.Dec.{eqb};
+ghost use lib.ListN.{length, getD, take};
 ghost use Rattle.model.specs.Records.{noProcess};
 ghost use Rattle.tables.specs.Gathered.{gathered};
 ghost use Rattle.run.specs.TextRun.{runWith, runText, traceText};
 ghost use Rattle.notation.specs.Grammar.{largest};
-ghost use Rattle.run.specs.Carried.{entriesIn};
-ghost use Rattle.run.specs.Whole.{memoryOf, fewOf, Others, Answers, Lending, Headed, startedWith, saysAfter, refusedWith};
+ghost use Rattle.notation.specs.EntryWords.{placeIn};
+ghost use Rattle.run.specs.StopPlaces.{PlaceInText, StopsAt};
+ghost use Rattle.run.specs.Carried.{entriesIn, placesIn};
+ghost use Rattle.run.specs.Whole.{memoryOf, fewOf, Others, Answers, Lending, Headed, startedWith, placeWith, saysAfter, refusedWith};
 use crate::carrying;
 use crate::entries;
 use crate::last_line;
@@ -30,20 +34,34 @@ pub struct First {
     pub items: usize,
 }
 
-// A run that is refused before its set-up, in either style.
+// A run that is refused before its set-up, in either style, at a place of its text or at 0.
 fn refused(
     bench: Bench,
     all: Records,
     len: usize,
     number: u8,
+    place: usize,
     words: &mut [u64],
     list: &mut [u8],
 ) -> Whole
     requires { ⌜ (Lending len all (now list)) × (number ≤ 15) ⌝ }
-    ensures { λ r. ⌜ Answers len all r (now (words .exit)) (now (list .exit)) (refusedWith number (memoryOf bench all len (now (words .entry))) (now (list .entry))) ⌝ }
+    ensures { λ r. ⌜
+        Answers len all r (now (words .exit)) (now (list .exit)) (refusedWith number (memoryOf bench all len (now (words .entry))) (now (list .entry))) ×
+        (r .place ≡ place) ⌝ }
 {
     let run = last_line::fresh(bench, all, number, false);
-    last_line::ended(run, 0, list)
+    last_line::ended(run, 0, place, list)
+}
+
+// The place of the item that stopped a run at a place of its list; 0 where none did.
+fn stop_place(stop: u8, entries: &[u64], at: usize) -> usize
+    requires { ⌜ ((stop ≡ 0 → ⊥) → at < length (now entries)) ⌝ }
+    ensures { λ r. ⌜ r ≡ cond (eqb stop 0) 0 (placeIn (getD (now (entries .entry)) at 0)) ⌝ }
+{
+    if stop == 0 {
+        return 0;
+    }
+    entries::item_place(entries[at])
 }
 
 // "then 1, 2, 3, then the set-up, then the entries": those of the list, up to `count`. The value is looked at only where W is in its range.
@@ -59,21 +77,27 @@ fn started(
     list: &mut [u8],
 ) -> Whole
     requires { ⌜ (Lending len all (now list)) × (first .initial ≤ largest) × (count ≤ length (now entries)) ⌝ }
-    ensures { λ r. ⌜ Answers len all r (now (words .exit)) (now (list .exit)) (startedWith traced first (entriesIn count (now (entries .entry))) (memoryOf bench all len (now (words .entry))) (now (list .entry))) ⌝ }
+    ensures { λ r. ⌜
+        Answers len all r (now (words .exit)) (now (list .exit))
+        (startedWith traced first (entriesIn count (now (entries .entry))) (memoryOf bench all len (now (words .entry))) (now (list .entry))) ×
+        (r .place ≡ placeWith traced first (entriesIn count (now (entries .entry))) (placesIn count (now (entries .entry)))
+        (memoryOf bench all len (now (words .entry))) (now (list .entry))) ⌝ }
 {
     let n = first.n as usize;
     let w = first.w as usize;
     let number = setup::set_up_number(n, w, len, words.len(), w);
     if number != 0 {
-        return refused(bench, all, len, number, words, list);
+        return refused(bench, all, len, number, 0, words, list);
     }
     let value = entries::repeated(first.initial);
     setup::words_at_set_up(words, n, w, &value[..w]);
     let begun = setup::bench_at_set_up(bench, n, w);
     let records = set_up::records_at_set_up(all, n);
     let run = last_line::fresh(begun, records, 0, traced);
-    let done = carrying::carry_out(run, len, entries, count, words, list);
-    last_line::ended(done, n, list)
+    let carried = carrying::carry_out(run, len, entries, count, words, list);
+    let done = carried.run;
+    let place = stop_place(done.stop, entries, carried.at);
+    last_line::ended(done, n, place, list)
 }
 
 // Room for the list of a text's entries: 60,000, and the one that is 12 whatever it says.
@@ -95,13 +119,24 @@ fn checked(
     list: &mut [u8],
 ) -> Whole
     requires { ⌜ (Lending len all (now list)) × (Headed (now text) first) ⌝ }
-    ensures { λ r. ⌜ Answers len all r (now (words .exit)) (now (list .exit)) (saysAfter traced (now (text .entry)) first (memoryOf bench all len (now (words .entry))) (now (list .entry))) ⌝ }
+    ensures { λ r. ⌜
+        Answers len all r (now (words .exit)) (now (list .exit))
+        (saysAfter traced (now (text .entry)) first (memoryOf bench all len (now (words .entry))) (now (list .entry))) ×
+        PlaceInText traced (memoryOf bench all len (now (words .entry))) (now (text .entry)) (now (list .entry)) (r .place) ⌝ }
 {
     let mut entries = empty_list();
     let read = items::read_items(text, first.items, limits::DEEPEST, &mut entries, 0);
     match read {
-        Items::Broken(k, _) => refused(bench, all, len, k, words, list),
-        Items::Closed(_, _) => refused(bench, all, len, limits::TEXT_BROKEN, words, list),
+        Items::Broken(k, place) => refused(bench, all, len, k, place, words, list),
+        Items::Closed(next, _) => refused(
+            bench,
+            all,
+            len,
+            limits::TEXT_BROKEN,
+            next - 1,
+            words,
+            list,
+        ),
         Items::Ended(count) => started(
             bench,
             all,
@@ -137,7 +172,12 @@ fn run_in_style(
     list: &mut [u8],
 ) -> Whole
     requires { ⌜ all ≡ gathered (take len (all .list)) noProcess 16 ⌝ }
-    ensures { λ r. ⌜ (record { number = r .number; entries = r .entries; written = r .written; memory = memoryOf (r .bench) (r .all) len (now (words .exit)); listing = now (list .exit) } ≡ runWith traced (memoryOf bench all len (now (words .entry))) (now (text .entry)) (now (list .entry))) × (r .all ≡ gathered (take len (r .all .list)) noProcess 16) × Others all r ⌝ }
+    ensures { λ r. ⌜
+        (record { number = r .number; entries = r .entries; written = r .written; memory = memoryOf (r .bench) (r .all) len (now (words .exit)); listing = now (list .exit) }
+        ≡ runWith traced (memoryOf bench all len (now (words .entry))) (now (text .entry)) (now (list .entry))) ×
+        (r .all ≡ gathered (take len (r .all .list)) noProcess 16) ×
+        Others all r ×
+        StopsAt traced (memoryOf bench all len (now (words .entry))) (now (text .entry)) (now (list .entry)) (r .place) ⌝ }
 {
     let lent = few(len);
     if list.len() < state::room_needed(traced) {
@@ -148,14 +188,23 @@ fn run_in_style(
             number: limits::NO_ROOM,
             entries: 0,
             written: 0,
+            place: 0,
         };
     }
     if limits::LONGEST_TEXT < text.len() {
-        return refused(bench, all, lent, limits::TOO_MUCH, words, list);
+        return refused(bench, all, lent, limits::TOO_MUCH, 0, words, list);
     }
     let header = notation::first_line(text);
     match header {
-        Header::NoFirst(_) => refused(bench, all, lent, limits::TEXT_BROKEN, words, list),
+        Header::NoFirst(place) => refused(
+            bench,
+            all,
+            lent,
+            limits::TEXT_BROKEN,
+            place,
+            words,
+            list,
+        ),
         Header::First(n, w, initial, items) => {
             let first = First {
                 n,
@@ -168,7 +217,8 @@ fn run_in_style(
     }
 }
 
-// The text run: the number of its refusal, 0 at `end`, the entries done, the listing bytes written, and all memory after it.
+// The text run: the number of its refusal, 0 at `end`, the entries done, the listing bytes written, the place in the text at which it
+// stopped, and all memory after it.
 // `all` holds the first sixteen of `len` lent records, with a filler where there are fewer.
 pub fn run_by_value(
     bench: Bench,
@@ -179,7 +229,12 @@ pub fn run_by_value(
     list: &mut [u8],
 ) -> Whole
     requires { ⌜ all ≡ gathered (take len (all .list)) noProcess 16 ⌝ }
-    ensures { λ r. ⌜ (record { number = r .number; entries = r .entries; written = r .written; memory = record { bench = r .bench; records = take len (r .all .list); words = now (words .exit) }; listing = now (list .exit) } ≡ runText (record { bench = bench; records = take len (all .list); words = now (words .entry) }) (now (text .entry)) (now (list .entry))) × (r .all ≡ gathered (take len (r .all .list)) noProcess 16) × Others all r ⌝ }
+    ensures { λ r. ⌜
+        (record { number = r .number; entries = r .entries; written = r .written; memory = memoryOf (r .bench) (r .all) len (now (words .exit)); listing = now (list .exit) }
+        ≡ runText (memoryOf bench all len (now (words .entry))) (now (text .entry)) (now (list .entry))) ×
+        (r .all ≡ gathered (take len (r .all .list)) noProcess 16) ×
+        Others all r ×
+        StopsAt false (memoryOf bench all len (now (words .entry))) (now (text .entry)) (now (list .entry)) (r .place) ⌝ }
 {
     run_in_style(bench, all, len, false, words, text, list)
 }
@@ -194,7 +249,12 @@ pub fn trace_by_value(
     list: &mut [u8],
 ) -> Whole
     requires { ⌜ all ≡ gathered (take len (all .list)) noProcess 16 ⌝ }
-    ensures { λ r. ⌜ (record { number = r .number; entries = r .entries; written = r .written; memory = memoryOf (r .bench) (r .all) len (now (words .exit)); listing = now (list .exit) } ≡ traceText (memoryOf bench all len (now (words .entry))) (now (text .entry)) (now (list .entry))) × (r .all ≡ gathered (take len (r .all .list)) noProcess 16) × Others all r ⌝ }
+    ensures { λ r. ⌜
+        (record { number = r .number; entries = r .entries; written = r .written; memory = memoryOf (r .bench) (r .all) len (now (words .exit)); listing = now (list .exit) }
+        ≡ traceText (memoryOf bench all len (now (words .entry))) (now (text .entry)) (now (list .entry))) ×
+        (r .all ≡ gathered (take len (r .all .list)) noProcess 16) ×
+        Others all r ×
+        StopsAt true (memoryOf bench all len (now (words .entry))) (now (text .entry)) (now (list .entry)) (r .place) ⌝ }
 {
     run_in_style(bench, all, len, true, words, text, list)
 }

@@ -58,8 +58,8 @@ use Rattle.model.specs.declared.Process.{Process}
 use Rattle.model.specs.Records.{noProcess}
 use Rattle.tables.specs.declared.records.Records.{Records}
 use Rattle.tables.specs.Gathered.{gathered}
-use Rattle.run.specs.declared.last_line.Whole.{Whole}
 use Rattle.run.specs.TextRun.{runText}
+use Rattle.bench.specs.declared.RunLeft.{RunLeft}
 use Rattle.bench.specs.declared.TextRun.{TextRun}
 use Rattle.bench.specs.Lent.{memory, recordsStored}
 use Rattle.bench.specs.Running.{left, Ran}
@@ -71,8 +71,8 @@ use Rattle.model.proofs.Process as P
 use Rattle.model.proofs.Process.Laws as P′
 use Rattle.tables.proofs.records.Records as L
 use Rattle.tables.proofs.records.Records.Laws as L′
-use Rattle.run.proofs.last_line.Whole as O
-use Rattle.run.proofs.last_line.Whole.Laws as O′
+use Rattle.bench.proofs.RunLeft as O
+use Rattle.bench.proofs.RunLeft.Laws as O′
 use Rattle.bench.proofs.TextRun as T
 use Rattle.bench.proofs.TextRun.Laws as T′
 use Rattle.tables.proofs.records.no_process as none
@@ -115,18 +115,18 @@ machP v = LL.val P.the-type P′.the-laws v
 abbrev machL : Records → Val
 machL v = LL.val L.the-type L′.the-laws v
 
-abbrev machO : Whole → Val
+abbrev machO : RunLeft → Val
 machO v = LL.val O.the-type O′.the-laws v
 
 abbrev machT : TextRun → Val
 machT v = LL.val T.the-type T′.the-laws v
 
 -- what is returned of the run by value
-abbrev told : Whole → TextRun
+abbrev told : RunLeft → TextRun
 told r = record { number = r .number; entries = r .entries; written = r .written }
 
 -- its parts as machine numbers
-record Small (r : Whole) : Type 0 where
+record Small (r : RunLeft) : Type 0 where
   stored-fits : r .stored < 2 ^ 64
   number-fits : r .number < 2 ^ 8
   entries-fits : r .entries < 2 ^ 64
@@ -191,7 +191,7 @@ module _ {M : Type 1} (𝓤 : URA M) (H : Heap 𝓤) (A : Atoms 𝓤) (W : Given
   a = gathered ys noProcess 16
 
   -- what the run by value says
-  abbrev RanTo : Whole → List ℕ → List ℕ → Type 0
+  abbrev RanTo : RunLeft → List ℕ → List ℕ → Type 0
   RanTo r vs ls = Ran h a (length ys) ws txt lst r vs ls
 
   abbrev Post : Val → SProp 𝓤
@@ -216,19 +216,19 @@ module _ {M : Type 1} (𝓤 : URA M) (H : Heap 𝓤) (A : Atoms 𝓤) (W : Given
   typedL : (v : Records) (w : Val) → Is L.the-row v (w ∷ []) → Holds (hasTy L′.mir w) × WT w
   typedL v w g = LL.lawful L.the-type L′.the-laws 𝓤 H A W .typed v _ g .0
 
-  typedO : (v : Whole) (w : Val) → Is O.the-row v (w ∷ []) → Holds (hasTy O′.mir w) × WT w
+  typedO : (v : RunLeft) (w : Val) → Is O.the-row v (w ∷ []) → Holds (hasTy O′.mir w) × WT w
   typedO v w g = LL.lawful O.the-type O′.the-laws 𝓤 H A W .typed v _ g .0
 
   typedT : (v : TextRun) → Is T.the-row v (machT v ∷ []) → Holds (hasTy T′.mir (machT v)) × WT (machT v)
   typedT v g = LL.lawful T.the-type T′.the-laws 𝓤 H A W .typed v _ g .0
 
   -- what the parts of the run by value are known to be, and what is returned of it
-  known : (r : Whole) (w : Val) → Is O.the-row r (w ∷ [])
+  known : (r : RunLeft) (w : Val) → Is O.the-row r (w ∷ [])
       → Is B.the-row (r .bench) (machB (r .bench) ∷ []) × (Is L.the-row (r .all) (machL (r .all) ∷ []) × Small r)
   known r w is = let fields = LL.owed O.the-type O′.the-laws r _ is in
       (fields .0, (fields .1 .0, record { stored-fits = fields .1 .1 .0 .1; number-fits = fields .1 .1 .1 .0 .1; entries-fits = fields .1 .1 .1 .1 .0 .1; written-fits = fields .1 .1 .1 .1 .1 .0 .1 }))
 
-  isT : (r : Whole) → Small r → Is T.the-row (told r) (machT (told r) ∷ [])
+  isT : (r : RunLeft) → Small r → Is T.the-row (told r) (machT (told r) ∷ [])
   isT r small = LL.owes T.the-type T′.the-laws (told r) ((refl, small .number-fits), ((refl, small .entries-fits), ((refl, small .written-fits), tt)))
 
   -- a value at the machine value that its type spells
@@ -283,10 +283,10 @@ module _ {M : Type 1} (𝓤 : URA M) (H : Heap 𝓤) (A : Atoms 𝓤) (W : Given
       owned ! L.the-row (Is L.the-row) (LL.makes L.the-type L′.the-plain 𝓤 H A) a _ gL $ fjoin ! $
       owned ! B.the-row (Is B.the-row) (LL.makes B.the-type B′.the-plain 𝓤 H A) h _ gB $ fjoin ! $ done !
 
-  abbrev to-store : Whole → StoreC 𝓤 H A at-mem run .Ghost
+  abbrev to-store : RunLeft → StoreC 𝓤 H A at-mem run .Ghost
   to-store r = (((κ₁, tt), (q₁, tt), tt, (rref γ₁, (r .all, (r .stored, tt))), (s₁ ∷ [], (machL (r .all) ∷ [], (vint w64 (r .stored) ∷ [], tt)))), tt)
 
-  goes-store : (r : Whole) → Is L.the-row (r .all) (machL (r .all) ∷ []) → r .stored < 2 ^ 64
+  goes-store : (r : RunLeft) → Is L.the-row (r .all) (machL (r .all) ∷ []) → r .stored < 2 ^ 64
       → ent 𝓤 (⋆ 𝓤 H A (‵ (fobs γ₁ (codedHoleys P.the-row .code (heres P.the-row ys))) ∷
       ‵ (fbor κ₁ (Held P.the-row (length ys) b₁ o₁ γ₁)) ∷ ‵ (flft κ₁ q₁) ∷ [])) (StoreC 𝓤 H A at-mem run .pre (to-store r))
   goes-store r g small =
@@ -299,16 +299,16 @@ module _ {M : Type 1} (𝓤 : URA M) (H : Heap 𝓤) (A : Atoms 𝓤) (W : Given
       move ! (2 ∷ 0 ∷ []) $ fjoin ! $ move ! (1 ∷ 0 ∷ []) $ join ! $ frame ! $ done !
 
   -- what is left of lent memory is what the contract says
-  ended : (r : Whole) (zs : List Process) (vs ls : List ℕ) → RanTo r vs ls → zs ≡ recordsStored ys (r .all .list) (r .stored)
+  ended : (r : RunLeft) (zs : List Process) (vs ls : List ℕ) → RanTo r vs ls → zs ≡ recordsStored ys (r .all .list) (r .stored)
       → left r zs vs ls ≡ runText (memory h ys ws) txt lst
   ended r zs vs ls e e₁ = ran-stored h ys ws txt lst r zs vs ls e e₁
 
-  abbrev Ends : Whole → List Process → List ℕ → List ℕ → List (Item 𝓤)
+  abbrev Ends : RunLeft → List Process → List ℕ → List ℕ → List (Item 𝓤)
   Ends r zs vs ls = ‵ (fobs γ₀ (B.the-row .coded .code (r .bench))) ∷ ‵ (fbor κ₀ (Body (mem B.the-row) b₀ o₀ γ₀)) ∷
       ‵ (flft κ₀ q₀) ∷ (‵ (flft κ₁ q₁) ⊛ ‵ ftrue) ∷ ‵ (finally P.the-row γ₁ zs) ∷ ‵ (flft κ₂ q₂) ∷ ‵ (finally u64 γ₂ vs) ∷
       ‵ (flft κ₃ q₃) ∷ OwnT ∷ ‵ (flft κ₄ q₄) ∷ ‵ (finally u8 γ₄ ls) ∷ []
 
-  exits : (r : Whole) (zs : List Process) (vs ls : List ℕ) → RanTo r vs ls → zs ≡ recordsStored ys (r .all .list) (r .stored)
+  exits : (r : RunLeft) (zs : List Process) (vs ls : List ℕ) → RanTo r vs ls → zs ≡ recordsStored ys (r .all .list) (r .stored)
       → length zs ≡ length ys → length vs ≡ length ws → length ls ≡ length lst → Small r
       → ent 𝓤 (⋆ 𝓤 H A (Ends r zs vs ls)) (Post (machT (told r)))
   exits r zs vs ls e e₁ l₁ l₂ l₄ small =
@@ -348,7 +348,7 @@ module _ {M : Type 1} (𝓤 : URA M) (H : Heap 𝓤) (A : Atoms 𝓤) (W : Given
       abbrev Rest : List (Item 𝓤)
       Rest = OwnW ∷ ‵ (flft κ₂ q₂) ∷ OwnT ∷ ‵ (flft κ₃ q₃) ∷ OwnL ∷ ‵ (flft κ₄ q₄) ∷ []
 
-      stage4 : (r : Whole) (vs ls : List ℕ) → RanTo r vs ls → length vs ≡ length ws → length ls ≡ length lst
+      stage4 : (r : RunLeft) (vs ls : List ℕ) → RanTo r vs ls → length vs ≡ length ws → length ls ≡ length lst
           → Is B.the-row (r .bench) (machB (r .bench) ∷ []) → Is L.the-row (r .all) (machL (r .all) ∷ []) → Small r
           → Sq W (Ctx (holds (machB h) ∷ holds (vint w64 (length ys)) ∷ holds (machP noProcess) ∷ holds (machL a) ∷
           holds (machO r) ∷ []) (Held₁ (‵ (flft κ₂ q₂) ∷ ‵ (finally u64 γ₂ vs) ∷ ‵ (flft κ₃ q₃) ∷ OwnT ∷ ‵ (flft κ₄ q₄) ∷
@@ -408,7 +408,7 @@ module _ {M : Type 1} (𝓤 : URA M) (H : Heap 𝓤) (A : Atoms 𝓤) (W : Given
           (and-then ! (local ! 28 refl) (and-then ! (local ! 22 refl)
           (and-then ! (local ! 26 refl) (and-then ! (local ! 12 refl)
           (and-then ! (local ! 32 refl) (and-then ! (local ! 8 refl) (no-more !))))))) (λ w.
-          use1 W (later (some (λ (r : Whole). ((‵ (flft κ₂ q₂) ⊛ ‵ (flft κ₃ q₃) ⊛ ‵ (flft κ₄ q₄) ⊛ ‵ ftrue) ⊛
+          use1 W (later (some (λ (r : RunLeft). ((‵ (flft κ₂ q₂) ⊛ ‵ (flft κ₃ q₃) ⊛ ‵ (flft κ₄ q₄) ⊛ ‵ ftrue) ⊛
           ‵ (O.the-row .own r (w ∷ []))) ⊛ raw (ensured 𝓤 H A gathered-run.ended (gathered-run.clauses 𝓤 H A at-mem run)
           (κ₂, (κ₃, (κ₄, tt))) (h, (a, (length ys, (wref, (tref, (lref, tt)))))) tt r)))) (id⊢ 𝓤 _) $ await ! tt $ pick ! (λ r.
           split ! $ move ! (1 ∷ []) $ use1 W (some (λ (zs : Unit {0}

@@ -76,8 +76,8 @@ bank-index-requires c κs =
     let f = sym (c .before .refusal .ensures) ∙ c .if1 .left in
     loop-sized x f
 
-cast-t44 : tie.Need-cast-t44 Inv-loop μ-loop
-cast-t44 c =
+cast-t45 : tie.Need-cast-t45 Inv-loop μ-loop
+cast-t45 c =
     let c3 = c .before .before .before in let c5 = c3 .before .before in let c6 = c5 .before in let c7 = c6 .before in let c9 = c7 .before .before in
     let c10 = c9 .before in
     let x = looking (c10 .loop .inv .0) (c9 .loop-test .taken) (c7 .entry-in .ensures) (c6 .process-of .ensures) (c5 .place-of .ensures) (c3 .order-of .ensures) in
@@ -98,32 +98,32 @@ cast-i c = search needs
 cast-j : tie.Need-cast-j Inv-loop μ-loop
 cast-j c = search needs
 
-mul-t43 : tie.Need-mul-t43 Inv-loop μ-loop
-mul-t43 c =
+mul-t44 : tie.Need-mul-t44 Inv-loop μ-loop
+mul-t44 c =
     let c3 = c .before .before .before in let c4 = c3 .before in let c5 = c4 .before in let c6 = c5 .before in let c7 = c6 .before in
     let c9 = c7 .before .before in let c10 = c9 .before in let c11 = c10 .before in let c13 = c11 .before .before in let c14 = c13 .before in
     let x = looking (c14 .loop .inv .0) (c13 .loop-test .taken) (c11 .entry-in .ensures) (c10 .process-of .ensures) (c9 .place-of .ensures) (c7 .order-of .ensures) in
     let f = sym (c6 .refusal .ensures) ∙ c5 .if1 .left in
     omega (arith, loop-bank x f (c4 .bank-index .ensures) (c3 .help-index .ensures))
 
-element-copy-out-t49 : tie.Need-element-copy-out-t49 Inv-loop μ-loop
-element-copy-out-t49 c =
+element-copy-out-t50 : tie.Need-element-copy-out-t50 Inv-loop μ-loop
+element-copy-out-t50 c =
     let c3 = c .before .before .before in let c4 = c3 .before in let c5 = c4 .before in let c6 = c5 .before in let c7 = c6 .before in
     let c9 = c7 .before .before in let c10 = c9 .before in let c11 = c10 .before in let c13 = c11 .before .before in let c14 = c13 .before in
     let x = looking (c14 .loop .inv .0) (c13 .loop-test .taken) (c11 .entry-in .ensures) (c10 .process-of .ensures) (c9 .place-of .ensures) (c7 .order-of .ensures) in
     let f = sym (c6 .refusal .ensures) ∙ c5 .if1 .left in
     omega (arith, loop-bank x f (c4 .bank-index .ensures) (c3 .help-index .ensures))
 
-mul-t37 : tie.Need-mul-t37 Inv-loop μ-loop
-mul-t37 c =
+mul-t38 : tie.Need-mul-t38 Inv-loop μ-loop
+mul-t38 c =
     let c4 = c .before .before .before .before in let c5 = c4 .before in let c6 = c5 .before in let c7 = c6 .before in let c8 = c7 .before in
     let c10 = c8 .before .before in let c11 = c10 .before in let c12 = c11 .before in let c14 = c12 .before .before in let c15 = c14 .before in
     let x = looking (c15 .loop .inv .0) (c14 .loop-test .taken) (c12 .entry-in .ensures) (c11 .process-of .ensures) (c10 .place-of .ensures) (c8 .order-of .ensures) in
     let f = sym (c7 .refusal .ensures) ∙ c6 .if1 .left in
     omega (arith, loop-help x f (c5 .bank-index .ensures) (c4 .help-index .ensures))
 
-element-copy-out-t52 : tie.Need-element-copy-out-t52 Inv-loop μ-loop
-element-copy-out-t52 c =
+element-copy-out-t53 : tie.Need-element-copy-out-t53 Inv-loop μ-loop
+element-copy-out-t53 c =
     let c4 = c .before .before .before .before in let c5 = c4 .before in let c6 = c5 .before in let c7 = c6 .before in let c8 = c7 .before in
     let c10 = c8 .before .before in let c11 = c10 .before in let c12 = c11 .before in let c14 = c12 .before .before in let c15 = c14 .before in
     let x = looking (c15 .loop .inv .0) (c14 .loop-test .taken) (c12 .entry-in .ensures) (c11 .process-of .ensures) (c10 .place-of .ensures) (c8 .order-of .ensures) in
@@ -328,14 +328,14 @@ carry-out-spec =
     sub-refusal
     refusal-requires
     bank-index-requires
-    cast-t44
+    cast-t45
     help-index-requires
     cast-i
     cast-j
-    mul-t43
-    element-copy-out-t49
-    mul-t37
-    element-copy-out-t52
+    mul-t44
+    element-copy-out-t50
+    mul-t38
+    element-copy-out-t53
     add-done
     carry-requires
     mul-bank

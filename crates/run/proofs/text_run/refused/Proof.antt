@@ -5,7 +5,7 @@ use native.Mathlib.Omega.{arith}
 use borrow.Author.Needs.{needs}
 use denote.Ref.{now}
 use Rattle.run.specs.Whole.{freshRun}
-use Rattle.run.proofs.RunLaws.{closed-answers}
+use Rattle.run.proofs.RunLaws.{closed-answers, closed-place}
 use Rattle.run.proofs.text_run.refused.Statement.{statement}
 use Rattle.run.proofs.text_run.refused.Tie as tie
 
@@ -24,7 +24,10 @@ same-length c = search needs
 returns : tie.Need-returns
 returns c =
     let c4 = c .before .before .before .before in let c7 = c4 .before .before .before in
-    closed-answers (freshRun (c7 .args .bench) (c7 .args .all) (c7 .args .number) false) (now (c7 .args .words)) (now (c7 .args .list)) (c7 .pre .0 .filled) (λ j l. refl) (rw (c4 .fresh .ensures) at (c .before .before .ended .ensures))
+    let a = c7 .args in
+    let run = freshRun (a .bench) (a .all) (a .number) false in
+    let out = rw (c4 .fresh .ensures) at (c .before .before .ended .ensures) in
+    (closed-answers run (now (a .words)) (now (a .list)) (c7 .pre .0 .filled) (λ j l. refl) out, closed-place run (now (a .list)) out)
 
 pub refused-spec : {M : Type 1} → statement M
 refused-spec = tie.close (tie.spec fresh-requires ended-requires same-length returns)

@@ -1,13 +1,16 @@
 -- `run::text_run::run_in_style`: 14, 12, the first line, and the rest.
 use mathlib.Core.Path.{refl, subst}
+use Prim.Native.Nat.{_≤_, _<_}
 use native.Mathlib.Omega.{arith}
 use borrow.Author.Needs.{needs}
 use denote.Ref.{now}
+use lib.ListN.{length}
 use Rattle.notation.specs.Readers.{HeaderSays}
-use Rattle.notation.proofs.HeaderLaws.{headed-within, headed-small}
 use Rattle.run.specs.declared.text_run.First.{First}
+use Rattle.run.specs.TextRun.{roomNeeded}
 use Rattle.run.specs.Whole.{memoryOf, refusedWith, saysAfter}
 use Rattle.run.proofs.RunLaws.{lending-few, run-14, run-12, run-not-headed, run-headed, answered, ended-as}
+use Rattle.run.proofs.StopLaws.{place-is, line-place, place-few, stops-14, stops-12, stops-looked}
 use Rattle.run.proofs.text_run.run_in_style.Statement.{statement}
 use Rattle.run.proofs.text_run.run_in_style.Tie as tie
 
@@ -22,7 +25,8 @@ returns c =
     let c6 = c .before .before .before .before .before .before in
     let a = c6 .args in
     let m = memoryOf (a .bench) (a .all) (a .len) (now (a .words)) in
-    (run-14 (a .traced) m (now (a .text)) (now (a .list)) (omega (arith, c .if1 .taken, c .before .room-needed .ensures)), c6 .pre, λ j l. refl)
+    let short : length (now (a .list)) < roomNeeded (a .traced) = omega (arith, c .if1 .taken, c .before .room-needed .ensures) in
+    (run-14 (a .traced) m (now (a .text)) (now (a .list)) short, c6 .pre, λ j l. refl, stops-14 short)
 
 refused-requires : tie.Need-refused-requires
 refused-requires c κs =
@@ -43,25 +47,26 @@ returns-2 c =
     let c10 = c9 .before in let c14 = c10 .before .before .before .before in
     let a = c14 .args in
     let m = memoryOf (a .bench) (a .all) (a .len) (now (a .words)) in
-    let all = answered (a .len) (a .bench) (a .all) (now (a .words)) (λ m. refusedWith 12 m (now (a .list))) (c10 .few .ensures) (c14 .pre) (c4 .refused .ensures) in
-    ended-as all (run-12 (a .traced) m (now (a .text)) (now (a .list)) (omega (arith, c8 .if1 .left, c9 .room-needed .ensures)) (c7 .if2 .taken))
+    let all = answered (a .len) (a .bench) (a .all) (now (a .words)) (λ m. refusedWith 12 m (now (a .list))) (c10 .few .ensures) (c14 .pre) (c4 .refused .ensures .0) in
+    let room : roomNeeded (a .traced) ≤ length (now (a .list)) = omega (arith, c8 .if1 .left, c9 .room-needed .ensures) in
+    ended-as all (run-12 (a .traced) m (now (a .text)) (now (a .list)) room (c7 .if2 .taken)) (stops-12 (c7 .if2 .taken) (c4 .refused .ensures .1))
 
 first-line-requires : tie.Need-first-line-requires
 first-line-requires c κs = search needs
 
-enum-told : tie.Need-enum-told
-enum-told c = search needs
+enum-known-header : tie.Need-enum-known-header
+enum-known-header c = search needs
 
 refused-requires-2 : tie.Need-refused-requires-2
 refused-requires-2 c κs =
-    let c6 = c .before .before .before .before .before .before in let c7 = c6 .before in let c8 = c7 .before in
-    let c12 = c8 .before .before .before .before in
-    let a = c12 .args in
-    let lent = lending-few {list = now (a .list)} (a .traced) (a .len) (c8 .few .ensures) (c12 .pre) (omega (arith, c6 .if1 .left, c7 .room-needed .ensures)) in
+    let c7 = c .before .before .before .before .before .before .before in let c8 = c7 .before in let c9 = c8 .before in
+    let c13 = c9 .before .before .before .before in
+    let a = c13 .args in
+    let lent = lending-few {list = now (a .list)} (a .traced) (a .len) (c9 .few .ensures) (c13 .pre) (omega (arith, c7 .if1 .left, c8 .room-needed .ensures)) in
     (lent, omega arith)
 
-enum-known-header : tie.Need-enum-known-header
-enum-known-header c = search needs
+enum-known-header-2 : tie.Need-enum-known-header-2
+enum-known-header-2 c = search needs
 
 checked-requires : tie.Need-checked-requires
 checked-requires c κs =
@@ -69,8 +74,8 @@ checked-requires c κs =
     let c9 = c8 .before in let c13 = c9 .before .before .before .before in
     let a = c13 .args in
     let lent = lending-few {list = now (a .list)} (a .traced) (a .len) (c9 .few .ensures) (c13 .pre) (omega (arith, c7 .if1 .left, c8 .room-needed .ensures)) in
-    let first = subst (HeaderSays _) (c3 .header .given .1) (c5 .first-line .ensures) in
-    (lent, record { within = headed-within first; initial = headed-small first .2; placeable = omega (arith, c6 .if2 .left) })
+    let first = subst (HeaderSays _) (c3 .header2 .given .1) (c5 .first-line .ensures) in
+    (lent, record { line = first; placeable = omega (arith, c6 .if2 .left) })
 
 same-length-3 : tie.Need-same-length-3
 same-length-3 c = search needs
@@ -80,13 +85,16 @@ same-length-4 c = search needs
 
 returns-3 : tie.Need-returns-3
 returns-3 c =
-    let c4 = c .before .before .before .before in let c7 = c4 .before .before .before in let c9 = c7 .before .before in let c10 = c9 .before in
-    let c11 = c10 .before in let c12 = c11 .before in let c13 = c12 .before in let c17 = c13 .before .before .before .before in
-    let a = c17 .args in
+    let c4 = c .before .before .before .before in let c8 = c4 .before .before .before .before in let c10 = c8 .before .before in
+    let c11 = c10 .before in let c12 = c11 .before in let c13 = c12 .before in let c14 = c13 .before in
+    let c18 = c14 .before .before .before .before in
+    let a = c18 .args in
     let m = memoryOf (a .bench) (a .all) (a .len) (now (a .words)) in
-    let all = answered (a .len) (a .bench) (a .all) (now (a .words)) (λ m. refusedWith 10 m (now (a .list))) (c13 .few .ensures) (c17 .pre) (c4 .refused2 .ensures) in
-    let first = subst (HeaderSays _) (c7 .enum-told .given .1) (c9 .first-line .ensures) in
-    ended-as all (run-not-headed (a .traced) m (now (a .text)) (now (a .list)) (omega (arith, c11 .if1 .left, c12 .room-needed .ensures)) (c10 .if2 .left) first)
+    let all = answered (a .len) (a .bench) (a .all) (now (a .words)) (λ m. refusedWith 10 m (now (a .list))) (c14 .few .ensures) (c18 .pre) (c4 .refused2 .ensures .0) in
+    let first = subst (HeaderSays _) (c8 .header .given .1) (c10 .first-line .ensures) in
+    let room : roomNeeded (a .traced) ≤ length (now (a .list)) = omega (arith, c12 .if1 .left, c13 .room-needed .ensures) in
+    let place = place-is (c4 .refused2 .ensures .1) (line-place first) in
+    ended-as all (run-not-headed (a .traced) m (now (a .text)) (now (a .list)) room (c11 .if2 .left) first) (stops-looked room (c11 .if2 .left) place)
 
 same-length-5 : tie.Need-same-length-5
 same-length-5 c = search needs
@@ -101,11 +109,13 @@ returns-4 c =
     let c18 = c14 .before .before .before .before in
     let a = c18 .args in
     let m = memoryOf (a .bench) (a .all) (a .len) (now (a .words)) in
-    let g = c8 .header .given .0 in
+    let g = c8 .header2 .given .0 in
     let f : First = record { n = g .0; w = g .1 .0; initial = g .1 .1 .0; items = g .1 .1 .1 .0 } in
-    let all = answered (a .len) (a .bench) (a .all) (now (a .words)) (λ m. saysAfter (a .traced) (now (a .text)) f m (now (a .list))) (c14 .few .ensures) (c18 .pre) (c4 .checked .ensures) in
-    let first = subst (HeaderSays _) (c8 .header .given .1) (c10 .first-line .ensures) in
-    ended-as all (run-headed (a .traced) m (now (a .text)) (now (a .list)) (omega (arith, c12 .if1 .left, c13 .room-needed .ensures)) f (c11 .if2 .left) first)
+    let all = answered (a .len) (a .bench) (a .all) (now (a .words)) (λ m. saysAfter (a .traced) (now (a .text)) f m (now (a .list))) (c14 .few .ensures) (c18 .pre) (c4 .checked .ensures .0) in
+    let first = subst (HeaderSays _) (c8 .header2 .given .1) (c10 .first-line .ensures) in
+    let room : roomNeeded (a .traced) ≤ length (now (a .list)) = omega (arith, c12 .if1 .left, c13 .room-needed .ensures) in
+    let place = place-few (a .len) (a .bench) (a .all) (now (a .words)) (c14 .few .ensures) (c18 .pre) (c4 .checked .ensures .1) in
+    ended-as all (run-headed (a .traced) m (now (a .text)) (now (a .list)) room f (c11 .if2 .left) first) (stops-looked room (c11 .if2 .left) place)
 
 pub run-in-style-spec : {M : Type 1} → statement M
 run-in-style-spec =
@@ -119,9 +129,9 @@ run-in-style-spec =
     same-length-2
     returns-2
     first-line-requires
-    enum-told
-    refused-requires-2
     enum-known-header
+    refused-requires-2
+    enum-known-header-2
     checked-requires
     same-length-3
     same-length-4

@@ -8,10 +8,11 @@ use lib.Seq.{length-sets}
 use Rattle.setup.specs.SetUpByValue.{Accepted}
 use Rattle.run.specs.declared.state.Run.{Run}
 use Rattle.run.specs.Held.{Sound}
-use Rattle.run.specs.Carried.{entriesIn}
+use Rattle.run.specs.Carried.{entriesIn, placesIn}
 use Rattle.run.proofs.WordLaws.{prefix-length}
 use Rattle.run.proofs.StartLaws.{number-small, accepted, begun-sound, first-held, others-left}
-use Rattle.run.proofs.RunLaws.{sound-closable, closed-answers, answers-as, refused-start, carried-start}
+use Rattle.run.proofs.RunLaws.{sound-closable, closed-answers, closed-place, answers-as, refused-start, carried-start}
+use Rattle.run.proofs.StopLaws.{stop-within, item-read, refused-place, begun-place}
 use borrow.Author.Needs.{needs}
 use Rattle.run.proofs.text_run.started.Statement.{statement}
 use Rattle.run.proofs.text_run.started.Tie as tie
@@ -37,7 +38,12 @@ returns c =
     let c4 = c .before .before .before .before in let c7 = c4 .before .before .before in let c8 = c7 .before in
     let c12 = c8 .before .before .before .before in
     let a = c12 .args in
-    answers-as (c4 .refused .ensures) (refused-start (a .traced) (a .first) (entriesIn (a .count) (now (a .entries))) (a .bench) (now (a .words)) (c12 .pre .0) (c8 .set-up-number .ensures) (c7 .if1 .taken))
+    let es = entriesIn (a .count) (now (a .entries)) in
+    let ps = placesIn (a .count) (now (a .entries)) in
+    let x = c4 .refused .ensures in (
+      answers-as (x .0) (refused-start (a .traced) (a .first) es (a .bench) (now (a .words)) (c12 .pre .0) (c8 .set-up-number .ensures) (c7 .if1 .taken)),
+      x .1 ∙ refused-place (a .traced) (a .first) es ps (a .bench) (now (a .words)) (c12 .pre .0) (c8 .set-up-number .ensures) (c7 .if1 .taken),
+    )
 
 repeated-requires : tie.Need-repeated-requires
 repeated-requires c κs = search needs
@@ -97,31 +103,45 @@ carry-out-requires c κs =
     (record { bank = simp length-map at (c16 .good .0 .1 .1 .1 .1 .1 .0 .1 .0 .1); help = simp length-map at (c16 .good .0 .1 .1 .1 .1 .1 .1 .0 .1 .0 .1) }) in
     (c16 .pre .2, subst (Sound _) (sym held) sound, ap (λ (r : Run). r .stop) (c .before .before .fresh .ensures))
 
+stop-place-requires : tie.Need-stop-place-requires
+stop-place-requires c κs =
+    let c5 = c .before .before .before .before .before in let c8 = c5 .before .before .before in
+    let c22 = c8 .before .before .before .before .before .before .before .before .before .before .before .before .before .before in
+    stop-within (now (c22 .args .entries)) (c22 .pre .2) (ap (λ (r : Run). r .stop) (c8 .fresh .ensures)) (c5 .carry-out .ensures)
+
 ended-requires : tie.Need-ended-requires
 ended-requires c κs =
-    let c5 = c .before .before .before .before .before in
-    sound-closable (c5 .carry-out .ensures .becomes .kept .sound)
+    let c7 = c .before .before .before .before .before .before .before in
+    sound-closable (c7 .carry-out .ensures .becomes .kept .sound)
 
 same-length-3 : tie.Need-same-length-3
 same-length-3 c =
-    let c8 = c .before .before .before .before .before .before .before .before in
-    let c16 = c8 .before .before .before .before .before .before .before .before in
-    c8 .carry-out .ensures .becomes .kept .words ∙ ap length (c16 .words-at-set-up .ensures) ∙ simp length-sets
+    let c10 = c .before .before .before .before .before .before .before .before .before .before in
+    let c18 = c10 .before .before .before .before .before .before .before .before in
+    c10 .carry-out .ensures .becomes .kept .words ∙ ap length (c18 .words-at-set-up .ensures) ∙ simp length-sets
 
 same-length-4 : tie.Need-same-length-4
 same-length-4 c = search needs
 
 returns-2 : tie.Need-returns-2
 returns-2 c =
-    let c8 = c .before .before .before .before .before .before .before .before in let c11 = c8 .before .before .before in let c12 = c11 .before in
-    let c13 = c12 .before in let c16 = c13 .before .before .before in let c19 = c16 .before .before .before in let c20 = c19 .before in
-    let c21 = c20 .before in let c25 = c21 .before .before .before .before in
-    let a = c25 .args in
-    let e = sym (c21 .set-up-number .ensures) ∙ c20 .if1 .left in
-    let held = first-held (a .traced) (a .bench) (now (a .words)) (c25 .pre .0) (a .first .n) (a .first .w) (a .first .initial) (c25 .pre .1) e
-    (c11 .fresh .ensures) (c13 .bench-at-set-up .ensures) (c12 .records-at-set-up .ensures) (c16 .words-at-set-up .ensures) (c19 .repeated .ensures) in
-    let made = carried-start (a .traced) (a .first) (entriesIn (a .count) (now (a .entries))) (a .bench) (now (a .words)) (c25 .pre .0) (c21 .set-up-number .ensures) (c25 .pre .1) (c20 .if1 .left) held (c8 .carry-out .ensures .becomes) in
-    answers-as (closed-answers (c8 .carry-out .result) _ _ (c8 .carry-out .ensures .becomes .kept .sound .filled) (others-left (a .traced) (a .bench) (now (a .words)) (c25 .pre .0) (a .first .n) (a .first .w) (a .first .initial) (c25 .pre .1) e held (c8 .carry-out .ensures)) (c .before .before .ended .ensures)) (made .same)
+    let c4 = c .before .before .before .before in let c10 = c4 .before .before .before .before .before .before in
+    let c13 = c10 .before .before .before in let c14 = c13 .before in let c15 = c14 .before in let c18 = c15 .before .before .before in
+    let c21 = c18 .before .before .before in let c22 = c21 .before in let c23 = c22 .before in let c27 = c23 .before .before .before .before in
+    let a = c27 .args in
+    let e = sym (c23 .set-up-number .ensures) ∙ c22 .if1 .left in
+    let held = first-held (a .traced) (a .bench) (now (a .words)) (c27 .pre .0) (a .first .n) (a .first .w) (a .first .initial) (c27 .pre .1) e
+    (c13 .fresh .ensures) (c15 .bench-at-set-up .ensures) (c14 .records-at-set-up .ensures) (c18 .words-at-set-up .ensures) (c21 .repeated .ensures) in
+    let es = entriesIn (a .count) (now (a .entries)) in
+    let ps = placesIn (a .count) (now (a .entries)) in
+    let out = c10 .carry-out .ensures in
+    let made = carried-start (a .traced) (a .first) es (a .bench) (now (a .words)) (c27 .pre .0) (c23 .set-up-number .ensures) (c27 .pre .1) (c22 .if1 .left) held (out .becomes) in
+    let others = others-left (a .traced) (a .bench) (now (a .words)) (c27 .pre .0) (a .first .n) (a .first .w) (a .first .initial) (c27 .pre .1) e held out in
+    let item = item-read (now (a .entries)) (c27 .pre .2) (ap (λ (r : Run). r .stop) (c13 .fresh .ensures)) out in
+    let begun = begun-place (a .traced) (a .first) es ps (a .bench) (now (a .words)) (c27 .pre .0) (c23 .set-up-number .ensures) (c27 .pre .1) (c22 .if1 .left) held in (
+      answers-as (closed-answers (c10 .carry-out .result .run) _ _ (c10 .carry-out .ensures .becomes .kept .sound .filled) others (c .before .before .ended .ensures)) (made .same),
+      closed-place (c10 .carry-out .result .run) _ (c .before .before .ended .ensures) ∙ c4 .stop-place .ensures ∙ item ∙ begun,
+    )
 
 pub started-spec : {M : Type 1} → statement M
 started-spec =
@@ -140,6 +160,7 @@ started-spec =
     records-at-set-up-requires
     fresh-requires
     carry-out-requires
+    stop-place-requires
     ended-requires
     same-length-3
     same-length-4
