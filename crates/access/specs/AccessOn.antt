@@ -1,5 +1,6 @@
 -- The access of a step, from the places that were taken out for it: X, one place of Bank and one of Help.
--- It is inner, what the code is held against; `Accesses.accessOf`, over the bench, is the one to believe, and `AccessLaws` proves them equal.
+-- Inner: the code is held against it. The one to believe is `Accesses.accessOf`, over the bench; `AccessLaws` proves
+-- them equal.
 use Prim.Native.Nat.{ℕ}
 use mathlib.Core.List.{List}
 use Rattle.model.specs.declared.ProcessNumber.{ProcessNumber}
@@ -13,8 +14,8 @@ use Rattle.access.specs.declared.Act.the-variants.{Read, Write, Ll, Sc}
 use Rattle.access.specs.declared.Access.{Access}
 use Rattle.access.specs.Accesses.{xAccess, bankAccess, helpAccess, vlOfX, noAccess, llOfX, llOfHelp, scOfHelp, readHalf, writeHalf}
 
--- Figure 2, point by point as in `accessOf`: p is the process that steps, n stands for N and w for W, t are the places taken out (`taken`'s
--- `takenFrom`), q is p's record, ws are the lent words.
+-- Figure 2, point by point as in `accessOf`: p is the process that steps, n stands for N and w for W, t are the places
+-- taken out (`taken`'s `takenFrom`), q is p's record, ws are the lent words.
 unfoldable pub accessOn : Point → ProcessNumber → ℕ → ℕ → Taken → Process → List ℕ → Access
 accessOn idle p n w t q ws = noAccess
 accessOn line1 p n w t q ws = helpAccess 1 p Write (record { flag = 1; buf = q .mybuf })

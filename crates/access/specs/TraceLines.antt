@@ -40,7 +40,8 @@ itemText (Bank i) = quoted " Bank" ++ bracketed (i .0)
 itemText (Help i) = quoted " Help" ++ bracketed (i .0)
 itemText (Half f k) = quoted " BUF" ++ (bracketed (f .0) ++ halfPlaceText k)
 
--- X holds a buffer and a sequence number, a place of Help a flag and a buffer number; a place of Bank and a half word one number
+-- X holds a buffer and a sequence number, a place of Help a flag and a buffer number; a place of Bank and a half word
+-- one number
 unfoldable pub valuesText : Item → ℕ → ℕ → List ℕ
 valuesText X first second = spaced first ++ spaced second
 valuesText (Bank i) first second = spaced first

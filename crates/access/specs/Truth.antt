@@ -25,7 +25,8 @@ pub record Holds (v u : ℕ) (h : Holding) : Type 0 where
   pub first : h .first ≡ v
   pub second : h .second ≡ u
 
--- What the act of p with the values v and u says of its item, which held `old` before the step and holds `new` after it.
+-- What the act of p with the values v and u says of its item, which held `old` before the step and holds `new` after
+-- it.
 abbrev pub Says : Act → ProcessNumber → ℕ → ℕ → Holding → Holding → Type 0
 -- the values read are those that the item holds, and it stays as it is
 Says Read p v u old new = Holds v u old × (new ≡ old)
@@ -40,7 +41,8 @@ Says (Sc false) p v u old new = (linked (old .links) p ≡ false) × (new ≡ ol
 -- the truth is p's link
 Says (Vl t) p v u old new = (linked (old .links) p ≡ t) × (new ≡ old)
 
--- The access a is what a step of p made of the bench and the words: its item is as it says, and every other is as before.
+-- The access a is what a step of p made of the bench and the words: its item is as it says, and every other is as
+-- before.
 pub record TellsTruth (p : ProcessNumber) (a : Access) (b : Bench) (ws : List ℕ) (b′ : Bench) (ws′ : List ℕ) : Type 0 where
   pub item : Says (a .act) p (a .first) (a .second) (itemAt (a .item) b ws) (itemAt (a .item) b′ ws′)
   pub others : (i : Item) → InBench b i → i ≢ a .item → itemAt i b′ ws′ ≡ itemAt i b ws

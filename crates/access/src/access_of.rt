@@ -29,7 +29,8 @@ pub fn no_access() -> Access
     }
 }
 
-// From the memory before the step: the places taken out for it and the words. An idle process and a line that is none are never stepped.
+// From the memory before the step: the places taken out for it and the words. An idle process and a line that is none
+// are never stepped.
 pub fn access_of(
     n: usize,
     w: usize,

@@ -28,8 +28,8 @@ pub enum Act {
     Vl(bool),
 }
 
-// An access: the line of Figure 2, the item, the act and the values read or written: two for X and a place of Help, one for a place of Bank
-// and a half word, none for a VL. A value that there is not is 0.
+// An access: the line of Figure 2, the item, the act and the values read or written: two for X and a place of Help, one
+// for a place of Bank and a half word, none for a VL. A value that there is not is 0.
 pub struct Access {
     pub line: u8,
     pub item: Item,

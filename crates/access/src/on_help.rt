@@ -1,4 +1,5 @@
-// The accesses to a place of Help: the own one, and at lines 14 and 15 that of the process that is helped. p is the process that steps.
+// The accesses to a place of Help: the own one, and at lines 14 and 15 that of the process that is helped. p is the
+// process that steps.
 ghost use mathlib.Core.Path.{_≡_};
 ghost use Prim.Native.Nat.{_<_};
 ghost use Rattle.model.specs.Tables.{helped};

@@ -16,10 +16,10 @@ use Rattle.model.specs.Records.{noProcess}
 use Rattle.tables.specs.declared.records.Records.{Records}
 use Rattle.tables.specs.Gathered.{gathered}
 use Rattle.tables.proofs.GatheredLaws.{gathered-length, gathered-at}
-use Rattle.run.specs.declared.last_line.Whole.{Whole}
+use Rattle.run.specs.declared.last_line.Finished.{Finished}
 use Rattle.run.specs.TextRun.{Ended, runText}
-use Rattle.run.specs.Whole.{fewOf, Others}
-use Rattle.run.proofs.RecordLaws.{few-small}
+use Rattle.run.specs.Finished.{atMostSixteen, Others}
+use Rattle.run.proofs.RecordLaws.{sixteen-most}
 use Rattle.run.proofs.TextFrame.{endedLonger, first-sixteen}
 use Rattle.run.specs.StopPlaces.{StopsAt}
 use Rattle.bench.specs.declared.RunLeft.{RunLeft}
@@ -121,15 +121,15 @@ ran-stored b rs ws text listing r zs vs ls ran stored =
     sixteen = ap (λ (a : Records). length (a .list)) (ran .again) ∙ gathered-length (take (length rs) (r .all .list)) noProcess 16
 
 -- no more than sixteen records are stored back
-pub at-most-sixteen : (b : Bench) (all : Records) (len : ℕ) (ws text list : List ℕ) (r : Whole) (k : ℕ) (ws′ list′ : List ℕ)
+pub at-most-sixteen : (b : Bench) (all : Records) (len : ℕ) (ws text list : List ℕ) (r : Finished) (k : ℕ) (ws′ list′ : List ℕ)
     → all ≡ gathered (take len (all .list)) noProcess 16
-    → k ≡ fewOf (r .stored)
+    → k ≡ atMostSixteen (r .stored)
     → (_≡_ {A = Ended} (record { number = r .number; entries = r .entries; written = r .written; memory = memory (r .bench) (take len (r .all .list)) ws′; listing = list′ })
-        (runText (memory b (take len (all .list)) ws) text list))
+    (runText (memory b (take len (all .list)) ws) text list))
     × (r .all ≡ gathered (take len (r .all .list)) noProcess 16) × Others all r × StopsAt false (memory b (take len (all .list)) ws) text list (r .place)
     → Ran b all len ws text list (record { bench = r .bench; all = r .all; stored = k; number = r .number; entries = r .entries; written = r .written }) ws′ list′
 at-most-sixteen b all len ws text list r k ws′ list′ q e x = record
-    { same = x .0; again = x .1; others = others; few = subst (λ (n : ℕ). n ≤ 16) (sym e) (few-small (r .stored)) }
+    { same = x .0; again = x .1; others = others; few = subst (λ (n : ℕ). n ≤ 16) (sym e) (sixteen-most (r .stored)) }
   where
     past : (l : Records) → l ≡ gathered (take len (l .list)) noProcess 16 → (j : ℕ) → 16 ≤ j → getD (l .list) j noProcess ≡ noProcess
     past l g j h = List·getD-eq-default (l .list) noProcess

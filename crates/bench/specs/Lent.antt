@@ -1,4 +1,7 @@
 -- Lent memory as the model sees it, and records set up or stored back one by one where they lie.
+-- Inner but for `memory`, one line, which the contracts of the entries cite.
+-- Inner: `SetUpLaws` and `TextLaws` prove that the records so written are those of `model`'s set-up and of the text
+-- run.
 use Prim.Native.Nat.{ℕ, zero, suc, _+_, _*_}
 use mathlib.Core.List.{List}
 use mathlib.Core.Bool.{cond}

@@ -1,4 +1,5 @@
 -- What a text run makes of lent memory, by way of the by-value run of crate run.
+-- Inner: its `same` is the equation with `runText`, and `TextLaws` proves it of what is stored back.
 use mathlib.Core.Path.{_≡_}
 use Prim.Native.Nat.{ℕ, _≤_}
 use mathlib.Core.List.{List}

@@ -1,4 +1,5 @@
 -- What the set-up makes of lent memory, by way of the by-value set-up of crate setup.
+-- Inner: `SetUpLaws` proves that this is `model`'s set-up.
 use Prim.Native.Nat.{ℕ}
 use mathlib.Core.List.{List}
 use lib.ListN.{length}

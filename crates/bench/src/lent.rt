@@ -1,9 +1,10 @@
-// Lent process records: one is read or replaced, sixteen are gathered, the first are set up or stored back. A place past the end reads as another record, and there nothing is stored.
+// Lent process records: one is read or replaced, sixteen are gathered, the first are set up or stored back. A place
+// past the end reads as another record, and there nothing is stored.
 ghost use mathlib.Core.Path.{_≡_};
 ghost use lib.ListN.{getD, set};
 ghost use Rattle.model.specs.Records.{noProcess};
 ghost use Rattle.tables.specs.Gathered.{gathered};
-ghost use Rattle.run.specs.Whole.{fewOf};
+ghost use Rattle.run.specs.Finished.{atMostSixteen};
 ghost use Rattle.bench.specs.Lent.{recordFor, recordsStored, recordsToWrite, recordsWritten};
 use model::Process;
 use model::ProcessNumber;
@@ -79,7 +80,7 @@ pub fn set_up_records(records: &mut [Process], n: usize, count: usize)
 
 // How many of sixteen records are stored back.
 pub fn at_most_sixteen(n: usize) -> usize
-    ensures { λ r. ⌜ r ≡ fewOf n ⌝ }
+    ensures { λ r. ⌜ r ≡ atMostSixteen n ⌝ }
 {
     if 16 < n {
         return 16;

@@ -1,4 +1,5 @@
-// The public entries of the bench: a set-up, a command and a text run over lent memory, and the view of a written value. None asks anything of the caller.
+// The public entries of the bench: a set-up, a command and a text run over lent memory, and the view of a written
+// value. None asks anything of the caller.
 ghost use mathlib.Core.Path.{_≡_};
 ghost use lib.ListN.{take};
 ghost use Rattle.model.specs.Records.{noProcess};
@@ -72,7 +73,8 @@ fn set_up_by_value(
     }
 }
 
-// A set-up for N = n and W = w with the given value, whatever the lent memory held. It answers the number of its refusal, 0 for none.
+// A set-up for N = n and W = w with the given value, whatever the lent memory held. It answers the number of its
+// refusal, 0 for none.
 // The answer and all lent memory after it are those of the model.
 // Wrong programs that this rules out: one that clears the words and then finds that too few records are lent;
 // one that sets up every record that is lent, and not the first N alone.
@@ -111,7 +113,8 @@ pub struct RunLeft {
     pub written: usize,
 }
 
-// The text run by value, but for the lent words and the listing, which it writes. There is no seventeenth record to store back.
+// The text run by value, but for the lent words and the listing, which it writes. There is no seventeenth record to
+// store back.
 fn run_gathered(
     bench: Bench,
     all: Records,
@@ -137,7 +140,8 @@ fn run_gathered(
     }
 }
 
-// A whole text run, on any text and any lent memory. What it returns, all lent memory and the listing after it are those of the model.
+// A whole text run, on any text and any lent memory. What it returns, all lent memory and the listing after it are
+// those of the model.
 // Wrong programs that this rules out: one that sets the bench up and then finds a fault further on in the text;
 // one that blanks the listing after its last line.
 pub fn run_text(
@@ -172,8 +176,8 @@ pub fn view_number(w: usize, value: &[u64], written: &[u64], k: usize) -> u8
     viewing::view_number(w, value, written, k)
 }
 
-// The words of success k, no copy: the set-up value for 0, else a part of the list; an empty part of the set-up value at
-// a refusal. What it returns begins where the model says, and has those words.
+// The words of success k, no copy: the set-up value for 0, else a part of the list; an empty part of the set-up value
+// at a refusal. What it returns begins where the model says, and has those words.
 // Wrong programs that this rules out: one that counts the successes in the list from 0, so that 1 shows the second;
 // one that gives an empty part of the list at a refusal, or another place that happens to hold the same words.
 pub fn view<'a>(w: usize, value: &'a [u64], written: &'a [u64], k: usize) -> &'a [u64]

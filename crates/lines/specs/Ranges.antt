@@ -1,4 +1,5 @@
 -- The ranges that the lines rely on.
+-- Inner: conditions of the code alone; the ranges of crate taken, which every accepted command meets, have them.
 use Prim.Native.Nat.{ℕ, _<_, _≤_}
 use Rattle.model.specs.declared.ProcessNumber.{ProcessNumber}
 use Rattle.model.specs.declared.Process.{Process}

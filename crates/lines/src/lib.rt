@@ -1,4 +1,5 @@
-// The lines of Figure 2, each over the one shared place that it touches and its own process record (01, "Commands and steps").
+// The lines of Figure 2, each over the one shared place that it touches and its own process record (01, "Commands and
+// steps").
 pub mod on_bank;
 pub mod on_help;
 pub mod on_words;

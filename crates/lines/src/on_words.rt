@@ -1,7 +1,8 @@
-// The lines of Figure 2 that move words, one half word to a step: what they make of their own process. `moves` is how many a run has.
+// The lines of Figure 2 that move words, one half word to a step: what they make of their own process. `moves` is how
+// many a run has.
 ghost use mathlib.Core.Path.{_≡_};
 ghost use Rattle.model.specs.Lines.{doLine11};
-ghost use Rattle.lines.specs.Numbered.{doWordNumber};
+ghost use Rattle.model.specs.Lines.{doWordThen};
 ghost use Rattle.lines.specs.Ranges.{Moving};
 use crate::records;
 use model::Process;
@@ -11,7 +12,7 @@ use model::WordStep;
 // Lines 3, 6, 7's copy and 17: another line follows the last move.
 pub fn do_word(moves: usize, line: u8, process: Process) -> WordStep
     requires { ⌜ Moving moves process ⌝ }
-    ensures { λ r. ⌜ r ≡ doWordNumber moves line process ⌝ }
+    ensures { λ r. ⌜ r ≡ doWordThen moves line process ⌝ }
 {
     let word = process.word;
     if word + 1 < moves {

@@ -4,7 +4,8 @@ ghost use mathlib.Core.Bool.{cond};
 ghost use Rattle.model.specs.Places.{linked};
 ghost use Rattle.model.specs.Records.{rest, withMybuf};
 ghost use Rattle.model.specs.Lines.{doLine7, doLine12Valid, doLine14Valid, doLine19, doLine23};
-ghost use Rattle.lines.specs.Numbered.{doLine2Number, toNumber};
+ghost use Rattle.model.specs.Records.{toLine};
+ghost use Rattle.model.specs.Lines.{doLine2Then};
 ghost use Rattle.lines.specs.Ranges.{Stepping, Sized};
 use crate::points;
 use crate::records;
@@ -19,7 +20,7 @@ use model::XStep;
 // Lines 2 and 5: x = LL(X). Line 3 or 6 follows.
 pub fn do_line_2(line: u8, p: ProcessNumber, x: XPlace, process: Process) -> XStep
     requires { ⌜ Stepping p process ⌝ }
-    ensures { λ r. ⌜ r ≡ doLine2Number line p x process ⌝ }
+    ensures { λ r. ⌜ r ≡ doLine2Then line p x process ⌝ }
 {
     let content = x.content;
     let place = places::ll_x(x, p);
@@ -35,7 +36,7 @@ pub fn do_line_2(line: u8, p: ProcessNumber, x: XPlace, process: Process) -> XSt
 // VL(X), after which one of two lines follows.
 fn valid(p: ProcessNumber, x: XPlace, process: Process, yes: u8, no: u8) -> Process
     requires { ⌜ Stepping p process ⌝ }
-    ensures { λ r. ⌜ r ≡ cond (linked (x .links) p) (toNumber yes process) (toNumber no process) ⌝ }
+    ensures { λ r. ⌜ r ≡ cond (linked (x .links) p) (toLine yes process) (toLine no process) ⌝ }
 {
     let links = x.links;
     if places::is_linked(links, p) {

@@ -1,5 +1,5 @@
-// The numbers that stand for the program points in a process record: Figure 2's own line numbers, and three more for the accesses that share
-// a line. Line 16 is done with 15, and 20 to 22 with 19.
+// The numbers that stand for the program points in a process record: Figure 2's own line numbers, and three more for
+// the accesses that share a line. Line 16 is done with 15, and 20 to 22 with 19.
 pub const IDLE: u8 = 0;
 
 pub const LINE_1: u8 = 1;

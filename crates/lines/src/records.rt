@@ -2,7 +2,7 @@
 ghost use mathlib.Core.Path.{_≡_};
 ghost use Prim.Native.Nat.{_+_, _<_};
 ghost use Rattle.model.specs.Records.{rest, nextWord, firstWord, marked, withX, withMybuf, withB, withC, withD, withE};
-ghost use Rattle.lines.specs.Numbered.{toNumber, beginNumber};
+ghost use Rattle.model.specs.Records.{toLine, beginLine};
 use crate::points::IDLE;
 use model::BufferNumber;
 use model::Process;
@@ -11,7 +11,7 @@ use model::XContent;
 // A step adds 1 to the count.
 fn counted(process: Process) -> Process
     requires { ⌜ process .count < 4294967296 ⌝ }
-    ensures { λ r. ⌜ r ≡ toNumber (process .line) process ⌝ }
+    ensures { λ r. ⌜ r ≡ toLine (process .line) process ⌝ }
 {
     let count = process.count;
     let mut next = process;
@@ -22,7 +22,7 @@ fn counted(process: Process) -> Process
 // A step that goes on at another line.
 pub fn to(line: u8, process: Process) -> Process
     requires { ⌜ process .count < 4294967296 ⌝ }
-    ensures { λ r. ⌜ r ≡ toNumber line process ⌝ }
+    ensures { λ r. ⌜ r ≡ toLine line process ⌝ }
 {
     let mut next = counted(process);
     next.line = line;
@@ -41,7 +41,7 @@ pub fn rested(process: Process) -> Process
 
 // A start at a call's first line: 1, 12 or 23.
 pub fn begun(line: u8, process: Process) -> Process
-    ensures { λ r. ⌜ r ≡ beginNumber line process ⌝ }
+    ensures { λ r. ⌜ r ≡ beginLine line process ⌝ }
 {
     let mut next = process;
     next.line = line;

@@ -5,6 +5,7 @@ ghost use Rattle.model.specs.Tables.{next, helped};
 ghost use Rattle.lines.specs.Ranges.{Sized};
 use model::ProcessNumber;
 use model::SequenceNumber;
+use model::sizes;
 
 // A rest that fits the one-byte kinds.
 fn modulo(i: usize, m: usize) -> u8
@@ -20,7 +21,7 @@ pub fn following(n: usize, s: SequenceNumber) -> SequenceNumber
     ensures { λ r. ⌜ r ≡ next n s ⌝ }
 {
     let i = s.0 as usize;
-    SequenceNumber(modulo(i + 1, 2 * n))
+    SequenceNumber(modulo(i + 1, sizes::sequence_numbers(n)))
 }
 
 // s mod N of lines 14 and 15: whom the process helps.

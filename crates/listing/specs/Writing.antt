@@ -1,4 +1,5 @@
 -- Bytes written into lent bytes from a place on.
+-- Inner: what is written are the bytes of `Lines`; the text run has the room that this asks for (`Theorems`).
 use Prim.Native.Nat.{ℕ, _+_, _≤_}
 use mathlib.Core.Path.{_≡_}
 use mathlib.Core.List.{List}

@@ -1,4 +1,5 @@
-// The lines of a listing, written into lent bytes from a place on. All functions are inner: the text run is made of them.
+// The lines of a listing, written into lent bytes from a place on. All functions are inner: the text run is made of
+// them.
 ghost use mathlib.Core.Path.{_≡_};
 ghost use mathlib.Core.List.{[], _∷_};
 ghost use mathlib.Core.Bool.{Bool};

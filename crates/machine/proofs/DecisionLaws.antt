@@ -49,7 +49,7 @@ module _ (b : Bench) (rs : List Process) (ws : List ℕ) (p : ℕ) (o : Order) (
   same-range h k = ap (λ (l : List Process). benchOk b && every (processOk (b .n) (b .w)) l) (gathered-take rs (b .n) h k)
 
   abbrev calls : Process → ℕ
-  calls q = cond (row8 o (b .w) v .holds) 8 (cond (row5 o q .holds) 5 (cond (row6 o q .holds) 6 (cond (row7 o q .holds) 7 0)))
+  calls q = cond (row8 o (b .w) (length v) .holds) 8 (cond (row5 o q .holds) 5 (cond (row6 o q .holds) 6 (cond (row7 o q .holds) 7 0)))
 
   abbrev from-9 : Bool → Process → ℕ
   from-9 t q = cond (not t) 9 (cond (row4 (b .n) p .holds) 4 (calls q))
@@ -57,7 +57,7 @@ module _ (b : Bench) (rs : List Process) (ws : List ℕ) (p : ℕ) (o : Order) (
   same-number : number ≡ refusal m p o v
   unfolding decisionNumber refusal
   same-number =
-      later (row1 (b .n) .holds) (row2 (b .w) .holds) (row3 (b .n) (b .w) rs ws .holds)
+      later (row1 (b .n) .holds) (row2 (b .w) .holds) (row3 (b .n) (b .w) (length rs) (length ws) .holds)
       (from-9 (inRange (record { bench = b; records = list; words = [] })) (getD list p noProcess))
       (from-9 (inRange m) (getD rs p noProcess))
       (λ e f.

@@ -1,4 +1,5 @@
 -- The command by value: `list` is the lent records with a filler after them, `len` how many were lent.
+-- Inner: `DecisionLaws` proves that this, stored back, is `model`'s command.
 use Prim.Native.Nat.{ℕ}
 use mathlib.Core.List.{List}
 use mathlib.Core.Bool.{cond}

@@ -14,7 +14,8 @@ use steps::orders;
 use tables::records;
 use tables::records::Records;
 
-// What a command comes to. The caller stores `process` at place `at`; a refusal names the place after the last record, where a store does nothing.
+// What a command comes to. The caller stores `process` at place `at`; a refusal names the place after the last record,
+// where a store does nothing.
 pub struct Outcome {
     pub bench: Bench,
     pub at: usize,

@@ -1,4 +1,5 @@
--- Histories: the answered calls and the open calls of a list of commands, computed from the commands and what the replies say, and from nothing else.
+-- Histories: the answered calls and the open calls of a list of commands, computed from the commands and what the
+-- replies say, and from nothing else.
 use Prim.Native.Nat.{ℕ, _+_}
 use mathlib.Core.List.{List, [], _∷_, _++_}
 use mathlib.Core.Bool.{Bool}
@@ -33,7 +34,8 @@ pub data Slot : Type 0 where
   none : Slot
   running : Kind → ℕ → ℕ → Slot
 
--- an answered call: its process, kind, the numbers of its start and of its answering step, its own steps, its answer, and the count that the reply brought
+-- an answered call: its process, kind, the numbers of its start and of its answering step, its own steps, its answer,
+-- and the count that the reply brought
 pub record Call : Type 0 where
   pub process : ℕ
   pub kind : Kind
@@ -48,7 +50,8 @@ abbrev pub stepped : Slot → Slot
 stepped none = none
 stepped (running kind start steps) = running kind start (steps + 1)
 
--- "A call runs from its accepted start": what an accepted order with no answer makes of its process's slot; k is the command's number
+-- "A call runs from its accepted start": what an accepted order with no answer makes of its process's slot; k is the
+-- command's number
 abbrev pub ordered : Order → ℕ → List ℕ → Slot → Slot
 ordered StartLl k value s = running ll k 0
 ordered StartSc k value s = running (sc value) k 0
@@ -61,7 +64,8 @@ slotAfter k c (refused n) s = s
 slotAfter k c accepted s = ordered (c .order) k (c .value) s
 slotAfter k c (answered a n) s = none
 
--- the call that the answer a ends, at command number k with count n. (An answer where no call is open would be a call that starts where it ends: no moment is after the one and not after the other.)
+-- the call that the answer a ends, at command number k with count n. (An answer where no call is open would be a call
+-- that starts where it ends: no moment is after the one and not after the other.)
 abbrev pub ended : ℕ → ℕ → Answer → ℕ → Slot → Call
 ended p k a n none = record { process = p; kind = ll; start = k; end = k; steps = 1; answer = a; count = n }
 ended p k a n (running kind start steps) = record { process = p; kind = kind; start = start; end = k; steps = steps + 1; answer = a; count = n }

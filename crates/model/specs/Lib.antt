@@ -1,6 +1,6 @@
+pub mod Sizes
 pub mod Places
 pub mod Tables
-pub mod Sizes
 pub mod Words
 pub mod Points
 pub mod Records

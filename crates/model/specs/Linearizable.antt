@@ -61,7 +61,8 @@ abbrev pub Distinct : List ℕ → Type 0
 Distinct [] = Unit {0}
 Distinct (m ∷ ms) = All (λ k. m ≡ k → ⊥) ms × Distinct ms
 
--- "with the list's k-th command .. at place k times M": after the place of its start, and not after the place of its answering step
+-- "with the list's k-th command .. at place k times M": after the place of its start, and not after the place of its
+-- answering step
 pub record Inside (places : ℕ) (t : Timed) : Type 0 where
   pub after-start : t .call .start * places < t .moment
   pub by-answer : t .moment ≤ t .call .end * places
@@ -69,8 +70,8 @@ pub record Inside (places : ℕ) (t : Timed) : Type 0 where
 abbrev pub fed : Timed → Fed
 fed t = record { process = t .call .process; kind = t .call .kind }
 
--- Moments for the answered calls, places being `places` to a command: all different, each inside its call, and in their order
--- Figure 1's object, begun with the set-up value, gives each call its answer.
+-- Moments for the answered calls, places being `places` to a command: all different, each inside its call, and in their
+-- order Figure 1's object, begun with the set-up value, gives each call its answer.
 pub record Linearization (places : ℕ) (value : List ℕ) (cs : List Call) : Type 0 where
   pub timed : List Timed
   pub same-calls : map (λ (t : Timed). t .call) timed ≡ cs

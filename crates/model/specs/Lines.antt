@@ -1,4 +1,5 @@
--- The lines of Figure 2. Each is a function of the one shared place that it touches and of its own process, and of nothing else.
+-- The lines of Figure 2. Each is a function of the one shared place that it touches and of its own process, and of
+-- nothing else.
 -- p is the process that steps, q its record.
 use Prim.Native.Nat.{ℕ, _+_}
 use mathlib.Core.Bool.{Bool, true, false, cond}
@@ -16,18 +17,22 @@ use Rattle.model.specs.declared.HelpStep.{HelpStep}
 use Rattle.model.specs.declared.WordStep.{WordStep}
 use Rattle.model.specs.Places.{linked, llX, scX, llBank, scBank, llHelp, scHelp, writeHelp}
 use Rattle.model.specs.Tables.{next}
-use Rattle.model.specs.Points.{Point, line2, line3, line4, line5, line6, line7, line7copy, line8, line9, line10, line11, line12valid, line13, line14, line14valid, line15, line17, line18, line19}
-use Rattle.model.specs.Records.{to, rest, nextWord, firstWord, marked, withX, withMybuf, withB, withC, withD, withE}
+use Rattle.model.specs.Points.{Point, lineNumber, line2, line3, line4, line5, line6, line7, line7copy, line8, line9, line10, line11, line12valid, line13, line14, line14valid, line15, line17, line18, line19}
+use Rattle.model.specs.Records.{toLine, to, rest, nextWord, firstWord, marked, withX, withMybuf, withB, withC, withD, withE}
 
 -- Line 1, on Help[p]: Help[p] = (1, mybuf).
 abbrev pub doLine1 : HelpPlace → Process → HelpStep
 doLine1 h q = record { place = writeHelp (record { flag = 1; buf = q .mybuf }); process = to line2 q }
 
--- Lines 2 and 5, on X: x = LL(X). y is the line that follows, 3 or 6.
-abbrev pub doLine2 : Point → ProcessNumber → XPlace → Process → XStep
-doLine2 y p x q = record { place = llX x p; process = to y (withX (x .content) q); reply = Accepted }
+-- Lines 2 and 5, on X: x = LL(X). The line that follows, 3 or 6, is given by its number, or as a point.
+abbrev pub doLine2Then : ℕ → ProcessNumber → XPlace → Process → XStep
+doLine2Then k p x q = record { place = llX x p; process = toLine k (withX (x .content) q); reply = Accepted }
 
--- Line 4, on Help[p]: if LL(Help[p]) = (0, b). "b, c and d are set only when the flag read is the one their line names."
+abbrev pub doLine2 : Point → ProcessNumber → XPlace → Process → XStep
+doLine2 y p x q = doLine2Then (lineNumber y) p x q
+
+-- Line 4, on Help[p]: if LL(Help[p]) = (0, b). "b, c and d are set only when the flag read is the one their line
+-- names."
 abbrev pub doLine4 : ProcessNumber → HelpPlace → Process → HelpStep
 doLine4 p h q = record { place = llHelp h p; process = cond (eqb (h .content .flag) 0) (to line5 (withB (h .content .buf) q)) (to line8 q) }
 
@@ -75,7 +80,8 @@ doLine15 p h q = record { place = scHelp h p (record { flag = 0; buf = q .mybuf 
 abbrev pub doLine18 : BankPlace → Process → BankStep
 doLine18 k q = record { place = k; process = to line19 (withE (k .content) q) }
 
--- Lines 19 to 22, on X: if SC(X, (mybuf, (x.seq + 1) mod 2N)) then mybuf = e and the answer is true, else it is false. n is N.
+-- Lines 19 to 22, on X: if SC(X, (mybuf, (x.seq + 1) mod 2N)) then mybuf = e and the answer is true, else it is false.
+-- n is N.
 abbrev pub doLine19 : ℕ → ProcessNumber → XPlace → Process → XStep
 doLine19 n p x q = record {
   place = scX x p (record { buf = q .mybuf; seq = next n (q .x .seq) });
@@ -87,10 +93,14 @@ doLine19 n p x q = record {
 abbrev pub doLine23 : ProcessNumber → XPlace → Process → XStep
 doLine23 p x q = record { place = x; process = rest q; reply = VlAnswered (linked (x .links) p) (q .count + 1) }
 
--- The lines that move words, one half word to a step: 3, 6, 7's copy and 17. "A run of .. word steps goes on from the word place it finds ..
--- and leaves it at 0 after its last word." y is the line that follows the last move, m is the moves of a run.
+-- The lines that move words, one half word to a step: 3, 6, 7's copy and 17. "A run of .. word steps goes on from the
+-- word place it finds .. and leaves it at 0 after its last word." y is the line that follows the last move, m is the
+-- moves of a run.
+abbrev pub doWordThen : ℕ → ℕ → Process → WordStep
+doWordThen m k q = record { process = cond (ltb (q .word + 1) m) (nextWord q) (toLine k (firstWord q)); reply = Accepted }
+
 abbrev pub doWord : ℕ → Point → Process → WordStep
-doWord m y q = record { process = cond (ltb (q .word + 1) m) (nextWord q) (to y (firstWord q)); reply = Accepted }
+doWord m y q = doWordThen m (lineNumber y) q
 
 -- Line 11: "The last word answers.", and leaves the mark that an LL was answered.
 abbrev pub doLine11 : ℕ → Process → WordStep

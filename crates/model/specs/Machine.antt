@@ -38,8 +38,9 @@ pub record Shaped (m : Memory) : Type 0 where
   pub bank : length (m .bench .bank) ≡ 32
   pub help : length (m .bench .help) ≡ 16
 
--- A step touches one shared item: X, Bank[i], Help[i] or one half word of a buffer. Each of these takes the item out, lets the line work on it
--- and on the own process, and puts it back; b is the bench, q the own record, ws the lent words.
+-- A step touches one shared item: X, Bank[i], Help[i] or one half word of a buffer. Each of these takes the item out,
+-- lets the line work on it and on the own process, and puts it back; b is the bench, q the own record, ws the lent
+-- words.
 abbrev pub onX : (XPlace → Process → XStep) → Bench → Process → List ℕ → Moved × List ℕ
 onX line b q ws = (record { bench = putX b (line (b .x) q .place); process = line (b .x) q .process; reply = line (b .x) q .reply }, ws)
 
@@ -83,8 +84,8 @@ stepAt line18 p b q ws = onBank (next (b .n) (q .x .seq)) doLine18 b q ws
 stepAt line19 p b q ws = onX (doLine19 (b .n) p) b q ws
 stepAt line23 p b q ws = onX (doLine23 p) b q ws
 
--- What an accepted order does to its process. "A start places the process at its first line, puts SC's words in the offer area,
--- sets the count to 0 and touches nothing shared."
+-- What an accepted order does to its process. "A start places the process at its first line, puts SC's words in the
+-- offer area, sets the count to 0 and touches nothing shared."
 unfoldable pub obey : Order → ProcessNumber → List ℕ → Bench → Process → List ℕ → Moved × List ℕ
 obey StartLl p value b q ws = (record { bench = b; process = begin line1 q; reply = Accepted }, ws)
 obey StartSc p value b q ws = (record { bench = b; process = begin line12 q; reply = Accepted }, sets ws (offerWord (b .n) (b .w) p 0) value)

@@ -29,13 +29,15 @@ tell p ll o = llWords (o .words)
 tell p (sc offered) o = scTruth (o .link p)
 tell p vl o = vlTruth (o .link p)
 
--- "LL .. sets p's link. SC by p, with p's link set, takes the fed words, clears all links ..; otherwise it .. changes nothing. VL .. changes nothing."
+-- "LL .. sets p's link. SC by p, with p's link set, takes the fed words, clears all links ..; otherwise it .. changes
+-- nothing. VL .. changes nothing."
 abbrev pub feed : ℕ → Kind → Object → Object
 feed p ll o = record { words = o .words; link = setAt p true (o .link) }
 feed p (sc offered) o = cond (o .link p) (record { words = offered; link = λ q. false }) o
 feed p vl o = o
 
--- what the object is fed of a call: "process, kind and, for SC, the words of its start. It sees no answer and nothing of the bench's memory."
+-- what the object is fed of a call: "process, kind and, for SC, the words of its start. It sees no answer and nothing
+-- of the bench's memory."
 pub record Fed : Type 0 where
   pub process : ℕ
   pub kind : Kind

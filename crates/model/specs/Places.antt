@@ -1,4 +1,5 @@
--- The shared places: X, each Bank[i] and each Help[i] is a single-word LL/SC object, a content and one link for each process (01, "Links").
+-- The shared places: X, each Bank[i] and each Help[i] is a single-word LL/SC object, a content and one link for each
+-- process (01, "Links").
 use Prim.Native.Nat.{ℕ, _+_, _/_, _%_, _^_}
 use mathlib.Core.Bool.{Bool, cond}
 use lib.Dec.{eqb}
@@ -28,7 +29,8 @@ link links p = cond (linked links p) links (links + 2 ^ p .0)
 abbrev pub llX : XPlace → ProcessNumber → XPlace
 llX x p = record { content = x .content; links = link (x .links) p }
 
--- "SC by p writes and clears all links of that place if p's link is set, else does nothing." It answers what VL would have told.
+-- "SC by p writes and clears all links of that place if p's link is set, else does nothing." It answers what VL would
+-- have told.
 abbrev pub scX : XPlace → ProcessNumber → XContent → XPlace
 scX x p v = cond (linked (x .links) p) (record { content = v; links = noLinks }) x
 

@@ -1,4 +1,5 @@
--- The program points of Figure 2, cut into single accesses as 01's "Commands and steps" says, and the numbers by which a process record names them.
+-- The program points of Figure 2, cut into single accesses as 01's "Commands and steps" says, and the numbers by which
+-- a process record names them.
 use Prim.Native.Nat.{ℕ}
 use mathlib.Core.List.{List, [], _∷_}
 use mathlib.Core.Bool.{cond}

@@ -17,17 +17,23 @@ noProcess = record { mybuf = record { 0 = 0 }; x = record { buf = record { 0 = 0
 abbrev pub recordAt : List Process → ProcessNumber → Process
 recordAt records p = getD records (p .0) noProcess
 
--- "A step makes one access and adds 1 to the count.": on to the point y
+-- "A step makes one access and adds 1 to the count.": on to the line of a number, or to the point y
+abbrev pub toLine : ℕ → Process → Process
+toLine k q = record { mybuf = q .mybuf; x = q .x; line = k; word = q .word; count = q .count + 1; answered = q .answered; b = q .b; c = q .c; d = q .d; e = q .e }
+
 abbrev pub to : Point → Process → Process
-to y q = record { mybuf = q .mybuf; x = q .x; line = lineNumber y; word = q .word; count = q .count + 1; answered = q .answered; b = q .b; c = q .c; d = q .d; e = q .e }
+to y q = toLine (lineNumber y) q
 
 -- "The answering step .. leaves the process idle with count 0."
 abbrev pub rest : Process → Process
 rest q = record { mybuf = q .mybuf; x = q .x; line = lineNumber idle; word = q .word; count = 0; answered = q .answered; b = q .b; c = q .c; d = q .d; e = q .e }
 
 -- "A start places the process at its first line .., sets the count to 0"
+abbrev pub beginLine : ℕ → Process → Process
+beginLine k q = record { mybuf = q .mybuf; x = q .x; line = k; word = q .word; count = 0; answered = q .answered; b = q .b; c = q .c; d = q .d; e = q .e }
+
 abbrev pub begin : Point → Process → Process
-begin y q = record { mybuf = q .mybuf; x = q .x; line = lineNumber y; word = q .word; count = 0; answered = q .answered; b = q .b; c = q .c; d = q .d; e = q .e }
+begin y q = beginLine (lineNumber y) q
 
 -- the next word of a run: the line stays
 abbrev pub nextWord : Process → Process

@@ -1,4 +1,5 @@
--- The refusal table (01, "When the bench says no"): its rows, and the first that holds, for a command, a set-up and a view.
+-- The refusal table (01, "When the bench says no"): its rows, and the first that holds, for a command, a set-up and a
+-- view.
 use Prim.Native.Nat.{ℕ, _+_, _*_, _/_, _%_, _^_}
 use mathlib.Core.List.{List, [], _∷_, map}
 use mathlib.Core.Bool.{Bool, true, false, not, _&&_, _||_, cond}
@@ -14,7 +15,7 @@ use Rattle.model.specs.declared.Bench.{Bench}
 use Rattle.model.specs.declared.Process.{Process}
 use Rattle.model.specs.declared.Order.{Order}
 use Rattle.model.specs.declared.Order.the-variants.{StartLl, StartSc, StartVl, Step}
-use Rattle.model.specs.Sizes.{halves, busyMost}
+use Rattle.model.specs.Sizes.{buffers, sequenceNumbers, halves, lentWords, busyMost}
 use Rattle.model.specs.Points.{Point, lineNumber, idle, busyPoints}
 use Rattle.model.specs.Records.{recordAt}
 use Rattle.model.specs.Machine.{Memory}
@@ -49,17 +50,17 @@ row1 n = record { number = 1; holds = not (between 1 16 n) }
 abbrev pub row2 : ℕ → Row
 row2 w = record { number = 2; holds = not (between 1 64 w) }
 
--- Row 3: "fewer than 5NW words or N process records lent"
-abbrev pub row3 : ℕ → ℕ → List Process → List ℕ → Row
-row3 n w records words = record { number = 3; holds = ltb (length words) (5 * n * w) || ltb (length records) n }
+-- Row 3: "fewer than 5NW words or N process records lent", for so many records and words
+abbrev pub row3 : ℕ → ℕ → ℕ → ℕ → Row
+row3 n w records words = record { number = 3; holds = ltb words (lentWords n w) || ltb records n }
 
 -- Row 9, "exactly, over what N needs". A number is in its range:
 -- "a buffer number not below 3N, a sequence number not below 2N"
 abbrev pub bufferOk : ℕ → BufferNumber → Bool
-bufferOk n b = ltb (b .0) (3 * n)
+bufferOk n b = ltb (b .0) (buffers n)
 
 abbrev pub sequenceOk : ℕ → SequenceNumber → Bool
-sequenceOk n s = ltb (s .0) (2 * n)
+sequenceOk n s = ltb (s .0) (sequenceNumbers n)
 
 abbrev pub xOk : ℕ → XContent → Bool
 xOk n x = bufferOk n (x .buf) && sequenceOk n (x .seq)
@@ -95,13 +96,13 @@ processOk n w q =
     (lineOk q && (ltb (q .word) (halves w) && countOk w q)))))))
 
 abbrev pub benchOk : Bench → Bool
-benchOk b = xPlaceOk (b .n) (b .x) && (every (bankPlaceOk (b .n)) (take (2 * b .n) (b .bank)) && every (helpPlaceOk (b .n)) (take (b .n) (b .help)))
+benchOk b = xPlaceOk (b .n) (b .x) && (every (bankPlaceOk (b .n)) (take (sequenceNumbers (b .n)) (b .bank)) && every (helpPlaceOk (b .n)) (take (b .n) (b .help)))
 
 unfoldable pub inRange : Memory → Bool
 inRange m = benchOk (m .bench) && every (processOk (m .bench .n) (m .bench .w)) (take (m .bench .n) (m .records))
 
-abbrev pub row9 : Memory → Row
-row9 m = record { number = 9; holds = not (inRange m) }
+abbrev pub row9 : Bool → Row
+row9 ranges = record { number = 9; holds = not ranges }
 
 -- Row 4: "process number not below N"
 abbrev pub row4 : ℕ → ℕ → Row
@@ -126,7 +127,8 @@ bringsValue StartSc = true
 bringsValue StartVl = false
 bringsValue Step = false
 
--- Row 5: "start at a busy process". Row 6: "step at an idle process". Row 7: "SC or VL started where no LL was ever answered".
+-- Row 5: "start at a busy process". Row 6: "step at an idle process". Row 7: "SC or VL started where no LL was ever
+-- answered".
 abbrev pub row5 : Order → Process → Row
 row5 o q = record { number = 5; holds = isStart o && not (isIdle q) }
 
@@ -137,30 +139,40 @@ abbrev pub row7 : Order → Process → Row
 row7 o q = record { number = 7; holds = needsLl o && not (q .answered) }
 
 -- Row 8: "value not of W words". A command's value is looked at only where it starts an SC.
-abbrev pub row8 : Order → ℕ → List ℕ → Row
-row8 o w value = record { number = 8; holds = bringsValue o && not (eqb (length value) w) }
+abbrev pub row8 : Order → ℕ → ℕ → Row
+row8 o w value = record { number = 8; holds = bringsValue o && not (eqb value w) }
 
-abbrev pub row8always : ℕ → List ℕ → Row
-row8always w value = record { number = 8; holds = not (eqb (length value) w) }
+abbrev pub row8always : ℕ → ℕ → Row
+row8always w value = record { number = 8; holds = not (eqb value w) }
 
--- Row 3 of a view: "the written list not a whole number of values". Row 15: "view of a success number above those written".
-abbrev pub row3view : ℕ → List ℕ → Row
-row3view w written = record { number = 3; holds = not (eqb (length written % w) 0) }
+-- Row 3 of a view: "the written list not a whole number of values". Row 15: "view of a success number above those
+-- written".
+abbrev pub row3view : ℕ → ℕ → Row
+row3view w written = record { number = 3; holds = not (eqb (written % w) 0) }
 
-abbrev pub row15 : ℕ → List ℕ → ℕ → Row
-row15 w written k = record { number = 15; holds = ltb (length written / w) k }
+abbrev pub row15 : ℕ → ℕ → ℕ → Row
+row15 w written k = record { number = 15; holds = ltb (written / w) k }
 
--- a command: 1, 2, 3, 9, 4, then 8 (operators mend the words first), then 5, 6, 7
+-- The rows of a command, 1, 2, 3, 9, 4, then 8 (operators mend the words first), then 5, 6, 7: the order is said here
+-- alone. First those that speak of its process p, with the record q, and of its order with a value of so many words;
+abbrev pub processRows : ℕ → ℕ → ℕ → Order → ℕ → Process → List Row
+processRows n w p o value q = row4 n p ∷ row8 o w value ∷ row5 o q ∷ row6 o q ∷ row7 o q ∷ []
+
+-- then all, for so many records and words lent, with the truth of row 9's ranges
+abbrev pub rowsOf : ℕ → ℕ → ℕ → ℕ → Bool → ℕ → Order → ℕ → Process → List Row
+rowsOf n w records words ranges p o value q = row1 n ∷ row2 w ∷ row3 n w records words ∷ row9 ranges ∷ processRows n w p o value q
+
 abbrev pub commandRows : Memory → ℕ → Order → List ℕ → List Row
 commandRows m p o value =
-    row1 (m .bench .n) ∷ row2 (m .bench .w) ∷ row3 (m .bench .n) (m .bench .w) (m .records) (m .words) ∷ row9 m ∷
-    row4 (m .bench .n) p ∷ row8 o (m .bench .w) value ∷ row5 o (recordAt (m .records) (record { 0 = p })) ∷
-    row6 o (recordAt (m .records) (record { 0 = p })) ∷ row7 o (recordAt (m .records) (record { 0 = p })) ∷ []
+    rowsOf (m .bench .n) (m .bench .w) (length (m .records)) (length (m .words)) (inRange m) p o (length value) (recordAt (m .records) (record { 0 = p }))
 
 -- "Set-up reads no old records and takes 1, 2, 3, 8."
+abbrev pub setUpRowsOf : ℕ → ℕ → ℕ → ℕ → ℕ → List Row
+setUpRowsOf n w records words value = row1 n ∷ row2 w ∷ row3 n w records words ∷ row8always w value ∷ []
+
 abbrev pub setUpRows : Memory → ℕ → ℕ → List ℕ → List Row
-setUpRows m n w value = row1 n ∷ row2 w ∷ row3 n w (m .records) (m .words) ∷ row8always w value ∷ []
+setUpRows m n w value = setUpRowsOf n w (length (m .records)) (length (m .words)) (length value)
 
 -- "A view takes 2, 3, 8, 15"
 abbrev pub viewRows : ℕ → List ℕ → List ℕ → ℕ → List Row
-viewRows w value written k = row2 w ∷ row3view w written ∷ row8always w value ∷ row15 w written k ∷ []
+viewRows w value written k = row2 w ∷ row3view w (length written) ∷ row8always w (length value) ∷ row15 w (length written) k ∷ []

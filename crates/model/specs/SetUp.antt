@@ -13,6 +13,7 @@ use Rattle.model.specs.declared.Bench.{Bench}
 use Rattle.model.specs.declared.Process.{Process}
 use Rattle.model.specs.Places.{noLinks}
 use Rattle.model.specs.Points.{lineNumber, idle}
+use Rattle.model.specs.Sizes.{sequenceNumbers, lentWords}
 use Rattle.model.specs.Machine.{Memory}
 use Rattle.model.specs.Refusals.{first, setUpRows}
 
@@ -42,15 +43,15 @@ abbrev pub emptyBench : Bench
 emptyBench = record { n = 0; w = 0; x = xAtSetUp; bank = replicate 32 (bankAtSetUp 0); help = replicate 16 helpAtSetUp }
 
 abbrev pub benchAtSetUp : Bench → ℕ → ℕ → Bench
-benchAtSetUp b n w = record { n = n; w = w; x = xAtSetUp; bank = sets (b .bank) 0 (map bankAtSetUp (numbers 0 (2 * n))); help = sets (b .help) 0 (replicate n helpAtSetUp) }
+benchAtSetUp b n w = record { n = n; w = w; x = xAtSetUp; bank = sets (b .bank) 0 (map bankAtSetUp (numbers 0 (sequenceNumbers n))); help = sets (b .help) 0 (replicate n helpAtSetUp) }
 
 -- "mybuf of p = 2N + p"
 abbrev pub recordsAtSetUp : List Process → ℕ → List Process
-recordsAtSetUp records n = sets records 0 (map processAtSetUp (numbers (2 * n) n))
+recordsAtSetUp records n = sets records 0 (map processAtSetUp (numbers (sequenceNumbers n) n))
 
 -- "BUF[0] = the given value; every other word 0"
 abbrev pub wordsAtSetUp : List ℕ → ℕ → ℕ → List ℕ → List ℕ
-wordsAtSetUp words n w value = sets words 0 (value ++ replicate (5 * n * w - w) 0)
+wordsAtSetUp words n w value = sets words 0 (value ++ replicate (lentWords n w - w) 0)
 
 abbrev pub atSetUp : Memory → ℕ → ℕ → List ℕ → Memory
 atSetUp m n w value = record { bench = benchAtSetUp (m .bench) n w; records = recordsAtSetUp (m .records) n; words = wordsAtSetUp (m .words) n w value }

@@ -1,5 +1,16 @@
--- The sizes that follow from W: a word goes over the bus in two halves.
+-- The sizes that follow from N and W, each said once.
 use Prim.Native.Nat.{ℕ, _+_, _*_}
+
+-- "BUF, 3N buffers", "Bank, 2N buffer numbers": buffer numbers are below 3N, sequence numbers below 2N
+abbrev pub buffers : ℕ → ℕ
+buffers n = 3 * n
+
+abbrev pub sequenceNumbers : ℕ → ℕ
+sequenceNumbers n = 2 * n
+
+-- "Words lent: 5 × N × W": the buffers, the return areas and the offer areas
+abbrev pub lentWords : ℕ → ℕ → ℕ
+lentWords n w = 5 * n * w
 
 -- the moves of a run of words, two for each word; a word place is below it
 abbrev pub halves : ℕ → ℕ

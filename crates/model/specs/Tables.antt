@@ -1,6 +1,7 @@
 -- The tables of the bench record, each reached by its own kind of number, and the arithmetic of sequence numbers.
 use Prim.Native.Nat.{ℕ, _+_, _*_, _%_}
 use lib.ListN.{getD, set}
+use Rattle.model.specs.Sizes.{sequenceNumbers}
 use Rattle.model.specs.declared.SequenceNumber.{SequenceNumber}
 use Rattle.model.specs.declared.ProcessNumber.{ProcessNumber}
 use Rattle.model.specs.declared.XPlace.{XPlace}
@@ -35,7 +36,7 @@ putHelp b i h = record { n = b .n; w = b .w; x = b .x; bank = b .bank; help = se
 
 -- lines 18 and 19: (seq + 1) mod 2N
 abbrev pub next : ℕ → SequenceNumber → SequenceNumber
-next n s = record { 0 = (s .0 + 1) % (2 * n) }
+next n s = record { 0 = (s .0 + 1) % sequenceNumbers n }
 
 -- lines 14 and 15: seq mod N, the process that is helped
 abbrev pub helped : ℕ → SequenceNumber → ProcessNumber

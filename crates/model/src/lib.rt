@@ -4,6 +4,8 @@ ghost use Rattle.model.specs.Refusals.{isStart};
 ghost use Rattle.model.specs.SetUp.{xAtSetUp, bankAtSetUp, helpAtSetUp, processAtSetUp, emptyBench};
 ghost use Rattle.model.specs.Replies.{numberOf};
 
+pub mod sizes;
+
 // A buffer's number, below 3N.
 pub struct BufferNumber(pub u8);
 
@@ -74,7 +76,8 @@ pub enum Order {
     Step,
 }
 
-// What a command answers: refused with its number; accepted, with no answer yet; or a call's answer with its count of own steps.
+// What a command answers: refused with its number; accepted, with no answer yet; or a call's answer with its count of
+// own steps.
 // The words of an LL's answer stand in the process's return area.
 pub enum Reply {
     Refused(u8),

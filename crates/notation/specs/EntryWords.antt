@@ -1,5 +1,7 @@
--- An entry kept as one number, for the list that the readers write and a run carries out. Inner: the meaning of a text does not speak of it.
--- From the low end: three bits for the kind, five for the process, 32 for the number after `s`, 24 for the place of its item in the text.
+-- An entry kept as one number, for the list that the readers write and a run carries out.
+-- Inner: the meaning of a text does not speak of it; `WordLaws` proves that what is kept is read again.
+-- From the low end: three bits for the kind, five for the process, 32 for the number after `s`, 24 for the place of its
+-- item in the text.
 use Prim.Native.Nat.{ℕ, _+_, _*_, _/_, _%_}
 use mathlib.Core.Bool.{cond}
 use lib.Dec.{eqb, leb}

@@ -1,4 +1,6 @@
 -- A whole text, a byte at a time: its first line, and then its items.
+-- Inner: `Theorems` proves that `read`, which the text run cites, says right exactly for `Grammar`'s texts, and what
+-- they say.
 use Prim.Native.Nat.{ℕ, zero, suc}
 use mathlib.Core.List.{List, [], _∷_}
 use mathlib.Core.Bool.{Bool, true, false, cond}

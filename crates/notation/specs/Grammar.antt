@@ -1,4 +1,5 @@
--- The notation of schedules, to be held against 01's "Schedule text and listing": which bytes a text has, and what they say.
+-- The notation of schedules, to be held against 01's "Schedule text and listing": which bytes a text has, and what they
+-- say.
 use Prim.Native.Nat.{ℕ, zero, suc, _+_, _*_, _≤_}
 use mathlib.Core.Path.{_≡_}
 use mathlib.Core.List.{List, [], _∷_, _++_}
@@ -48,7 +49,8 @@ mutual
   pub data Items : ℕ → Type 0 where
     item : {d : ℕ} → Lead d → Item d → Items d
 
-  -- what stands before an item: gaps, "allowed before the first item"; or items, and then "one or more spaces or line feeds"
+  -- what stands before an item: gaps, "allowed before the first item"; or items, and then "one or more spaces or line
+  -- feeds"
   pub data Lead : ℕ → Type 0 where
     fresh : {d : ℕ} (g : List ℕ) → Gaps g → Lead d
     apart : {d : ℕ} → Items d → (c : ℕ) (g : List ℕ) → Byte c Gap → Gaps g → Lead d
@@ -137,7 +139,8 @@ pub record Said : Type 0 where
 unfoldable pub says : {d : ℕ} → Text d → Said
 says t = record { n = t .first .n; w = t .first .w; initial = t .first .initial; entries = scheduleSays (t .schedule) }
 
--- Where they stand: for each entry, the place of the first byte of the item that says it, the text's first byte being at place 0.
+-- Where they stand: for each entry, the place of the first byte of the item that says it, the text's first byte being
+-- at place 0.
 -- The items of a group are in one place each, however often they are carried out.
 unfoldable mutual
   -- of an item that begins at `at`

@@ -1,4 +1,5 @@
 -- What the readers of items and of groups promise of the reading `scan`.
+-- Inner: `GroupLaws` carries it to the whole text, and `Theorems` has that the reading is `Grammar`'s.
 use Prim.Native.Nat.{ℕ, _-_, _≤_, _<_}
 use mathlib.Core.Path.{_≡_}
 use mathlib.Core.List.{List, [], _++_}

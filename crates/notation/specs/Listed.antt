@@ -1,5 +1,5 @@
 -- The list of a text's entries, kept as numbers in an array that the caller lends, and what its writers promise.
--- Inner, as EntryWords is.
+-- Inner: `ListedText` proves that the list has what the text says and where it stands, by `Grammar`.
 use Prim.Native.Nat.{ℕ, _+_, _-_, _*_, _≤_, _<_, min}
 use mathlib.Core.Path.{_≡_}
 use mathlib.Core.List.{List}

@@ -1,4 +1,5 @@
--- What the readers promise, in terms of the bytes: each fixes the reply (proofs/Replies). What the bytes are to the reading `scan` is said in Stretches and proved in ItemLaws and HeaderLaws.
+-- What the readers promise, in terms of the bytes: each fixes the reply (proofs/Replies).
+-- Inner: what the bytes are to the reading `scan` is said in Stretches and proved in ItemLaws and HeaderLaws.
 use Prim.Native.Nat.{ℕ, _+_, _*_, _≤_, _<_}
 use mathlib.Core.Path.{_≡_}
 use mathlib.Core.List.{List}

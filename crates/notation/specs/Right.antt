@@ -35,7 +35,8 @@ pub data Why (s : List ℕ) (at : ℕ) : ℕ → Type 0 where
   -- 01: "11 at a ninth open `(`": a `(` that only one more group inside the others would let stand
   deep : at < length s → Byte (getD s at 0) Open → Hopeless deepest (take (suc at) s) → Completable (suc deepest) (take (suc at) s) → Why s at 11
 
--- 01: "A fault 10 or 11 stands at the first byte (the text's end counts as one) after which no text of any length could be right"
+-- 01: "A fault 10 or 11 stands at the first byte (the text's end counts as one) after which no text of any length could
+-- be right"
 pub record Fault (s : List ℕ) (k : ℕ) : Type 0 where
   pub at : ℕ
   pub within : at ≤ length s

@@ -1,4 +1,5 @@
 -- The items of a text, a byte at a time: where a reading stands, what each byte does there, and what it all says.
+-- Inner: `Theorems` proves that the whole reading, FirstLine's `read`, and `Grammar` agree.
 use Prim.Native.Nat.{ℕ, zero, suc, _+_, _*_}
 use mathlib.Core.List.{List, [], _∷_, _++_}
 use mathlib.Core.Bool.{Bool, true, false, cond}
@@ -119,8 +120,8 @@ pub record Frame : Type 0 where
   pub before : List Entry
   pub room : ℕ
 
--- what a reading comes to: the text ends where items may end; or a `)` with no open group, with the text after it; or a fault, with the
--- number of bytes from its place on (01: "the text's end counts as one" byte: there none is left)
+-- what a reading comes to: the text ends where items may end; or a `)` with no open group, with the text after it; or a
+-- fault, with the number of bytes from its place on (01: "the text's end counts as one" byte: there none is left)
 pub data Verdict : Type 0 where
   end : List Entry → Verdict
   shut : List Entry → List ℕ → Verdict
@@ -147,7 +148,8 @@ go k l leave [] es room = shut es l
 go k l leave (f ∷ stack) es room = k done stack (f .before ++ times (f .count) es) (f .room)
 go k l bad stack es room = fault 10 (suc (length l))
 
--- the reading of a text from where it stands, with the open groups, the entries since the last one was opened, and how many more may be opened
+-- the reading of a text from where it stands, with the open groups, the entries since the last one was opened, and how
+-- many more may be opened
 unfoldable pub scan : List ℕ → Mode → List Frame → List Entry → ℕ → Verdict
 scan [] m stack es room = atEnd m stack es
 scan (b ∷ l) m stack es room = go (scan l) l (move m (kindOf b)) stack (es ++ said m (kindOf b)) room

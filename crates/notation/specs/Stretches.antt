@@ -1,4 +1,5 @@
 -- What stretches of a text are to the reading `scan`, and what places they have.
+-- Inner: steps between the readers' promises and the reading, which `Theorems` ties to `Grammar`.
 use Prim.Native.Nat.{ℕ, suc, _-_, _≤_, _<_}
 use mathlib.Core.Path.{_≡_}
 use mathlib.Core.List.{List, [], _∷_, _++_}

@@ -1,6 +1,7 @@
 // The reader of items and the reader of groups. Each checks what it reads and puts the entries into a list that the
 // caller lends; a group is read once and its entries are copied for each further turn. The remaining depth falls with
-// each group, the remaining text with each item. A text may have at most 16,777,215 bytes: 24 bits of a word keep a place.
+// each group, the remaining text with each item. A text may have at most 16,777,215 bytes: 24 bits of a word keep a
+// place.
 ghost use Prim.Native.Nat.{_≤_};
 ghost use lib.ListN.{length};
 ghost use Rattle.notation.specs.Listed.{Opened, Placeable, GroupSays, ItemsSay};
@@ -23,7 +24,8 @@ pub enum Done {
     Failed(u8, usize),
 }
 
-// Items end with the text, or with a `)` and the place after it, with their entries kept up to a place; or have a fault.
+// Items end with the text, or with a `)` and the place after it, with their entries kept up to a place; or have a
+// fault.
 pub enum Items {
     Ended(usize),
     Closed(usize, usize),

@@ -51,14 +51,16 @@ pub enum Header {
     NoFirst(usize),
 }
 
-// An item that is no group, or a group's count; and the place after it, or after the `(`. Or the place at which it breaks.
+// An item that is no group, or a group's count; and the place after it, or after the `(`. Or the place at which it
+// breaks.
 pub enum Start {
     Single(Entry, usize),
     Group(u64, usize),
     Wrong(usize),
 }
 
-// What follows an item: a next one and its place, a `)` and the place after it, the text's end, or a stray byte and its place.
+// What follows an item: a next one and its place, a `)` and the place after it, the text's end, or a stray byte and its
+// place.
 pub enum Follow {
     Item(usize),
     Shut(usize),

@@ -1,4 +1,5 @@
-// LL, SC, VL and the plain write on the shared places: Figure 1's single-word object, for X, Bank and Help (01, "Links").
+// LL, SC, VL and the plain write on the shared places: Figure 1's single-word object, for X, Bank and Help (01,
+// "Links").
 ghost use mathlib.Core.Path.{_≡_};
 ghost use Prim.Native.Nat.{_<_};
 ghost use Rattle.model.specs.Places.{linked, link, llX, scX, llBank, scBank, llHelp, scHelp, writeHelp};

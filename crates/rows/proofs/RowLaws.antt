@@ -12,8 +12,8 @@ use Rattle.model.specs.declared.Order.{Order}
 use Rattle.model.specs.Records.{recordAt}
 use Rattle.model.specs.Sizes.{halves, busyMost}
 use Rattle.model.specs.Refusals.{row1, row2, row4, row5, row6, row7, row9, inRange, processOk, bufferOk, sequenceOk, xOk, lineOk, countOk, isIdle, bringsValue}
-use Rattle.rows.specs.Lengths.{row3Lent, row8Lent}
-use Rattle.rows.specs.CommandRows.{decisionNumber, lateNumber, InOrder}
+use Rattle.model.specs.Refusals.{row3, row8}
+use Rattle.rows.specs.CommandRows.{rangesOk, decisionNumber, lateNumber, InOrder}
 use Rattle.laws.proofs.AndLaws.{left, right}
 
 -- a row that does not hold is passed, one that does answers
@@ -116,17 +116,17 @@ module _ (b : Bench) (list : List Process) (len p : ℕ) (o : Order) (value word
       let r7 : ℕ = cond (row7 o q .holds) 7 0 in
       let r6 : ℕ = cond (row6 o q .holds) 6 r7 in
       let r5 : ℕ = cond (row5 o q .holds) 5 r6 in
-      let r8 : ℕ = cond (row8Lent o (b .w) value .holds) 8 r5 in
+      let r8 : ℕ = cond (row8 o (b .w) value .holds) 8 r5 in
       let r4 : ℕ = cond (row4 (b .n) p .holds) 4 r8 in
-      let r9 : ℕ = cond (row9 (record { bench = b; records = list; words = [] }) .holds) 9 r4 in
-      let r3 : ℕ = cond (row3Lent (b .n) (b .w) len words .holds) 3 r9 in
+      let r9 : ℕ = cond (row9 (rangesOk b list) .holds) 9 r4 in
+      let r3 : ℕ = cond (row3 (b .n) (b .w) len words .holds) 3 r9 in
       let r2 : ℕ = cond (row2 (b .w) .holds) 2 r3 in
       let c1 = cleared (row1 (b .n) .holds) 0 r2 e in
       let c2 = cleared (row2 (b .w) .holds) 1 r3 (c1 .1) in
-      let c3 = cleared (row3Lent (b .n) (b .w) len words .holds) 2 r9 (c2 .1) in
-      let c9 = cleared (row9 (record { bench = b; records = list; words = [] }) .holds) 8 r4 (c3 .1) in
+      let c3 = cleared (row3 (b .n) (b .w) len words .holds) 2 r9 (c2 .1) in
+      let c9 = cleared (row9 (rangesOk b list) .holds) 8 r4 (c3 .1) in
       let c4 = cleared (row4 (b .n) p .holds) 3 r8 (c9 .1) in
-      let c8 = cleared (row8Lent o (b .w) value .holds) 7 r5 (c4 .1) in
+      let c8 = cleared (row8 o (b .w) value .holds) 7 r5 (c4 .1) in
       let few = neither (ltb words (5 * b .n * b .w)) (ltb len (b .n)) (c3 .0) in
       record {
         n-some = n-in (b .n) (c1 .0) .0;

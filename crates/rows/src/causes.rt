@@ -2,10 +2,11 @@
 ghost use mathlib.Core.Path.{_≡_};
 ghost use Prim.Native.Nat.{_≤_};
 ghost use Rattle.model.specs.Refusals.{row1, row2, row4, row5, row6, row7};
-ghost use Rattle.rows.specs.Lengths.{row3Lent, row8Lent};
+ghost use Rattle.model.specs.Refusals.{row3, row8};
 use lines::points;
 use model::Order;
 use model::Process;
+use model::sizes;
 
 pub const N_OUT_OF_RANGE: u8 = 1;
 
@@ -62,9 +63,9 @@ pub fn w_out_of_range(w: usize) -> bool
 // Row 3: fewer than 5NW words or N records.
 pub fn too_little_lent(n: usize, w: usize, records: usize, words: usize) -> bool
     requires { ⌜ (n ≤ 16) × (w ≤ 64) ⌝ }
-    ensures { λ r. ⌜ r ≡ row3Lent n w records words .holds ⌝ }
+    ensures { λ r. ⌜ r ≡ row3 n w records words .holds ⌝ }
 {
-    if words < 5 * n * w {
+    if words < sizes::lent_words(n, w) {
         return true;
     }
     records < n
@@ -112,7 +113,7 @@ pub fn never_linked(order: Order, process: Process) -> bool
 
 // Row 8. The value of a command is looked at only where it starts an SC.
 pub fn value_not_w_words(order: Order, w: usize, value: usize) -> bool
-    ensures { λ r. ⌜ r ≡ row8Lent order w value .holds ⌝ }
+    ensures { λ r. ⌜ r ≡ row8 order w value .holds ⌝ }
 {
     match order {
         Order::StartLl => false,

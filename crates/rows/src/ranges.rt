@@ -1,11 +1,12 @@
-// Row 9 of the refusal table: whether the numbers of the lent records are in their ranges, over what N needs (01, "When the bench says no").
+// Row 9 of the refusal table: whether the numbers of the lent records are in their ranges, over what N needs (01, "When
+// the bench says no").
 ghost use mathlib.Core.Path.{_≡_};
-ghost use Prim.Native.Nat.{_*_, _≤_};
+ghost use Prim.Native.Nat.{_≤_};
 ghost use mathlib.Core.Bool.{_&&_};
 ghost use mathlib.Core.List.{[]};
 ghost use lib.Dec.{ltb};
 ghost use lib.ListN.{take};
-ghost use Rattle.model.specs.Sizes.{halves};
+ghost use Rattle.model.specs.Sizes.{sequenceNumbers, halves};
 ghost use Rattle.model.specs.Refusals.{every, bufferOk, sequenceOk, xOk, linksOk, xPlaceOk, bankPlaceOk, helpPlaceOk, lineOk, countOk, processOk, benchOk, inRange};
 use lines::points;
 use model::BankPlace;
@@ -16,6 +17,7 @@ use model::Process;
 use model::SequenceNumber;
 use model::XContent;
 use model::XPlace;
+use model::sizes;
 use tables::records::Records;
 
 // A buffer number is below 3N.
@@ -23,7 +25,7 @@ pub fn buffer_ok(n: usize, b: BufferNumber) -> bool
     requires { ⌜ n ≤ 16 ⌝ }
     ensures { λ r. ⌜ r ≡ bufferOk n b ⌝ }
 {
-    (b.0 as usize) < 3 * n
+    (b.0 as usize) < sizes::buffers(n)
 }
 
 // A sequence number is below 2N.
@@ -31,7 +33,7 @@ pub fn sequence_ok(n: usize, s: SequenceNumber) -> bool
     requires { ⌜ n ≤ 16 ⌝ }
     ensures { λ r. ⌜ r ≡ sequenceOk n s ⌝ }
 {
-    (s.0 as usize) < 2 * n
+    (s.0 as usize) < sizes::sequence_numbers(n)
 }
 
 // What X holds.
@@ -124,7 +126,7 @@ pub fn count_ok(w: usize, process: Process) -> bool
     if process.line == points::IDLE {
         return count <= 0;
     }
-    count <= 8 * w + 6
+    count <= sizes::busy_most(w)
 }
 
 // The line, the word place and the count of a process.
@@ -136,7 +138,7 @@ fn progress_ok(w: usize, process: Process) -> bool
     if !line_ok(process) {
         return false;
     }
-    if word >= 2 * w {
+    if word >= sizes::halves(w) {
         return false;
     }
     count_ok(w, process)
@@ -171,11 +173,12 @@ pub fn process_ok(n: usize, w: usize, process: Process) -> bool
 // The places of Bank that N needs.
 fn banks_ok(bench: Bench) -> bool
     requires { ⌜ bench .n ≤ 16 ⌝ }
-    ensures { λ r. ⌜ r ≡ every (bankPlaceOk (bench .n)) (take (2 * bench .n) (bench .bank)) ⌝ }
+    ensures { λ r. ⌜ r ≡ every (bankPlaceOk (bench .n)) (take (sequenceNumbers (bench .n)) (bench .bank)) ⌝ }
 {
     let n = bench.n;
+    let places = sizes::sequence_numbers(n);
     let mut i = 0;
-    while i < 2 * n {
+    while i < places {
         let place = bench.bank[i];
         if !bank_place_ok(n, place) {
             return false;

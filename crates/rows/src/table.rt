@@ -3,7 +3,7 @@ ghost use mathlib.Core.Path.{_≡_};
 ghost use mathlib.Core.List.{[], _∷_};
 ghost use Prim.Native.Nat.{_≤_};
 ghost use Rattle.model.specs.Refusals.{first, row5, row6, row7};
-ghost use Rattle.rows.specs.Lengths.{row8Lent};
+ghost use Rattle.model.specs.Refusals.{row8};
 ghost use Rattle.rows.specs.CommandRows.{decisionNumber, lateNumber};
 use crate::causes;
 use crate::ranges;
@@ -55,7 +55,7 @@ fn late_refusal(n: usize, w: usize, all: Records, p: usize, order: Order, value:
 
 // Rows 8, 5, 6, 7, of the process that is named.
 fn call_refusal(order: Order, process: Process, w: usize, value: usize) -> u8
-    ensures { λ r. ⌜ r ≡ first (row8Lent order w value ∷ row5 order process ∷ row6 order process ∷ row7 order process ∷ []) ⌝ }
+    ensures { λ r. ⌜ r ≡ first (row8 order w value ∷ row5 order process ∷ row6 order process ∷ row7 order process ∷ []) ⌝ }
 {
     if causes::value_not_w_words(order, w, value) {
         return causes::VALUE_NOT_W_WORDS;

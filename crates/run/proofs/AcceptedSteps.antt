@@ -59,8 +59,8 @@ module _ {m : Memory} (r : Reached m) (p : ℕ) (z : refusal m p order.Step [] �
   record Passed : Type 0 where
     row-1 : row1 n .holds ≡ false
     row-2 : row2 w .holds ≡ false
-    row-3 : row3 n w (m .records) (m .words) .holds ≡ false
-    row-9 : row9 m .holds ≡ false
+    row-3 : row3 n w (length (m .records)) (length (m .words)) .holds ≡ false
+    row-9 : row9 (inRange m) .holds ≡ false
     process : p < n
     busy : isIdle q ≡ false
 
@@ -69,13 +69,13 @@ module _ {m : Memory} (r : Reached m) (p : ℕ) (z : refusal m p order.Step [] �
   passed =
       let r6 : ℕ = cond (isIdle q) 6 0 in
       let r4 : ℕ = cond (row4 n p .holds) 4 r6 in
-      let r9 : ℕ = cond (row9 m .holds) 9 r4 in
-      let r3 : ℕ = cond (row3 n w (m .records) (m .words) .holds) 3 r9 in
+      let r9 : ℕ = cond (row9 (inRange m) .holds) 9 r4 in
+      let r3 : ℕ = cond (row3 n w (length (m .records)) (length (m .words)) .holds) 3 r9 in
       let r2 : ℕ = cond (row2 w .holds) 2 r3 in
       let c1 = cleared (row1 n .holds) 0 r2 z in
       let c2 = cleared (row2 w .holds) 1 r3 (c1 .1) in
-      let c3 = cleared (row3 n w (m .records) (m .words) .holds) 2 r9 (c2 .1) in
-      let c9 = cleared (row9 m .holds) 8 r4 (c3 .1) in
+      let c3 = cleared (row3 n w (length (m .records)) (length (m .words)) .holds) 2 r9 (c2 .1) in
+      let c9 = cleared (row9 (inRange m) .holds) 8 r4 (c3 .1) in
       let c4 = cleared (row4 n p .holds) 3 r6 (c9 .1) in
       let c6 = cleared (isIdle q) 5 0 (c4 .1) in
       record { row-1 = c1 .0; row-2 = c2 .0; row-3 = c3 .0; row-9 = c9 .0; process = leb-false n p (c4 .0); busy = c6 .0 }

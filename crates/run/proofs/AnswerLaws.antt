@@ -8,7 +8,7 @@ use lib.ListN.{length}
 use Rattle.model.specs.declared.Reply.{Reply}
 use Rattle.model.specs.Words.{returnWord}
 use Rattle.listing.specs.Writing.{Room, Wrote}
-use Rattle.run.specs.Held.{answerLine, Listable}
+use Rattle.run.specs.RunState.{answerLine, Listable}
 
 -- a reply is known to be another
 pub line-of : {l l′ : List ℕ} {at next : ℕ} (n w : ℕ) (ws : List ℕ) (p : ℕ) {r r′ : Reply} → r ≡ r′ → Wrote l at (answerLine n w ws p r′) l′ next → Wrote l at (answerLine n w ws p r) l′ next

@@ -16,12 +16,12 @@ use Rattle.notation.specs.declared.Entry.the-variants.{StartLl, StartVl, StartS
 use Rattle.run.specs.declared.state.Run.{Run}
 use Rattle.run.specs.TextRun.{Progress, stopped, single, unanswered, steps, carry, carryAll, processOf}
 use Rattle.run.specs.StopPlaces.{stopIndex}
-use Rattle.run.specs.Held.{Held, held, progress, stoppedRun, Sound, Kept, Becomes}
+use Rattle.run.specs.RunState.{RunState, stateOf, progress, stoppedRun, Sound, Kept, Becomes}
 use Rattle.run.specs.Carried.{staysAt, resumed, onward, indexAfter, onwardIndex, OthersKept, Carries, Carrying}
 use Rattle.run.proofs.SingleLaws.{stops, stays}
 use Rattle.run.proofs.KeptLaws.{all-stay}
 
-pub kept-then : {len : ℕ} {h h′ h″ : Held} → Kept len h h′ → Kept len h′ h″ → Kept len h h″
+pub kept-then : {len : ℕ} {h h′ h″ : RunState} → Kept len h h′ → Kept len h′ h″ → Kept len h h″
 kept-then p q = record { sound = q .sound; words = q .words ∙ p .words; listing = q .listing ∙ p .listing }
 
 -- an entry is carried out from its first step
@@ -111,7 +111,7 @@ drop-all (a ∷ l) zero h = absurd (not-suc-le-zero h)
 drop-all (a ∷ l) (suc i) h = drop-all l i (omega arith)
 
 -- before the first entry
-pub carrying-none : {len : ℕ} {h : Held} (es : List Entry) → Sound len h → h .run .stop ≡ 0 → Carrying len es h 0 (llMost (h .run .bench .w)) h
+pub carrying-none : {len : ℕ} {h : RunState} (es : List Entry) → Sound len h → h .run .stop ≡ 0 → Carrying len es h 0 (llMost (h .run .bench .w)) h
 carrying-none {len} {h} es s z = record {
   same = all-from-first es (progress len h) z;
   index = omega (arith, index-from-first es (progress len h) z);
@@ -122,7 +122,7 @@ carrying-none {len} {h} es s z = record {
 }
 
 -- behind the last
-pub carrying-all : {len at left : ℕ} {es : List Entry} {h h′ : Held} → Carrying len es h at left h′ → OthersKept h h′ → length es ≤ at → Carries len es h h′ at
+pub carrying-all : {len at left : ℕ} {es : List Entry} {h h′ : RunState} → Carrying len es h at left h′ → OthersKept h h′ → length es ≤ at → Carries len es h h′ at
 unfolding onward onwardIndex
 carrying-all {len} {at} {left} {es} {h} {h′} c o l = record {
   becomes = record { same = sym (ap (λ (x : List Entry). onward left x (progress len h′)) (drop-all es at l)) ∙ c .same; kept = c .kept };
@@ -131,7 +131,7 @@ carrying-all {len} {at} {left} {es} {h} {h′} c o l = record {
 }
 
 -- at an entry, which makes a step or is refused
-module _ {len at left : ℕ} {es : List Entry} {h h₁ h′ : Held} (c : Carrying len es h at left h₁) (l : at < length es) (d : Entry) (b : Becomes len (single (getD es at d)) h₁ h′) where
+module _ {len at left : ℕ} {es : List Entry} {h h₁ h′ : RunState} (c : Carrying len es h at left h₁) (l : at < length es) (d : Entry) (b : Becomes len (single (getD es at d)) h₁ h′) where
   abbrev e : Entry
   e = getD es at d
 
@@ -209,7 +209,7 @@ module _ {len at left : ℕ} {es : List Entry} {h h₁ h′ : Held} (c : Carryin
     }
 
     -- row 13
-    pub ends-unanswered : OthersKept h h′ → staysAt e line ≡ true → left - 1 ≡ 0 → Carries len es h (held (stoppedRun (h′ .run) 13) (h′ .words) (h′ .listing)) at
+    pub ends-unanswered : OthersKept h h′ → staysAt e line ≡ true → left - 1 ≡ 0 → Carries len es h (stateOf (stoppedRun (h′ .run) 13) (h′ .words) (h′ .listing)) at
     ends-unanswered o q n =
         let s : Progress = stopped 13 (progress len h′) in
         let some : s .stop ≡ 0 → ⊥ = λ y. omega (arith, y) in

@@ -67,13 +67,15 @@ module _ (m : Memory) (t : List Process) (sixteen : length (m .records) ≡ 16) 
 
   -- rows 8, 5, 6, 7 by the record of p
   abbrev late : Process → List Row
-  late q = row8 o (m .bench .w) v ∷ row5 o q ∷ row6 o q ∷ row7 o q ∷ []
+  late q = row8 o (m .bench .w) (length v) ∷ row5 o q ∷ row6 o q ∷ row7 o q ∷ []
 
   same-late : n ≤ 16 → first (row4 n p ∷ late (recordAt (m .records ++ t) (record { 0 = p }))) ≡ first (row4 n p ∷ late (recordAt (m .records) (record { 0 = p })))
   same-late h = go (decLe n p)
     where
       go : Dec (n ≤ p) → first (row4 n p ∷ late (recordAt (m .records ++ t) (record { 0 = p }))) ≡ first (row4 n p ∷ late (recordAt (m .records) (record { 0 = p })))
-      go (yes x) = ap (λ b. cond b 4 (first (late (recordAt (m .records ++ t) (record { 0 = p }))))) (le-leb n p x) ∙ sym (ap (λ b. cond b 4 (first (late (recordAt (m .records) (record { 0 = p }))))) (le-leb n p x))
+      go (yes x) =
+          ap (λ b. cond b 4 (first (late (recordAt (m .records ++ t) (record { 0 = p }))))) (le-leb n p x)
+          ∙ sym (ap (λ b. cond b 4 (first (late (recordAt (m .records) (record { 0 = p }))))) (le-leb n p x))
       go (no x) = ap (λ q. first (row4 n p ∷ late q)) (same-record (omega arith))
 
   same-refusal : refusal more p o v ≡ refusal m p o v
@@ -81,12 +83,19 @@ module _ (m : Memory) (t : List Process) (sixteen : length (m .records) ≡ 16) 
   same-refusal = go (decLe n 16)
     where
       rest : Memory → List Row
-      rest z = row2 (z .bench .w) ∷ row3 (z .bench .n) (z .bench .w) (z .records) (z .words) ∷ row9 z ∷ row4 (z .bench .n) p ∷ late (recordAt (z .records) (record { 0 = p }))
+      rest z =
+          row2 (z .bench .w) ∷ row3 (z .bench .n) (z .bench .w) (length (z .records)) (length (z .words))
+          ∷ row9 (inRange z) ∷ row4 (z .bench .n) p ∷ late (recordAt (z .records) (record { 0 = p }))
 
       go : Dec (n ≤ 16) → first (commandRows more p o v) ≡ first (commandRows m p o v)
       go (yes h) =
-          ap₂ (λ a b. cond (row1 n .holds) 1 (cond (row2 (m .bench .w) .holds) 2 (cond (ltb (length (m .words)) (5 * n * m .bench .w) || a) 3 (cond (not b) 9 (first (row4 n p ∷ late (recordAt (m .records ++ t) (record { 0 = p })))))))) (short h) (same-ranges h)
-          ∙ ap (λ k. cond (row1 n .holds) 1 (cond (row2 (m .bench .w) .holds) 2 (cond (ltb (length (m .words)) (5 * n * m .bench .w) || ltb (length (m .records)) n) 3 (cond (not (inRange m)) 9 k)))) (same-late h)
+          ap₂ (λ a b. cond (row1 n .holds) 1 (cond (row2 (m .bench .w) .holds) 2
+          (cond (ltb (length (m .words)) (5 * n * m .bench .w) || a) 3
+          (cond (not b) 9 (first (row4 n p ∷ late (recordAt (m .records ++ t) (record { 0 = p }))))))))
+          (short h) (same-ranges h)
+          ∙ ap (λ k. cond (row1 n .holds) 1 (cond (row2 (m .bench .w) .holds) 2
+          (cond (ltb (length (m .words)) (5 * n * m .bench .w) || ltb (length (m .records)) n) 3
+          (cond (not (inRange m)) 9 k)))) (same-late h)
       go (no h) = ap (λ b. cond (not b) 1 (first (rest more))) (too-many n (omega arith)) ∙ sym (ap (λ b. cond (not b) 1 (first (rest m))) (too-many n (omega arith)))
 
   -- an accepted command names a process below N, and N is at most sixteen
@@ -95,8 +104,8 @@ module _ (m : Memory) (t : List Process) (sixteen : length (m .records) ≡ 16) 
   accepted-below e =
       let a = first-none (row1 n .holds) 1 _ (λ x. omega arith) e in
       let b = first-none (row2 (m .bench .w) .holds) 2 _ (λ x. omega arith) (a .1) in
-      let c = first-none (row3 n (m .bench .w) (m .records) (m .words) .holds) 3 _ (λ x. omega arith) (b .1) in
-      let d = first-none (row9 m .holds) 9 _ (λ x. omega arith) (c .1) in
+      let c = first-none (row3 n (m .bench .w) (length (m .records)) (length (m .words)) .holds) 3 _ (λ x. omega arith) (b .1) in
+      let d = first-none (row9 (inRange m) .holds) 9 _ (λ x. omega arith) (c .1) in
       let f = first-none (leb n p) 4 _ (λ x. omega arith) (d .1) in
       let x : n ≤ 16 = leb-true n 16 (both-yes (leb 1 n) (leb n 16) (a .0)) in
       let y : p < n = leb-false n p (f .0) in omega arith
@@ -149,7 +158,7 @@ module _ (m : Memory) (t : List Process) (sixteen : length (m .records) ≡ 16) 
   same-set-up = go (decLe n 16)
     where
       later : Memory → List Row
-      later z = row2 w ∷ row3 n w (z .records) (z .words) ∷ row8always w v ∷ []
+      later z = row2 w ∷ row3 n w (length (z .records)) (length (z .words)) ∷ row8always w (length v) ∷ []
 
       go : Dec (n ≤ 16) → first (setUpRows longer n w v) ≡ first (setUpRows m n w v)
       go (yes h) =

@@ -16,19 +16,19 @@ use Rattle.model.specs.declared.Reply.the-variants.{Refused, Accepted, LlAnswer
 use Rattle.model.specs.Records.{noProcess, recordAt}
 use Rattle.model.specs.Replies.{numberOf}
 use Rattle.model.specs.Machine.{obey}
-use Rattle.model.specs.Refusals.{Row, first, every}
+use Rattle.model.specs.Refusals.{Row, first, every, rowsOf}
 use Rattle.model.specs.Command.{command}
 use Rattle.tables.specs.declared.records.Records.{Records}
 use Rattle.machine.specs.declared.Outcome.{Outcome}
 use Rattle.taken.specs.Ranges.{Obeyable}
-use Rattle.rows.specs.CommandRows.{decisionRows, decisionNumber}
+use Rattle.rows.specs.CommandRows.{rangesOk, decisionNumber}
 use Rattle.machine.specs.Decision.{refusedOutcome, obeyedAt, decided, storedBack}
 use Rattle.tables.specs.Gathered.{gathered}
 use Rattle.laws.proofs.AndLaws.{left, right}
 use Rattle.rows.proofs.RowLaws.{Cleared, none-holds}
 use Rattle.machine.proofs.ObeyLaws.{obeyable, refused-law, obeyed-law}
 use Rattle.machine.proofs.DecisionLaws.{decision-law}
-use Rattle.run.specs.Held.{Filled}
+use Rattle.run.specs.RunState.{Filled}
 use Rattle.run.proofs.WordLaws.{Every}
 use Rattle.run.proofs.ObeyLaws.{Obeyed, order-obeyed}
 use Rattle.run.proofs.RecordLaws.{filled-gathered, lent-length}
@@ -53,7 +53,7 @@ module _ (b : Bench) (list : List Process) (len p : ℕ) (o : Order) (v ws : Lis
 
   number-small : number ≤ 9
   unfolding decisionNumber
-  number-small = first-small (decisionRows b list len p o (length v) (length ws)) refl
+  number-small = first-small (rowsOf (b .n) (b .w) len (length ws) (rangesOk b list) p o (length v) own) refl
 
   -- what a decision comes to: obeyed, with what no row's holding means, or refused
   pub data Decides : Outcome × List ℕ → Type 0 where

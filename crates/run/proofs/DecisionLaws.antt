@@ -25,7 +25,7 @@ use Rattle.words.proofs.WordLaws.{within}
 use Rattle.notation.specs.Grammar.{largest}
 use Rattle.listing.specs.Lines.{letterS, letterV}
 use Rattle.listing.proofs.Lengths.{ll-length, truth-length}
-use Rattle.run.specs.Held.{answerLine}
+use Rattle.run.specs.RunState.{answerLine}
 use Rattle.run.proofs.WordLaws.{Below}
 use Rattle.run.proofs.ObeyLaws.{Plain, accepted, ll, sc, vl, plain-none}
 use Rattle.run.proofs.CommandLaws.{Decides, obeys, refuses}

@@ -23,7 +23,7 @@ use Rattle.model.specs.Replies.{numberOf}
 use Rattle.taken.specs.declared.Taken.{Taken}
 use Rattle.taken.specs.declared.Stepped.{Stepped}
 use Rattle.machine.specs.declared.Outcome.{Outcome}
-use Rattle.rows.specs.Lengths.{row8Lent}
+use Rattle.model.specs.Refusals.{row8}
 use Rattle.rows.specs.CommandRows.{decisionNumber, lateNumber}
 use Rattle.machine.specs.Decision.{refusedOutcome, obeyedOutcome, decided}
 use Rattle.taken.specs.Ranges.{Ready}
@@ -37,7 +37,7 @@ use Rattle.listing.specs.Writing.{Wrote}
 use Rattle.listing.proofs.WritingLaws.{same}
 use Rattle.run.specs.declared.turn.Turn.{Turn}
 use Rattle.run.specs.TextRun.{mostEntries, roomNeeded, traceLine, processOf, orderOf, valueOf, single}
-use Rattle.run.specs.Held.{Held, held, progress, stoppedRun, Sound, Ready as Going, Becomes, Small, answerLine}
+use Rattle.run.specs.RunState.{RunState, stateOf, progress, stoppedRun, Sound, Ready as Going, Becomes, Small, answerLine}
 use Rattle.run.specs.Carried as carried
 use Rattle.run.specs.Carried.{refusalOf, placeOf, turned, turnLines, Turnable, Turns}
 use Rattle.run.proofs.ObeyLaws.{order-obeyed, plain-none}
@@ -46,7 +46,7 @@ use Rattle.run.proofs.TraceLaws.{shown-same}
 use Rattle.run.proofs.SingleLaws.{value-every, refused-becomes, answered-becomes, lines-fit, words-lent, single-12, single-14, single-ready, single-commanded}
 
 -- row 8 can't hold: a text's SC brings W words
-no-row-8 : (e : Entry) (w : ℕ) → row8Lent (orderOf e) w (length (valueOf w e)) .holds ≡ false
+no-row-8 : (e : Entry) (w : ℕ) → row8 (orderOf e) w (length (valueOf w e)) .holds ≡ false
 no-row-8 (StartLl p) w = refl
 no-row-8 (StartVl p) w = refl
 no-row-8 (StartSc p k) w = ap not (eq-eqb (length (replicate w k)) w (length-replicate w k))
@@ -57,7 +57,7 @@ no-row-8 (Finish p) w = refl
 abbrev rowsOf : Order → ℕ → ℕ → Process → ℕ
 rowsOf o n p q = first (row4 n p ∷ row5 o q ∷ row6 o q ∷ row7 o q ∷ [])
 
-module _ {len : ℕ} {h : Held} (e : Entry) (small : Small e) (s : Sound len h) (z : h .run .stop ≡ 0) where
+module _ {len : ℕ} {h : RunState} (e : Entry) (small : Small e) (s : Sound len h) (z : h .run .stop ≡ 0) where
   abbrev b : Bench
   b = h .run .bench
 
@@ -100,8 +100,8 @@ module _ {len : ℕ} {h : Held} (e : Entry) (small : Small e) (s : Sound len h) 
   abbrev refusal : ℕ → ℕ
   refusal needed = refusalOf o (h .run .entries) room needed (b .n) p seen
 
-  abbrev stoppedBy : ℕ → Held
-  stoppedBy k = held (stoppedRun (h .run) k) (h .words) (h .listing)
+  abbrev stoppedBy : ℕ → RunState
+  stoppedBy k = stateOf (stoppedRun (h .run) k) (h .words) (h .listing)
 
   module _ {needed : ℕ} (en : needed ≡ roomNeeded (h .run .traced)) where
     -- refused: 12, 14, or a row
@@ -194,8 +194,8 @@ module _ {len : ℕ} {h : Held} (e : Entry) (small : Small e) (s : Sound len h) 
 
         -- one entry more
         module _ {r : Turn} {ws lst : List ℕ} (turn : Turns (h .run .traced) (h .run .entries + 1) e (b .n) (b .w) t q (h .words) (h .listing) (h .run .written) r ws lst) where
-          abbrev after : Held
-          after = held (record {
+          abbrev after : RunState
+          after = stateOf (record {
             bench = putTaken b i j (r .taken);
             all = record { list = set list p (r .process) };
             written = r .written;

@@ -35,7 +35,9 @@ go-small : (k : Mode → List Frame → List Entry → ℕ → Verdict) (l : Lis
 unfolding go
 go-small k l (to m) stack es room h = h m stack es room
 go-small k l (enter n) stack es zero h = opened-small (countOk n) (fault 11 (suc (length l))) (suc (length l)) (omega arith)
-go-small k l (enter n) stack es (suc r) h = opened-small (countOk n) (k (between false) (record { count = n; before = es; room = suc r } ∷ stack) [] r) (suc (length l)) (h (between false) (record { count = n; before = es; room = suc r } ∷ stack) [] r)
+go-small k l (enter n) stack es (suc r) h =
+    opened-small (countOk n) (k (between false) (record { count = n; before = es; room = suc r } ∷ stack) [] r)
+    (suc (length l)) (h (between false) (record { count = n; before = es; room = suc r } ∷ stack) [] r)
 go-small k l leave [] es room h = omega arith
 go-small k l leave (f ∷ stack) es room h = h done stack (f .before ++ times (f .count) es) (f .room)
 go-small k l bad stack es room h = omega arith

@@ -11,7 +11,7 @@ use Rattle.model.specs.declared.Order.{Order}
 use Rattle.model.specs.declared.Reply.{Reply}
 use Rattle.model.specs.Sizes.{llMost}
 use Rattle.model.specs.Machine.{Memory}
-use Rattle.model.specs.Refusals.{row1, row2, row3, row9}
+use Rattle.model.specs.Refusals.{inRange, row1, row2, row3, row9}
 use Rattle.model.specs.Command.{refusal, command}
 use Rattle.model.specs.Replies.{numberOf}
 use Rattle.notation.specs.declared.Entry.{Entry}
@@ -30,15 +30,15 @@ either P false f g = g refl
 abbrev early : Memory → ℕ
 early m =
     cond (row1 (m .bench .n) .holds) 1 (cond (row2 (m .bench .w) .holds) 2
-    (cond (row3 (m .bench .n) (m .bench .w) (m .records) (m .words) .holds) 3 (cond (row9 m .holds) 9 4)))
+    (cond (row3 (m .bench .n) (m .bench .w) (length (m .records)) (length (m .words)) .holds) 3 (cond (row9 (inRange m) .holds) 9 4)))
 
 early-some : (m : Memory) → early m ≡ 0 → ⊥
 early-some m =
     let some : ℕ → Type 0 = λ k. k ≡ 0 → ⊥ in
     either some (row1 (m .bench .n) .holds) (λ h z. omega (arith, z)) (λ h.
     either some (row2 (m .bench .w) .holds) (λ i z. omega (arith, z)) (λ i.
-    either some (row3 (m .bench .n) (m .bench .w) (m .records) (m .words) .holds) (λ j z. omega (arith, z)) (λ j.
-    either some (row9 m .holds) (λ k z. omega (arith, z)) (λ k z. omega (arith, z)))))
+    either some (row3 (m .bench .n) (m .bench .w) (length (m .records)) (length (m .words)) .holds) (λ j z. omega (arith, z)) (λ j.
+    either some (row9 (inRange m) .holds) (λ k z. omega (arith, z)) (λ k z. omega (arith, z)))))
 
 far-refusal : (m : Memory) (p : ℕ) (o : Order) (v : List ℕ) → 16 ≤ p → refusal m p o v ≡ early m
 unfolding refusal

@@ -30,7 +30,7 @@ use Rattle.notation.specs.EntryWords.{entryIn, entryOfKind, kindIn, processIn, 
 use Rattle.run.specs.declared.state.Run.{Run}
 use Rattle.run.specs.declared.turn.Turn.{Turn}
 use Rattle.run.specs.TextRun.{roomNeeded, processOf, orderOf, single}
-use Rattle.run.specs.Held.{Held, held, stoppedRun, Sound, Becomes, Small}
+use Rattle.run.specs.RunState.{RunState, stateOf, stoppedRun, Sound, Becomes, Small}
 use Rattle.run.specs.Carried.{entriesIn, refusalOf, placeOf, Turnable, Turns, staysAt, Carrying, OthersKept, Carries}
 use Rattle.run.proofs.EntryLaws.{entry-refused, entry-ready, process-small, place-same, seen-own, one-more-small, entry-turnable, entry-made, own-line}
 use Rattle.run.proofs.CarryingLaws.{carrying-none, carrying-all, ends-refused, goes-over, goes-further, ends-unanswered}
@@ -68,7 +68,7 @@ abbrev pub goingRun : Bench → Records → ℕ → ℕ → Bool → Run
 goingRun b all written done traced = record { bench = b; all = all; written = written; entries = done; stop = 0; traced = traced }
 
 -- at the head of the loop, after what h was before it
-pub record Head (count : ℕ) (entries : List ℕ) (len n w needed : ℕ) (h : Held) (at left : ℕ) (h₁ : Held) : Type 0 where
+pub record Head (count : ℕ) (entries : List ℕ) (len n w needed : ℕ) (h : RunState) (at left : ℕ) (h₁ : RunState) : Type 0 where
   pub fits : count ≤ length entries
   pub carrying : Carrying len (entriesIn count entries) h at left h₁
   pub n-is : n ≡ h₁ .run .bench .n
@@ -79,15 +79,16 @@ pub record Head (count : ℕ) (entries : List ℕ) (len n w needed : ℕ) (h : H
   pub others : OthersKept h h₁
 
 -- a run is the one that goes on
-pub from-run : {len : ℕ} {r : Run} {ws list : List ℕ} {es : List Entry} {h : Held} {at : ℕ} → r .stop ≡ 0
-    → Carries len es (held (goingRun (r .bench) (r .all) (r .written) (r .entries) (r .traced)) ws list) h at → Carries len es (held r ws list) h at
-from-run {len} {r} {ws} {list} {es} {h} {at} z x = subst (λ (k : ℕ). Carries len es (held (stoppedRun r k) ws list) h at) (sym z) x
+pub from-run : {len : ℕ} {r : Run} {ws list : List ℕ} {es : List Entry} {h : RunState} {at : ℕ} → r .stop ≡ 0
+    → Carries len es (stateOf (goingRun (r .bench) (r .all) (r .written) (r .entries) (r .traced)) ws list) h at → Carries len es (stateOf r ws list) h at
+from-run {len} {r} {ws} {list} {es} {h} {at} z x = subst (λ (k : ℕ). Carries len es (stateOf (stoppedRun r k) ws list) h at) (sym z) x
 
-pub first-head : {len count n w needed : ℕ} {entries : List ℕ} {r : Run} {ws list : List ℕ} → let h = held (goingRun (r .bench) (r .all) (r .written) (r .entries) (r .traced)) ws list in
-    count ≤ length entries → Sound len (held r ws list) → r .stop ≡ 0 → n ≡ r .bench .n → w ≡ r .bench .w → needed ≡ roomNeeded (r .traced) → Head count entries len n w needed h 0 (llMost (r .bench .w)) h
+pub first-head : {len count n w needed : ℕ} {entries : List ℕ} {r : Run} {ws list : List ℕ} → let h = stateOf (goingRun (r .bench) (r .all) (r .written) (r .entries) (r .traced)) ws list in
+    count ≤ length entries → Sound len (stateOf r ws list) → r .stop ≡ 0 → n ≡ r .bench .n → w ≡ r .bench .w
+    → needed ≡ roomNeeded (r .traced) → Head count entries len n w needed h 0 (llMost (r .bench .w)) h
 first-head {len} {count} {entries = entries} {r = r} {ws = ws} {list = list} l s z en ew er = record {
   fits = l;
-  carrying = carrying-none (entriesIn count entries) (subst (λ (k : ℕ). Sound len (held (stoppedRun r k) ws list)) z s) refl;
+  carrying = carrying-none (entriesIn count entries) (subst (λ (k : ℕ). Sound len (stateOf (stoppedRun r k) ws list)) z s) refl;
   n-is = en;
   w-is = ew;
   w-most = omega (arith, ew, s .going z .width);
@@ -97,11 +98,11 @@ first-head {len} {count} {entries = entries} {r = r} {ws = ws} {list = list} l s
 }
 
 -- behind the last entry
-pub head-all : {len count n w needed at left : ℕ} {entries : List ℕ} {h h₁ : Held} → Head count entries len n w needed h at left h₁ → count ≤ at → Carries len (entriesIn count entries) h h₁ at
+pub head-all : {len count n w needed at left : ℕ} {entries : List ℕ} {h h₁ : RunState} → Head count entries len n w needed h at left h₁ → count ≤ at → Carries len (entriesIn count entries) h h₁ at
 head-all {count = count} {entries = entries} x l = carrying-all (x .carrying) (x .others) (omega (arith, l, count-entries count entries (x .fits)))
 
 -- with an entry to carry out: what the code has in its hands
-pub record Looking (count : ℕ) (entries : List ℕ) (len n w needed : ℕ) (h : Held) (at left : ℕ) (h₁ : Held) (e : Entry) (p k : ℕ) (q : Process) (o : Order) : Type 0 where
+pub record Looking (count : ℕ) (entries : List ℕ) (len n w needed : ℕ) (h : RunState) (at left : ℕ) (h₁ : RunState) (e : Entry) (p k : ℕ) (q : Process) (o : Order) : Type 0 where
   pub head : Head count entries len n w needed h at left h₁
   pub more : at < count
   pub entry-is : e ≡ entryIn (getD entries at 0)
@@ -110,11 +111,11 @@ pub record Looking (count : ℕ) (entries : List ℕ) (len n w needed : ℕ) (h 
   pub record-is : q ≡ getD (h₁ .run .all .list) k noProcess
   pub order-is : o ≡ orderOf e
 
-pub looking : {count : ℕ} {entries : List ℕ} {len n w needed at left p k : ℕ} {h h₁ : Held} {e : Entry} {o : Order} → Head count entries len n w needed h at left h₁ → at < count
+pub looking : {count : ℕ} {entries : List ℕ} {len n w needed at left p k : ℕ} {h h₁ : RunState} {e : Entry} {o : Order} → Head count entries len n w needed h at left h₁ → at < count
     → e ≡ entryIn (getD entries at 0) → p ≡ processOf e → k ≡ placeOf p → o ≡ orderOf e → Looking count entries len n w needed h at left h₁ e p k (getD (h₁ .run .all .list) k noProcess) o
 looking x m a b c d = record { head = x; more = m; entry-is = a; process-is = b; place-is = c; record-is = refl; order-is = d }
 
-module _ {count : ℕ} {entries : List ℕ} {len n w needed at left p k : ℕ} {h h₁ : Held} {e : Entry} {q : Process} {o : Order} (x : Looking count entries len n w needed h at left h₁ e p k q o) where
+module _ {count : ℕ} {entries : List ℕ} {len n w needed at left p k : ℕ} {h h₁ : RunState} {e : Entry} {q : Process} {o : Order} (x : Looking count entries len n w needed h at left h₁ e p k q o) where
   abbrev b : Bench
   b = h₁ .run .bench
 
@@ -140,7 +141,7 @@ module _ {count : ℕ} {entries : List ℕ} {len n w needed at left p k : ℕ} {
   small = subst Small (sym (x .entry-is)) (kept-small (getD entries at 0))
 
   -- what the entry does, done to the one in the list
-  this : {h′ : Held} → Becomes len (single e) h₁ h′ → Becomes len (single (getD es at (entryIn 0))) h₁ h′
+  this : {h′ : RunState} → Becomes len (single e) h₁ h′ → Becomes len (single (getD es at (entryIn 0))) h₁ h′
   this {h′} y = subst (λ (d : Entry). Becomes len (single d) h₁ h′) (x .entry-is ∙ sym (entry-at count at entries (x .more))) y
 
   abbrev refusal : ℕ
@@ -152,7 +153,7 @@ module _ {count : ℕ} {entries : List ℕ} {len n w needed at left p k : ℕ} {
   same-refusal : refusal ≡ looked
   same-refusal = rw (x .order-is, x .record-is, x .place-is, x .process-is, x .head .n-is)
 
-  pub loop-refused : {stop : ℕ} → stop ≡ refusal → (stop ≡ 0 → ⊥) → Carries len es h (held (stoppedRun (h₁ .run) stop) (h₁ .words) (h₁ .listing)) at
+  pub loop-refused : {stop : ℕ} → stop ≡ refusal → (stop ≡ 0 → ⊥) → Carries len es h (stateOf (stoppedRun (h₁ .run) stop) (h₁ .words) (h₁ .listing)) at
   loop-refused {stop} f y = ends-refused c inside (entryIn 0) (this (entry-refused e small s (c .goes) (x .head .needed-is) stop (f ∙ same-refusal) y)) (x .head .others) y
 
   module _ (f : refusal ≡ 0) where
@@ -200,8 +201,8 @@ module _ {count : ℕ} {entries : List ℕ} {len n w needed at left p k : ℕ} {
           turn-own = rw (is-own, x .head .n-is, x .head .w-is) at turn
 
           -- the run with one entry more, its record stored at a place
-          abbrev afterAt : ℕ → Held
-          afterAt m = held (record {
+          abbrev afterAt : ℕ → RunState
+          afterAt m = stateOf (record {
             bench = putTaken b i j (r .taken);
             all = record { list = set list m (r .process) };
             written = r .written;
@@ -210,7 +211,7 @@ module _ {count : ℕ} {entries : List ℕ} {len n w needed at left p k : ℕ} {
             traced = h₁ .run .traced;
           }) ws lst
 
-          stored : (P : Held → Type 0) → P (afterAt (processOf e)) → P (afterAt k)
+          stored : (P : RunState → Type 0) → P (afterAt (processOf e)) → P (afterAt k)
           stored P x = subst (λ (m : ℕ). P (afterAt m)) (sym own-place) x
 
           made : Becomes len (single (getD es at (entryIn 0))) h₁ (afterAt (processOf e))
@@ -220,7 +221,9 @@ module _ {count : ℕ} {entries : List ℕ} {len n w needed at left p k : ℕ} {
           here = ap processOf (entry-at count at entries (x .more) ∙ sym (x .entry-is))
 
           line : recordAt (take len (set list (processOf e) (r .process))) (record { 0 = processOf (getD es at (entryIn 0)) }) .line ≡ r .process .line
-          line = ap (λ (m : ℕ). recordAt (take len (set list (processOf e) (r .process))) (record { 0 = m }) .line) here ∙ own-line e small s (c .goes) (x .head .needed-is) free at-bank at-help et turn-own
+          line =
+              ap (λ (m : ℕ). recordAt (take len (set list (processOf e) (r .process))) (record { 0 = m }) .line) here
+              ∙ own-line e small s (c .goes) (x .head .needed-is) free at-bank at-help et turn-own
 
           same-stay : staysAt (getD es at (entryIn 0)) (r .process .line) ≡ staysAt e (r .process .line)
           same-stay = ap (λ (d : Entry). staysAt d (r .process .line)) (entry-at count at entries (x .more) ∙ sym (x .entry-is))
@@ -232,7 +235,16 @@ module _ {count : ℕ} {entries : List ℕ} {len n w needed at left p k : ℕ} {
 
           headed : {at′ left′ : ℕ} → Carrying len es h at′ left′ (afterAt (processOf e)) → Head count entries len n w needed h at′ left′ (afterAt k)
           headed {at′} {left′} y = stored (λ d. Head count entries len n w needed h at′ left′ d)
-              (record { fits = x .head .fits; carrying = y; n-is = x .head .n-is; w-is = x .head .w-is; w-most = x .head .w-most; needed-is = x .head .needed-is; first-n = x .head .first-n; others = others-kept })
+              (record {
+                fits = x .head .fits;
+                carrying = y;
+                n-is = x .head .n-is;
+                w-is = x .head .w-is;
+                w-most = x .head .w-most;
+                needed-is = x .head .needed-is;
+                first-n = x .head .first-n;
+                others = others-kept;
+              })
 
           pub loop-over : staysAt e (r .process .line) ≡ false → Head count entries len n w needed h (at + 1) (llMost w) (afterAt k)
           loop-over y =
@@ -242,6 +254,6 @@ module _ {count : ℕ} {entries : List ℕ} {len n w needed at left p k : ℕ} {
           pub loop-further : staysAt e (r .process .line) ≡ true → (left - 1 ≡ 0 → ⊥) → Head count entries len n w needed h at (left - 1) (afterAt k)
           loop-further y m = headed (goes-further c inside (entryIn 0) made refl refl line (same-stay ∙ y) m)
 
-          pub loop-unanswered : staysAt e (r .process .line) ≡ true → left - 1 ≡ 0 → Carries len es h (held (stoppedRun (afterAt k .run) 13) ws lst) at
+          pub loop-unanswered : staysAt e (r .process .line) ≡ true → left - 1 ≡ 0 → Carries len es h (stateOf (stoppedRun (afterAt k .run) 13) ws lst) at
           loop-unanswered y m =
-              stored (λ d. Carries len es h (held (stoppedRun (d .run) 13) ws lst) at) (ends-unanswered c inside (entryIn 0) made refl refl line others-kept (same-stay ∙ y) m)
+              stored (λ d. Carries len es h (stateOf (stoppedRun (d .run) 13) ws lst) at) (ends-unanswered c inside (entryIn 0) made refl refl line others-kept (same-stay ∙ y) m)

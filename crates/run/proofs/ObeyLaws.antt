@@ -51,7 +51,9 @@ quiet : {b : Bench} {q : Process} {ws : List ℕ} (out : Moved) → out .bench .
 quiet out n w r = record { n = n; w = w; words = refl; small = λ s. s; reply = r }
 
 -- and one that copies a half word
-moves : {b : Bench} {q : Process} {ws : List ℕ} (out : Moved) (k from to : ℕ) → out .bench .n ≡ b .n → out .bench .w ≡ b .w → from < 5 * b .n * b .w → to < 5 * b .n * b .w → Plain (q .count + 1) (out .reply) → Obeyed b q ws (out, copiedHalf ws k from to)
+moves : {b : Bench} {q : Process} {ws : List ℕ} (out : Moved) (k from to : ℕ) → out .bench .n ≡ b .n
+    → out .bench .w ≡ b .w → from < 5 * b .n * b .w → to < 5 * b .n * b .w → Plain (q .count + 1) (out .reply)
+    → Obeyed b q ws (out, copiedHalf ws k from to)
 moves {ws = ws} out k from to n w h i r =
     let v = withHalf k (getD ws from 0) (getD ws to 0) in
     record { n = n; w = w; words = length-set ws to v; small = λ s. below-set to v (with-half-small k (getD ws from 0) (getD ws to 0) (s .at from h) (s .at to i)) s; reply = r }
@@ -81,23 +83,38 @@ module _ {b : Bench} {q : Process} {p : ProcessNumber} {ws : List ℕ} (r : Read
   step-obeyed idle = quiet _ refl refl accepted
   step-obeyed line1 = quiet _ refl refl accepted
   step-obeyed line2 = quiet _ refl refl accepted
-  step-obeyed line3 = moves _ (q .word) (bufferWord (b .w) (q .x .buf) (wordOf (q .word))) (returnWord (b .n) (b .w) p (wordOf (q .word))) refl refl (buffer-in r (q .x .buf .0) (r .x-buf)) (return-in r) accepted
+  step-obeyed line3 =
+      moves _ (q .word) (bufferWord (b .w) (q .x .buf) (wordOf (q .word)))
+      (returnWord (b .n) (b .w) p (wordOf (q .word))) refl refl (buffer-in r (q .x .buf .0) (r .x-buf))
+      (return-in r) accepted
   step-obeyed line4 = quiet _ refl refl accepted
   step-obeyed line5 = quiet _ refl refl accepted
-  step-obeyed line6 = moves _ (q .word) (bufferWord (b .w) (q .x .buf) (wordOf (q .word))) (returnWord (b .n) (b .w) p (wordOf (q .word))) refl refl (buffer-in r (q .x .buf .0) (r .x-buf)) (return-in r) accepted
+  step-obeyed line6 =
+      moves _ (q .word) (bufferWord (b .w) (q .x .buf) (wordOf (q .word)))
+      (returnWord (b .n) (b .w) p (wordOf (q .word))) refl refl (buffer-in r (q .x .buf .0) (r .x-buf))
+      (return-in r) accepted
   step-obeyed line7 = quiet _ refl refl accepted
-  step-obeyed line7copy = moves _ (q .word) (bufferWord (b .w) (q .b) (wordOf (q .word))) (returnWord (b .n) (b .w) p (wordOf (q .word))) refl refl (buffer-in r (q .b .0) (r .b-buf)) (return-in r) accepted
+  step-obeyed line7copy =
+      moves _ (q .word) (bufferWord (b .w) (q .b) (wordOf (q .word)))
+      (returnWord (b .n) (b .w) p (wordOf (q .word))) refl refl (buffer-in r (q .b .0) (r .b-buf)) (return-in r)
+      accepted
   step-obeyed line8 = quiet _ refl refl accepted
   step-obeyed line9 = quiet _ refl refl accepted
   step-obeyed line10 = quiet _ refl refl accepted
-  step-obeyed line11 = moves _ (q .word) (returnWord (b .n) (b .w) p (wordOf (q .word))) (bufferWord (b .w) (q .mybuf) (wordOf (q .word))) refl refl (return-in r) (buffer-in r (q .mybuf .0) (r .mybuf)) (last-word (ltb (q .word + 1) (halves (b .w))) (q .count + 1))
+  step-obeyed line11 =
+      moves _ (q .word) (returnWord (b .n) (b .w) p (wordOf (q .word)))
+      (bufferWord (b .w) (q .mybuf) (wordOf (q .word))) refl refl (return-in r)
+      (buffer-in r (q .mybuf .0) (r .mybuf)) (last-word (ltb (q .word + 1) (halves (b .w))) (q .count + 1))
   step-obeyed line12 = quiet _ refl refl accepted
   step-obeyed line12valid = quiet _ refl refl accepted
   step-obeyed line13 = quiet _ refl refl accepted
   step-obeyed line14 = quiet _ refl refl accepted
   step-obeyed line14valid = quiet _ refl refl accepted
   step-obeyed line15 = quiet _ refl refl accepted
-  step-obeyed line17 = moves _ (q .word) (offerWord (b .n) (b .w) p (wordOf (q .word))) (bufferWord (b .w) (q .mybuf) (wordOf (q .word))) refl refl (offer-in r) (buffer-in r (q .mybuf .0) (r .mybuf)) accepted
+  step-obeyed line17 =
+      moves _ (q .word) (offerWord (b .n) (b .w) p (wordOf (q .word)))
+      (bufferWord (b .w) (q .mybuf) (wordOf (q .word))) refl refl (offer-in r)
+      (buffer-in r (q .mybuf .0) (r .mybuf)) accepted
   step-obeyed line18 = quiet _ refl refl accepted
   step-obeyed line19 = quiet _ refl refl sc
   step-obeyed line23 = quiet _ refl refl vl

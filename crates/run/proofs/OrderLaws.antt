@@ -13,11 +13,11 @@ use Rattle.model.specs.declared.Order.the-variants.{Step}
 use Rattle.model.specs.Refusals.{inRange, benchOk, every, processOk, row9}
 use Rattle.rows.specs.CommandRows.{InOrder}
 use Rattle.rows.proofs.RowLaws.{neither, n-in}
-use Rattle.run.specs.Held.{Held, progress, Sound}
+use Rattle.run.specs.RunState.{RunState, progress, Sound}
 use Rattle.run.proofs.RecordLaws.{lent-length}
 use Rattle.run.proofs.ReachedLaws.{Unhindered, unhindered}
 
-module _ {len : ℕ} {h : Held} (s : Sound len h) (z : h .run .stop ≡ 0) where
+module _ {len : ℕ} {h : RunState} (s : Sound len h) (z : h .run .stop ≡ 0) where
   free : Unhindered (progress len h .memory)
   free = unhindered (s .going z .reached) 0 Step []
 
@@ -35,7 +35,7 @@ module _ {len : ℕ} {h : Held} (s : Sound len h) (z : h .run .stop ≡ 0) where
   pub most-processes : h .run .bench .n ≤ 16
   most-processes = n-in (h .run .bench .n) (free .row-1) .1
 
-  same-range : row9 (record { bench = h .run .bench; records = list; words = [] }) .holds ≡ row9 (progress len h .memory) .holds
+  same-range : row9 (inRange (record { bench = h .run .bench; records = list; words = [] })) .holds ≡ row9 (inRange (progress len h .memory)) .holds
   unfolding inRange
   same-range = ap (λ (l : List Process). not (benchOk (h .run .bench) && every (processOk (h .run .bench .n) (h .run .bench .w)) l)) (sym (take-take (h .run .bench .n) len list enough))
 

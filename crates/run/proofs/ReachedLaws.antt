@@ -3,10 +3,11 @@ use mathlib.Core.Path.{_≡_, refl, sym, ap, subst, _∙_}
 use mathlib.Core.List.{List, [], _∷_, _++_}
 use mathlib.Core.Bool.{Bool, true, false, cond}
 use Prim.Native.Nat.{ℕ}
+use lib.ListN.{length}
 use Rattle.model.specs.declared.Order.{Order}
 use Rattle.model.specs.Machine.{Memory, Shaped}
 use Rattle.model.specs.Records.{recordAt}
-use Rattle.model.specs.Refusals.{first, row1, row2, row3, row4, row5, row6, row7, row8, row9}
+use Rattle.model.specs.Refusals.{first, inRange, row1, row2, row3, row4, row5, row6, row7, row8, row9}
 use Rattle.model.specs.Command.{refusal, command}
 use Rattle.model.specs.SetUp.{setUp}
 use Rattle.model.specs.History.{Command}
@@ -41,8 +42,8 @@ reached-command r p o value = record {
 pub record Unhindered (m : Memory) : Type 0 where
   pub row-1 : row1 (m .bench .n) .holds ≡ false
   pub row-2 : row2 (m .bench .w) .holds ≡ false
-  pub row-3 : row3 (m .bench .n) (m .bench .w) (m .records) (m .words) .holds ≡ false
-  pub row-9 : row9 m .holds ≡ false
+  pub row-3 : row3 (m .bench .n) (m .bench .w) (length (m .records)) (length (m .words)) .holds ≡ false
+  pub row-9 : row9 (inRange m) .holds ≡ false
 
 passed-1 : (a : Bool) (rest : ℕ) → NotLentMemory (cond a 1 rest) → (a ≡ false) × NotLentMemory rest
 passed-1 true rest h = absurd (h .not-1 refl)
@@ -62,12 +63,15 @@ passed-9 false rest h = refl
 
 module _ {m : Memory} (r : Reached m) (p : ℕ) (o : Order) (value : List ℕ) where
   clean : NotLentMemory (refusal m p o value)
-  clean = subst (λ (x : Memory). NotLentMemory (refusal x p o value)) (sym (r .is)) (never-for-its-own-doing (r .lent) (r .shaped) (r .n) (r .w) (r .value) (r .commands) (r .accepted) (record { process = p; order = o; value = value }))
+  clean =
+      subst (λ (x : Memory). NotLentMemory (refusal x p o value)) (sym (r .is))
+      (never-for-its-own-doing (r .lent) (r .shaped) (r .n) (r .w) (r .value) (r .commands) (r .accepted)
+      (record { process = p; order = o; value = value }))
 
   pub unhindered : Unhindered m
   unfolding refusal
   unhindered =
       let a = passed-1 (row1 (m .bench .n) .holds) _ clean in
       let b = passed-2 (row2 (m .bench .w) .holds) _ (a .1) in
-      let c = passed-3 (row3 (m .bench .n) (m .bench .w) (m .records) (m .words) .holds) _ (b .1) in
-      record { row-1 = a .0; row-2 = b .0; row-3 = c .0; row-9 = passed-9 (row9 m .holds) _ (c .1) }
+      let c = passed-3 (row3 (m .bench .n) (m .bench .w) (length (m .records)) (length (m .words)) .holds) _ (b .1) in
+      record { row-1 = a .0; row-2 = b .0; row-3 = c .0; row-9 = passed-9 (row9 (inRange m) .holds) _ (c .1) }

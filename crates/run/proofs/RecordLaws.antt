@@ -13,8 +13,8 @@ use Rattle.model.specs.Records.{noProcess}
 use Rattle.tables.specs.declared.records.Records.{Records}
 use Rattle.tables.specs.Gathered.{gathered}
 use Rattle.tables.proofs.GatheredLaws.{gathered-length, gathered-at}
-use Rattle.run.specs.Held.{Filled}
-use Rattle.run.specs.Whole.{fewOf}
+use Rattle.run.specs.RunState.{Filled}
+use Rattle.run.specs.Finished.{atMostSixteen}
 
 -- a store at a lent place
 pub filled-set : {len : ℕ} {list : List Process} (i : ℕ) (q : Process) → i < len → Filled len list → Filled len (set list i q)
@@ -56,33 +56,33 @@ pub lent-length : {len : ℕ} {list : List Process} → len ≤ 16 → Filled le
 lent-length {len} {list} h f = length-take-le len list (omega (arith, f .sixteen))
 
 -- of more than sixteen, sixteen are looked at
-pub few-small : (len : ℕ) → fewOf len ≤ 16
-few-small len = pick (ltb 16 len) refl
+pub sixteen-most : (len : ℕ) → atMostSixteen len ≤ 16
+sixteen-most len = pick (ltb 16 len) refl
   where
     pick : (t : Bool) → ltb 16 len ≡ t → cond t 16 len ≤ 16
     pick true e = omega arith
     pick false e = ltb-false 16 len e
 
-pub few-take : (len : ℕ) (list : List Process) → length list ≡ 16 → take (fewOf len) list ≡ take len list
-few-take len list l = pick (ltb 16 len) refl
+pub take-sixteen : (len : ℕ) (list : List Process) → length list ≡ 16 → take (atMostSixteen len) list ≡ take len list
+take-sixteen len list l = pick (ltb 16 len) refl
   where
     pick : (t : Bool) → ltb 16 len ≡ t → take (cond t 16 len) list ≡ take len list
     pick true e = let h = ltb-true 16 len e in take-all 16 list (omega arith) ∙ sym (take-all len list (omega arith))
     pick false e = refl
 
-pub filled-few : {len : ℕ} {list : List Process} → Filled len list → Filled (fewOf len) list
-filled-few {len} {list} f = pick (ltb 16 len) refl
+pub filled-sixteen : {len : ℕ} {list : List Process} → Filled len list → Filled (atMostSixteen len) list
+filled-sixteen {len} {list} f = pick (ltb 16 len) refl
   where
     pick : (t : Bool) → ltb 16 len ≡ t → Filled (cond t 16 len) list
     pick true e = record { sixteen = f .sixteen; rest = λ j k. List·getD-eq-default list noProcess {n = j} (omega (arith, f .sixteen)) }
     pick false e = f
 
-pub few-filled : {len : ℕ} {list : List Process} → Filled (fewOf len) list → Filled len list
-few-filled {len} f = record { sixteen = f .sixteen; rest = λ j k. f .rest j (omega (arith, most)) }
+pub sixteen-filled : {len : ℕ} {list : List Process} → Filled (atMostSixteen len) list → Filled len list
+sixteen-filled {len} f = record { sixteen = f .sixteen; rest = λ j k. f .rest j (omega (arith, most)) }
   where
     pick : (t : Bool) → ltb 16 len ≡ t → cond t 16 len ≤ len
     pick true e = omega (arith, ltb-true 16 len e)
     pick false e = omega arith
 
-    most : fewOf len ≤ len
+    most : atMostSixteen len ≤ len
     most = pick (ltb 16 len) refl

@@ -26,37 +26,37 @@ use Rattle.notation.proofs.HeaderLaws.{headed-reads}
 use Rattle.notation.proofs.GroupLaws.{not-headed}
 use Rattle.notation.proofs.ListedLaws.{kept-entries}
 use Rattle.run.specs.declared.state.Run.{Run}
-use Rattle.run.specs.declared.last_line.Whole.{Whole}
+use Rattle.run.specs.declared.last_line.Finished.{Finished}
 use Rattle.run.specs.declared.text_run.First.{First}
 use Rattle.run.specs.TextRun.{Progress, Ended, ended, begun, carryAll, started, carriedOut, roomNeeded, longestText, runWith}
-use Rattle.run.specs.Held.{Held, held, progress, Filled, Sound, Kept, Becomes}
+use Rattle.run.specs.RunState.{RunState, stateOf, progress, Filled, Sound, Kept, Becomes}
 use Rattle.run.specs.Carried.{entriesIn}
-use Rattle.run.specs.Whole.{freshRun, closed, Closable, memoryOf, fewOf, Others, Answers, Lending, refusedWith, startedWith, saysAfter}
-use Rattle.run.proofs.RecordLaws.{gathered-filled, filled-gathered, few-small, few-take, filled-few, few-filled}
+use Rattle.run.specs.Finished.{freshRun, closed, Closable, memoryOf, atMostSixteen, Others, Answers, Lending, refusedWith, startedWith, saysAfter}
+use Rattle.run.proofs.RecordLaws.{gathered-filled, filled-gathered, sixteen-most, take-sixteen, filled-sixteen, sixteen-filled}
 use Rattle.run.proofs.KeptLaws.{kept-run}
 use Rattle.run.proofs.StartLaws.{set-up-same, first, begun-same}
 
 -- a sound run has room for its last line
-pub sound-closable : {len : ℕ} {h : Held} → Sound len h → Closable (h .run) (h .listing)
+pub sound-closable : {len : ℕ} {h : RunState} → Sound len h → Closable (h .run) (h .listing)
 sound-closable s = record { entries = s .entries; stop = s .stop; room = s .room }
 
 -- with its last line a run is ended
-pub closed-answers : {len stored place : ℕ} {all : Records} {list′ : List ℕ} {out : Whole} (r : Run) (ws list : List ℕ) → Filled len (r .all .list)
+pub closed-answers : {len stored place : ℕ} {all : Records} {list′ : List ℕ} {out : Finished} (r : Run) (ws list : List ℕ) → Filled len (r .all .list)
     → ((j : ℕ) → stored ≤ j → getD (r .all .list) j noProcess ≡ getD (all .list) j noProcess)
-    → _≡_ {A = Whole × List ℕ} (out, list′) (closed r stored place list) → Answers len all out ws list′ (ended (progress len (held r ws list)))
+    → _≡_ {A = Finished × List ℕ} (out, list′) (closed r stored place list) → Answers len all out ws list′ (ended (progress len (stateOf r ws list)))
 closed-answers {len} {stored} {place} {all} {out = out} r ws list f o e = record {
-  same = ap (λ (x : Whole × List ℕ). record { number = x .0 .number; entries = x .0 .entries; written = x .0 .written; memory = memoryOf (x .0 .bench) (x .0 .all) len ws; listing = x .1 }) e;
-  filled = subst (λ (x : Whole). Filled len (x .all .list)) (sym same) f;
+  same = ap (λ (x : Finished × List ℕ). record { number = x .0 .number; entries = x .0 .entries; written = x .0 .written; memory = memoryOf (x .0 .bench) (x .0 .all) len ws; listing = x .1 }) e;
+  filled = subst (λ (x : Finished). Filled len (x .all .list)) (sym same) f;
   others = subst (Others all) (sym same) o;
 }
   where
     same : out ≡ closed r stored place list .0
-    same = ap (λ (x : Whole × List ℕ). x .0) e
+    same = ap (λ (x : Finished × List ℕ). x .0) e
 
-pub closed-place : {stored place : ℕ} {list′ : List ℕ} {out : Whole} (r : Run) (list : List ℕ) → _≡_ {A = Whole × List ℕ} (out, list′) (closed r stored place list) → out .place ≡ place
-closed-place r list e = ap (λ (x : Whole × List ℕ). x .0 .place) e
+pub closed-place : {stored place : ℕ} {list′ : List ℕ} {out : Finished} (r : Run) (list : List ℕ) → _≡_ {A = Finished × List ℕ} (out, list′) (closed r stored place list) → out .place ≡ place
+closed-place r list e = ap (λ (x : Finished × List ℕ). x .0 .place) e
 
-pub answers-as : {len : ℕ} {all : Records} {out : Whole} {ws list : List ℕ} {a b : Ended} → Answers len all out ws list a → a ≡ b → Answers len all out ws list b
+pub answers-as : {len : ℕ} {all : Records} {out : Finished} {ws list : List ℕ} {a b : Ended} → Answers len all out ws list a → a ≡ b → Answers len all out ws list b
 answers-as x e = record { same = x .same ∙ e; filled = x .filled; others = x .others }
 
 -- a set-up that is refused, and one that is not
@@ -77,7 +77,9 @@ module _ (t : Bool) (s : List ℕ) (f : First) (m : Memory) (list : List ℕ) wh
   closed-says i = sym (ap (λ v. carriedOut t m list (whole (f .n) (f .w) (f .initial) v)) (i .same))
 
   -- a right text, by what its list keeps
-  pub kept-says : {list₀ entries : List ℕ} {to : ℕ} {Q : List ℕ → Type 0} → length list₀ ≡ 60001 → Keeps list₀ entries 0 to (λ es. ItemsEnded s (f .items) deepest es) Q → startedWith t f (entriesIn to entries) m list ≡ saysAfter t s f m list
+  pub kept-says : {list₀ entries : List ℕ} {to : ℕ} {Q : List ℕ → Type 0} → length list₀ ≡ 60001
+      → Keeps list₀ entries 0 to (λ es. ItemsEnded s (f .items) deepest es) Q
+      → startedWith t f (entriesIn to entries) m list ≡ saysAfter t s f m list
   unfolding whole
   kept-says {list₀} {entries} {to} l k =
       let es = k .says in
@@ -91,42 +93,51 @@ module _ (t : Bool) (s : List ℕ) (f : First) (m : Memory) (list : List ℕ) wh
       same-started es = ap (λ (x : Progress). cond (eqb (prepared .0) 0) (ended x) (ended (begun t m list (prepared .0)))) (kept-run es (begun t (prepared .1) list 0) refl)
 
 -- what the entries leave
-pub record Carried (len : ℕ) (h h′ : Held) (e : Ended) : Type 0 where
+pub record Carried (len : ℕ) (h h′ : RunState) (e : Ended) : Type 0 where
   pub kept : Kept len h h′
   pub same : ended (progress len h′) ≡ e
 
 -- "then 1, 2, 3, then the set-up, then the entries"
-module _ {len : ℕ} {all : Records} {list : List ℕ} (t : Bool) (f : First) (es : List Entry) (b : Bench) (ws : List ℕ) (x : Lending len all list) {k : ℕ} (e : k ≡ setUpNumber (f .n) (f .w) len (length ws) (f .w)) where
-  abbrev lent : Memory
-  lent = memoryOf b all len ws
+module _ {len : ℕ} {all : Records} {list : List ℕ} (t : Bool) (f : First) (es : List Entry) (b : Bench)
+    (ws : List ℕ) (x : Lending len all list) {k : ℕ} (e : k ≡ setUpNumber (f .n) (f .w) len (length ws) (f .w))
+  where
+    abbrev lent : Memory
+    lent = memoryOf b all len ws
 
-  abbrev value : List ℕ
-  value = replicate (f .w) (f .initial)
+    abbrev value : List ℕ
+    value = replicate (f .w) (f .initial)
 
-  same-number : k ≡ setUpRefusal lent (f .n) (f .w) value
-  same-number = e ∙ set-up-same b all len ws (f .n) (f .w) (f .initial) (x .few) (x .filled)
+    same-number : k ≡ setUpRefusal lent (f .n) (f .w) value
+    same-number = e ∙ set-up-same b all len ws (f .n) (f .w) (f .initial) (x .few) (x .filled)
 
-  pub refused-start : (k ≡ 0 → ⊥) → refusedWith k lent list ≡ startedWith t f es lent list
-  unfolding setUp
-  refused-start n =
-      ap (λ (j : ℕ). refusedWith j lent list) same-number ∙
-      sym (not-begun (setUpRefusal lent (f .n) (f .w) value) (λ m. ended (carryAll es (begun t m list 0))) (atSetUp lent (f .n) (f .w) value) lent (refusedWith (setUpRefusal lent (f .n) (f .w) value) lent list) (λ z. n (same-number ∙ z)))
+    pub refused-start : (k ≡ 0 → ⊥) → refusedWith k lent list ≡ startedWith t f es lent list
+    unfolding setUp
+    refused-start n =
+        ap (λ (j : ℕ). refusedWith j lent list) same-number ∙
+        sym (not-begun (setUpRefusal lent (f .n) (f .w) value) (λ m. ended (carryAll es (begun t m list 0)))
+        (atSetUp lent (f .n) (f .w) value) lent (refusedWith (setUpRefusal lent (f .n) (f .w) value) lent list)
+        (λ z. n (same-number ∙ z)))
 
-  pub carried-start : {h h′ : Held} (small : f .initial ≤ largest) (z : k ≡ 0) → h ≡ first t b ws x (f .n) (f .w) (f .initial) small (sym e ∙ z) → Becomes len (carryAll es) h h′ → Carried len h h′ (startedWith t f es lent list)
-  unfolding setUp
-  carried-start {h} {h′} small z q i = record {
-    kept = i .kept;
-    same = ap ended (i .same ∙ ap (λ (g : Held). carryAll es (progress len g)) q ∙ ap (carryAll es) (begun-same t b ws x (f .n) (f .w) (f .initial) small (sym e ∙ z)))
-        ∙ sym (is-begun (setUpRefusal lent (f .n) (f .w) value) (λ m. ended (carryAll es (begun t m list 0))) (atSetUp lent (f .n) (f .w) value) lent (refusedWith (setUpRefusal lent (f .n) (f .w) value) lent list) (sym same-number ∙ z));
-  }
+    pub carried-start : {h h′ : RunState} (small : f .initial ≤ largest) (z : k ≡ 0)
+        → h ≡ first t b ws x (f .n) (f .w) (f .initial) small (sym e ∙ z) → Becomes len (carryAll es) h h′
+        → Carried len h h′ (startedWith t f es lent list)
+    unfolding setUp
+    carried-start {h} {h′} small z q i = record {
+      kept = i .kept;
+      same = ap ended (i .same ∙ ap (λ (g : RunState). carryAll es (progress len g)) q ∙ ap (carryAll es) (begun-same t b ws x (f .n) (f .w) (f .initial) small (sym e ∙ z)))
+          ∙ sym (is-begun (setUpRefusal lent (f .n) (f .w) value) (λ m. ended (carryAll es (begun t m list 0)))
+          (atSetUp lent (f .n) (f .w) value) lent (refusedWith (setUpRefusal lent (f .n) (f .w) value) lent list)
+          (sym same-number ∙ z));
+    }
 
 -- in both styles there is room for a listing
 room-most : (t : Bool) {k : ℕ} → roomNeeded t ≤ k → roomNeeded false ≤ k
 room-most true l = omega arith
 room-most false l = l
 
-pub lending-few : {k : ℕ} {all : Records} {list : List ℕ} (t : Bool) (len : ℕ) → k ≡ fewOf len → all ≡ gathered (take len (all .list)) noProcess 16 → roomNeeded t ≤ length list → Lending k all list
-lending-few {all = all} t len e g l = rw e (record { few = few-small len; filled = filled-few (gathered-filled len all g); room = room-most t l })
+pub lending-sixteen : {k : ℕ} {all : Records} {list : List ℕ} (t : Bool) (len : ℕ) → k ≡ atMostSixteen len
+    → all ≡ gathered (take len (all .list)) noProcess 16 → roomNeeded t ≤ length list → Lending k all list
+lending-sixteen {all = all} t len e g l = rw e (record { few = sixteen-most len; filled = filled-sixteen (gathered-filled len all g); room = room-most t l })
 
 module _ (t : Bool) (m : Memory) (text list : List ℕ) where
   pub run-14 : length list < roomNeeded t → record { number = 14; entries = 0; written = 0; memory = m; listing = list } ≡ runWith t m text list
@@ -150,16 +161,30 @@ module _ (t : Bool) (m : Memory) (text list : List ℕ) where
     run-headed f h x = sym (ap (carriedOut t m list) (headed-reads x deepest)) ∙ run-read h
 
 -- over all lent records
-pub answered : {k : ℕ} {out : Whole} {ws′ list′ : List ℕ} (len : ℕ) (b : Bench) (all : Records) (ws : List ℕ) (g : Memory → Ended) → k ≡ fewOf len → all ≡ gathered (take len (all .list)) noProcess 16
+pub answered : {k : ℕ} {out : Finished} {ws′ list′ : List ℕ} (len : ℕ) (b : Bench) (all : Records) (ws : List ℕ)
+    (g : Memory → Ended) → k ≡ atMostSixteen len → all ≡ gathered (take len (all .list)) noProcess 16
     → Answers k all out ws′ list′ (g (memoryOf b all k ws))
-    → (_≡_ {A = Ended} (record { number = out .number; entries = out .entries; written = out .written; memory = memoryOf (out .bench) (out .all) len ws′; listing = list′ }) (g (memoryOf b all len ws))) × (out .all ≡ gathered (take len (out .all .list)) noProcess 16) × Others all out
+    → (_≡_ {A = Ended} (record {
+      number = out .number;
+      entries = out .entries;
+      written = out .written;
+      memory = memoryOf (out .bench) (out .all) len ws′;
+      listing = list′;
+    })
+    (g (memoryOf b all len ws))) × (out .all ≡ gathered (take len (out .all .list)) noProcess 16) × Others all out
 answered {k} {out} {ws′} {list′} len b all ws g e q x =
-    let f : Filled (fewOf len) (out .all .list) = subst (λ (j : ℕ). Filled j (out .all .list)) e (x .filled) in
-    let a : take k (all .list) ≡ take len (all .list) = ap (λ (j : ℕ). take j (all .list)) e ∙ few-take len (all .list) (gathered-filled len all q .sixteen) in
-    let o : take len (out .all .list) ≡ take k (out .all .list) = sym (ap (λ (j : ℕ). take j (out .all .list)) e ∙ few-take len (out .all .list) (f .sixteen)) in (
-      ap (λ (l : List Process). record { number = out .number; entries = out .entries; written = out .written; memory = record { bench = out .bench; records = l; words = ws′ }; listing = list′ }) o ∙ x .same
+    let f : Filled (atMostSixteen len) (out .all .list) = subst (λ (j : ℕ). Filled j (out .all .list)) e (x .filled) in
+    let a : take k (all .list) ≡ take len (all .list) = ap (λ (j : ℕ). take j (all .list)) e ∙ take-sixteen len (all .list) (gathered-filled len all q .sixteen) in
+    let o : take len (out .all .list) ≡ take k (out .all .list) = sym (ap (λ (j : ℕ). take j (out .all .list)) e ∙ take-sixteen len (out .all .list) (f .sixteen)) in (
+      ap (λ (l : List Process). record {
+        number = out .number;
+        entries = out .entries;
+        written = out .written;
+        memory = record { bench = out .bench; records = l; words = ws′ };
+        listing = list′;
+      }) o ∙ x .same
           ∙ ap (λ (l : List Process). g (record { bench = b; records = l; words = ws })) a,
-      filled-gathered len (out .all) (few-filled f),
+      filled-gathered len (out .all) (sixteen-filled f),
       x .others,
     )
 

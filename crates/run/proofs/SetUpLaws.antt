@@ -18,7 +18,9 @@ recordsSet list n p = sets list 0 (map processAtSetUp (numbers (2 * n) p))
 
 mapped-next : (a k : ℕ) → map processAtSetUp (numbers a (suc k)) ≡ map processAtSetUp (numbers a k) ++ (processAtSetUp (a + k) ∷ [])
 mapped-next a zero = ap (λ (j : ℕ). processAtSetUp j ∷ []) (sym (add-zero a))
-mapped-next a (suc k) = ap (λ (l : List Process). processAtSetUp a ∷ l) (mapped-next (suc a) k ∙ ap (λ (j : ℕ). map processAtSetUp (numbers (suc a) k) ++ (processAtSetUp j ∷ [])) (suc-add a k ∙ sym (add-suc a k)))
+mapped-next a (suc k) =
+    ap (λ (l : List Process). processAtSetUp a ∷ l) (mapped-next (suc a) k
+    ∙ ap (λ (j : ℕ). map processAtSetUp (numbers (suc a) k) ++ (processAtSetUp j ∷ [])) (suc-add a k ∙ sym (add-suc a k)))
 
 pub mapped-length : (a k : ℕ) → length (map processAtSetUp (numbers a k)) ≡ k
 mapped-length a zero = refl

@@ -23,7 +23,7 @@ use Rattle.listing.specs.Writing.{Wrote}
 use Rattle.listing.proofs.WritingLaws.{kept}
 use Rattle.run.specs.Reached.{Reached}
 use Rattle.run.specs.TextRun.{Progress, mostEntries, roomNeeded, lineOf, traceLine, linesOf, counted, replied, processOf, orderOf, valueOf, commanded, single}
-use Rattle.run.specs.Held.{Held, held, progress, stoppedRun, Sound, Ready, Kept, Becomes, Small, answerLine}
+use Rattle.run.specs.RunState.{RunState, stateOf, progress, stoppedRun, Sound, Ready, Kept, Becomes, Small, answerLine}
 use Rattle.run.proofs.WordLaws.{Below, Every, every-replicate, every-none}
 use Rattle.run.proofs.RecordLaws.{filled-set}
 use Rattle.run.proofs.ReachedLaws.{reached-command}
@@ -46,17 +46,17 @@ line-same m p (ScAnswered t k) = refl
 line-same m p (VlAnswered t k) = refl
 
 -- a run that stops stays sound
-pub stops : {len : ℕ} {h : Held} (k : ℕ) → (k ≡ 0 → ⊥) → k ≤ 15 → Sound len h → Kept len h (held (stoppedRun (h .run) k) (h .words) (h .listing))
+pub stops : {len : ℕ} {h : RunState} (k : ℕ) → (k ≡ 0 → ⊥) → k ≤ 15 → Sound len h → Kept len h (stateOf (stoppedRun (h .run) k) (h .words) (h .listing))
 stops k n l s = record {
   sound = record { few = s .few; filled = s .filled; entries = s .entries; stop = l; room = s .room; going = λ z. absurd (n z) };
   words = refl;
   listing = refl;
 }
 
-pub stays : {len : ℕ} {h : Held} → Sound len h → Kept len h h
+pub stays : {len : ℕ} {h : RunState} → Sound len h → Kept len h h
 stays s = record { sound = s; words = refl; listing = refl }
 
-module _ {len : ℕ} {h : Held} (e : Entry) (out : Outcome) (ws : List ℕ) (small : Small e) (s : Sound len h) (r : Ready h)
+module _ {len : ℕ} {h : RunState} (e : Entry) (out : Outcome) (ws : List ℕ) (small : Small e) (s : Sound len h) (r : Ready h)
     (d : _≡_ {A = Outcome × List ℕ} (out, ws) (decided (h .run .bench) (h .run .all .list) len (processOf e) (orderOf e) (valueOf (h .run .bench .w) e) (h .words))) where
   abbrev m : Memory
   m = progress len h .memory
@@ -72,7 +72,7 @@ module _ {len : ℕ} {h : Held} (e : Entry) (out : Outcome) (ws : List ℕ) (sma
   stored = ap (storedBack (take len (h .run .all .list))) d ∙ decided-command (h .run .bench) (h .run .all .list) len (processOf e) (orderOf e) v (h .words) (s .few) (s .filled)
 
   -- refused: the run stops, and nothing changes
-  pub refused-becomes : (numberOf (out .reply) ≡ 0 → ⊥) → Becomes len (commanded e) h (held (stoppedRun (h .run) (numberOf (out .reply))) ws (h .listing))
+  pub refused-becomes : (numberOf (out .reply) ≡ 0 → ⊥) → Becomes len (commanded e) h (stateOf (stoppedRun (h .run) (numberOf (out .reply))) ws (h .listing))
   refused-becomes n =
       let u = unchanged (h .run .bench) (h .run .all .list) len (processOf e) (orderOf e) v (h .words) (s .filled .sixteen) cases n in
       rw (u .words) (record {
@@ -105,8 +105,16 @@ module _ {len : ℕ} {h : Held} (e : Entry) (out : Outcome) (ws : List ℕ) (sma
 
     -- obeyed: one entry more, with its lines
     module _ (list : List ℕ) (next : ℕ) (w : Wrote (h .listing) (h .run .written) (shown ++ line) list next) where
-      abbrev after : Held
-      after = held (record { bench = out .bench; all = record { list = set (h .run .all .list) (out .at) (out .process) }; written = next; entries = h .run .entries + 1; stop = 0; traced = h .run .traced }) ws list
+      abbrev after : RunState
+      after =
+          stateOf (record {
+            bench = out .bench;
+            all = record { list = set (h .run .all .list) (out .at) (out .process) };
+            written = next;
+            entries = h .run .entries + 1;
+            stop = 0;
+            traced = h .run .traced;
+          }) ws list
 
       lent-place : out .at < len
       lent-place = let x = did in omega (arith, x .place, x .process, x .records)
@@ -116,14 +124,19 @@ module _ {len : ℕ} {h : Held} (e : Entry) (out : Outcome) (ws : List ℕ) (sma
 
       after-same : progress len after ≡ counted (progress len h) left (linesOf (progress len h) e (out .reply, left))
       after-same =
-          let t : take len (set (h .run .all .list) (out .at) (out .process)) ≡ set (take len (h .run .all .list)) (out .at) (out .process) = take-set-lt len (h .run .all .list) (out .at) (out .process) lent-place in
+          let t : take len (set (h .run .all .list) (out .at) (out .process))
+          ≡ set (take len (h .run .all .list)) (out .at) (out .process)
+          = take-set-lt len (h .run .all .list) (out .at) (out .process) lent-place in
           let l : line ≡ lineOf left (processOf e) (out .reply) = line-same left (processOf e) (out .reply) in
           let p = w .place in
           let q = w .list in
           rw (t, p, q, l)
 
       after-reached : Reached (progress len after .memory)
-      after-reached = subst Reached (sym (ap (λ (o : Reply × Memory). o .1) stored) ∙ sym (ap (λ (y : Progress). y .memory) after-same)) (reached-command (s .going (r .goes) .reached) (processOf e) (orderOf e) v)
+      after-reached =
+          subst Reached
+          (sym (ap (λ (o : Reply × Memory). o .1) stored) ∙ sym (ap (λ (y : Progress). y .memory) after-same))
+          (reached-command (s .going (r .goes) .reached) (processOf e) (orderOf e) v)
 
       pub answered-becomes : Becomes len (commanded e) h after
       answered-becomes = let x = did in record {
@@ -143,13 +156,13 @@ module _ {len : ℕ} {h : Held} (e : Entry) (out : Outcome) (ws : List ℕ) (sma
       }
 
 -- "before each entry 12, then 14"
-module _ {len : ℕ} {h : Held} (e : Entry) (s : Sound len h) where
-  pub single-12 : h .run .stop ≡ 0 → mostEntries ≤ h .run .entries → Becomes len (single e) h (held (stoppedRun (h .run) 12) (h .words) (h .listing))
+module _ {len : ℕ} {h : RunState} (e : Entry) (s : Sound len h) where
+  pub single-12 : h .run .stop ≡ 0 → mostEntries ≤ h .run .entries → Becomes len (single e) h (stateOf (stoppedRun (h .run) 12) (h .words) (h .listing))
   unfolding single
   single-12 z m = record { same = simp (eq-eqb (h .run .stop) 0 z, le-leb mostEntries (h .run .entries) m); kept = stops 12 (λ y. omega arith) (omega arith) s }
 
   module _ (z : h .run .stop ≡ 0) (m : h .run .entries < mostEntries) where
-    pub single-14 : length (h .listing) - h .run .written < roomNeeded (h .run .traced) → Becomes len (single e) h (held (stoppedRun (h .run) 14) (h .words) (h .listing))
+    pub single-14 : length (h .listing) - h .run .written < roomNeeded (h .run .traced) → Becomes len (single e) h (stateOf (stoppedRun (h .run) 14) (h .words) (h .listing))
     unfolding single
     single-14 l = record {
       same = simp (eq-eqb (h .run .stop) 0 z, lt-leb mostEntries (h .run .entries) m, lt-ltb (length (h .listing) - h .run .written) (roomNeeded (h .run .traced)) l);
@@ -159,7 +172,7 @@ module _ {len : ℕ} {h : Held} (e : Entry) (s : Sound len h) where
     pub single-ready : roomNeeded (h .run .traced) ≤ length (h .listing) - h .run .written → Ready h
     single-ready l = record { goes = z; entries = m; room = omega (arith, s .room) }
 
-    pub single-commanded : {h′ : Held} → roomNeeded (h .run .traced) ≤ length (h .listing) - h .run .written → Becomes len (commanded e) h h′ → Becomes len (single e) h h′
+    pub single-commanded : {h′ : RunState} → roomNeeded (h .run .traced) ≤ length (h .listing) - h .run .written → Becomes len (commanded e) h h′ → Becomes len (single e) h h′
     unfolding single
     single-commanded l b = record {
       same = b .same ∙ simp (eq-eqb (h .run .stop) 0 z, lt-leb mostEntries (h .run .entries) m, le-ltb (length (h .listing) - h .run .written) (roomNeeded (h .run .traced)) l);

@@ -15,17 +15,17 @@ use Rattle.model.specs.Refusals.{row1, row2}
 use Rattle.model.specs.SetUp.{numbers, processAtSetUp, recordsAtSetUp, wordsAtSetUp, benchAtSetUp, atSetUp, setUpRefusal, setUp}
 use Rattle.model.specs.Machine.{Memory, Shaped}
 use Rattle.tables.specs.declared.records.Records.{Records}
-use Rattle.rows.specs.Lengths.{row3Lent}
-use Rattle.setup.specs.SetUpByValue.{row8Always, setUpNumber, set-up-number, Accepted}
+use Rattle.model.specs.Refusals.{row3, row8always}
+use Rattle.setup.specs.SetUpByValue.{setUpNumber, set-up-number, Accepted}
 use Rattle.rows.proofs.RowLaws.{cleared, neither}
 use Rattle.setup.proofs.SetUpLaws.{first-row, set-up-fits}
 use Rattle.notation.specs.declared.Entry.{Entry}
 use Rattle.notation.specs.Grammar.{largest}
-use Rattle.run.specs.Held.{Held, held, progress, Filled, Sound}
+use Rattle.run.specs.RunState.{RunState, stateOf, progress, Filled, Sound}
 use Rattle.run.specs.Carried.{Carries}
 use Rattle.run.specs.Reached.{Reached}
 use Rattle.run.specs.TextRun.{Progress, begun}
-use Rattle.run.specs.Whole.{freshRun, memoryOf, Lending}
+use Rattle.run.specs.Finished.{freshRun, memoryOf, Lending}
 use Rattle.run.specs.declared.state.Run.{Run}
 use Rattle.run.proofs.WordLaws.{Every, every-replicate, take-replicate}
 use Rattle.run.proofs.RecordLaws.{filled-set, lent-length}
@@ -35,18 +35,18 @@ use Rattle.run.proofs.SetUpLaws.{mapped-length}
 
 pub number-small : (n w len words value : ℕ) → setUpNumber n w len words value ≤ 9
 unfolding setUpNumber
-number-small n w len words value = first-small (row1 n ∷ row2 w ∷ row3Lent n w len words ∷ row8Always w value ∷ []) refl
+number-small n w len words value = first-small (row1 n ∷ row2 w ∷ row3 n w len words ∷ row8always w value ∷ []) refl
 
 -- row 3 leaves enough records
 records-lent : (n w len words value : ℕ) → setUpNumber n w len words value ≡ 0 → n ≤ len
 unfolding setUpNumber
 records-lent n w len words value e =
-    let r8 : ℕ = cond (row8Always w value .holds) 8 0 in
-    let r3 : ℕ = cond (row3Lent n w len words .holds) 3 r8 in
+    let r8 : ℕ = cond (row8always w value .holds) 8 0 in
+    let r3 : ℕ = cond (row3 n w len words .holds) 3 r8 in
     let r2 : ℕ = cond (row2 w .holds) 2 r3 in
     let c1 = cleared (row1 n .holds) 0 r2 e in
     let c2 = cleared (row2 w .holds) 1 r3 (c1 .1) in
-    let c3 = cleared (row3Lent n w len words .holds) 2 r8 (c2 .1) in
+    let c3 = cleared (row3 n w len words .holds) 2 r8 (c2 .1) in
     ltb-false len n (neither (ltb words (5 * n * w)) (ltb len n) (c3 .0) .1)
 
 -- the number that the code finds is the set-up's
@@ -85,7 +85,8 @@ words-small ws n w k a h i l =
     let u : List ℕ = replicate w k ++ rest in
     let f = first-row n w (a .n-some) in
     let m : length u ≡ 5 * n * w = length-append (replicate w k) rest ∙ omega (arith, length-replicate w k, length-replicate {A = ℕ} (5 * n * w - w) 0) in
-    rw (sets-eq u ws 0 (omega (arith, a .words-lent)), List·getD-append u (drop (0 + length u) ws) 0 i (omega arith)) (every-append (replicate w k) rest (every-replicate w k h) (every-replicate (5 * n * w - w) 0 (omega arith)) .at i)
+    rw (sets-eq u ws 0 (omega (arith, a .words-lent)), List·getD-append u (drop (0 + length u) ws) 0 i (omega arith))
+    (every-append (replicate w k) rest (every-replicate w k h) (every-replicate (5 * n * w - w) 0 (omega arith)) .at i)
 
 module _ {len : ℕ} {all : Records} {list : List ℕ} (t : Bool) (b : Bench) (ws : List ℕ) (x : Lending len all list) where
   module _ (n w k : ℕ) (small : k ≤ largest) (z : setUpNumber n w len (length ws) w ≡ 0) where
@@ -98,11 +99,14 @@ module _ {len : ℕ} {all : Records} {list : List ℕ} (t : Bool) (b : Bench) (w
     in-lent : 0 + length newRecords ≤ len
     in-lent = omega (arith, mapped-length (2 * n) n, records-lent n w len (length ws) w z)
 
-    abbrev pub first : Held
-    first = held (freshRun (benchAtSetUp b n w) (record { list = recordsAtSetUp (all .list) n }) 0 t) (wordsAtSetUp ws n w (replicate w k)) list
+    abbrev pub first : RunState
+    first = stateOf (freshRun (benchAtSetUp b n w) (record { list = recordsAtSetUp (all .list) n }) 0 t) (wordsAtSetUp ws n w (replicate w k)) list
 
     pub begun-same : progress len first ≡ begun t (atSetUp (memoryOf b all len ws) n w (replicate w k)) list 0
-    begun-same = ap (λ (l : List Process). begun t (record { bench = benchAtSetUp b n w; records = l; words = wordsAtSetUp ws n w (replicate w k) }) list 0) (take-sets len (all .list) 0 newRecords in-lent)
+    begun-same =
+        ap (λ (l : List Process).
+        begun t (record { bench = benchAtSetUp b n w; records = l; words = wordsAtSetUp ws n w (replicate w k) }) list 0)
+        (take-sets len (all .list) 0 newRecords in-lent)
 
     set-up-done : setUp (memoryOf b all len ws) n w (replicate w k) ≡ (0, atSetUp (memoryOf b all len ws) n w (replicate w k))
     unfolding setUp
@@ -126,14 +130,14 @@ module _ {len : ℕ} {all : Records} {list : List ℕ} (t : Bool) (b : Bench) (w
     }
 
     -- what the code holds after its set-up
-    pub first-held : {r : Run} {b′ : Bench} {all′ : Records} {ws′ value : List ℕ} → r ≡ freshRun b′ all′ 0 t → b′ ≡ benchAtSetUp b n w → all′ ≡ record { list = recordsAtSetUp (all .list) n }
-        → ws′ ≡ wordsAtSetUp ws n w (take w value) → value ≡ replicate 64 k → held r ws′ list ≡ first
-    first-held {value = value} er eb ea ew ev =
+    pub first-state : {r : Run} {b′ : Bench} {all′ : Records} {ws′ value : List ℕ} → r ≡ freshRun b′ all′ 0 t → b′ ≡ benchAtSetUp b n w → all′ ≡ record { list = recordsAtSetUp (all .list) n }
+        → ws′ ≡ wordsAtSetUp ws n w (take w value) → value ≡ replicate 64 k → stateOf r ws′ list ≡ first
+    first-state {value = value} er eb ea ew ev =
         let v : take w value ≡ replicate w k = ap (take w) ev ∙ take-replicate w 64 k (accepted .w-most) in
         rw (er, eb, ea, ew, v)
 
     -- and what the entries leave of the records from n on
-    pub others-left : {h h′ : Held} {es : List Entry} {at : ℕ} → h ≡ first → Carries len es h h′ at → (j : ℕ) → n ≤ j → getD (h′ .run .all .list) j noProcess ≡ getD (all .list) j noProcess
+    pub others-left : {h h′ : RunState} {es : List Entry} {at : ℕ} → h ≡ first → Carries len es h h′ at → (j : ℕ) → n ≤ j → getD (h′ .run .all .list) j noProcess ≡ getD (all .list) j noProcess
     others-left {h} {h′} e x j l =
         let above : n ≤ j = l in
-        x .others j (rw e above) ∙ ap (λ (y : Held). getD (y .run .all .list) j noProcess) e ∙ sets-above (all .list) 0 newRecords j (omega (arith, mapped-length (2 * n) n))
+        x .others j (rw e above) ∙ ap (λ (y : RunState). getD (y .run .all .list) j noProcess) e ∙ sets-above (all .list) 0 newRecords j (omega (arith, mapped-length (2 * n) n))

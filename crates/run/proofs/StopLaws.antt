@@ -31,10 +31,10 @@ use Rattle.notation.proofs.Theorems.{read-is-right, fault-is-wrong}
 use Rattle.run.specs.declared.text_run.First.{First}
 use Rattle.run.specs.TextRun.{Progress, begun, carry, carryAll, roomNeeded, longestText}
 use Rattle.run.specs.StopPlaces.{stopIndex, itemPlace, startedPlace, PlaceInText, StopsAt}
-use Rattle.run.specs.Held.{Held, progress}
+use Rattle.run.specs.RunState.{RunState, progress}
 use Rattle.run.specs.Carried.{entriesIn, placesIn, Carries}
-use Rattle.run.specs.Whole.{memoryOf, fewOf, Lending, placeWith}
-use Rattle.run.proofs.RecordLaws.{gathered-filled, few-take}
+use Rattle.run.specs.Finished.{memoryOf, atMostSixteen, Lending, placeWith}
+use Rattle.run.proofs.RecordLaws.{gathered-filled, take-sixteen}
 use Rattle.run.proofs.LoopLaws.{count-entries}
 use Rattle.run.proofs.KeptLaws.{kept-run, kept-index}
 use Rattle.run.proofs.StartLaws.{set-up-same, first, begun-same}
@@ -78,7 +78,7 @@ place-at : (count at : ℕ) (entries : List ℕ) → at < count → getD (places
 place-at count at entries l = List·getD-map placeIn (take count entries) at 0 ∙ ap placeIn (getD-take count entries at 0 l)
 
 -- what the loop leaves
-module _ {len count at : ℕ} (entries : List ℕ) {h h′ : Held} (fits : count ≤ length entries) (z : h .run .stop ≡ 0) (x : Carries len (entriesIn count entries) h h′ at) where
+module _ {len count at : ℕ} (entries : List ℕ) {h h′ : RunState} (fits : count ≤ length entries) (z : h .run .stop ≡ 0) (x : Carries len (entriesIn count entries) h h′ at) where
   abbrev stop-is : h′ .run .stop ≡ carryAll (entriesIn count entries) (progress len h) .stop
   stop-is = ap (λ (s : Progress). s .stop) (x .becomes .same)
 
@@ -112,11 +112,11 @@ module _ {len : ℕ} {all : Records} {list : List ℕ} (t : Bool) (f : First) (e
   refused-place n =
       sym (not-begun (setUpRefusal lent (f .n) (f .w) value) (λ m. itemPlace es ps (begun t m list 0)) (atSetUp lent (f .n) (f .w) value) lent 0 (λ z. n (same-number ∙ z)))
 
-  pub begun-place : {h : Held} (small : f .initial ≤ largest) (z : k ≡ 0) → h ≡ first t b ws x (f .n) (f .w) (f .initial) small (sym e ∙ z)
+  pub begun-place : {h : RunState} (small : f .initial ≤ largest) (z : k ≡ 0) → h ≡ first t b ws x (f .n) (f .w) (f .initial) small (sym e ∙ z)
       → itemPlace es ps (progress len h) ≡ placeWith t f es ps lent list
   unfolding setUp
   begun-place {h} small z q =
-      ap (λ (g : Held). itemPlace es ps (progress len g)) q
+      ap (λ (g : RunState). itemPlace es ps (progress len g)) q
       ∙ ap (itemPlace es ps) (begun-same t b ws x (f .n) (f .w) (f .initial) small (sym e ∙ z))
       ∙ sym (is-begun (setUpRefusal lent (f .n) (f .w) value) (λ m. itemPlace es ps (begun t m list 0)) (atSetUp lent (f .n) (f .w) value) lent 0 (sym same-number ∙ z))
 
@@ -171,8 +171,8 @@ module _ {t : Bool} {m : Memory} {text list : List ℕ} where
   stops-looked r s p = record { no-room = λ l. absurd (omega arith); too-long = λ l. absurd (omega arith); looked = λ r s. p }
 
 -- over all lent records
-pub place-few : {k place : ℕ} {t : Bool} {text list : List ℕ} (len : ℕ) (b : Bench) (all : Records) (ws : List ℕ) → k ≡ fewOf len → all ≡ gathered (take len (all .list)) noProcess 16
+pub place-sixteen : {k place : ℕ} {t : Bool} {text list : List ℕ} (len : ℕ) (b : Bench) (all : Records) (ws : List ℕ) → k ≡ atMostSixteen len → all ≡ gathered (take len (all .list)) noProcess 16
     → PlaceInText t (memoryOf b all k ws) text list place → PlaceInText t (memoryOf b all len ws) text list place
-place-few {k} {place} {t} {text} {list} len b all ws e q x =
-    let a : take k (all .list) ≡ take len (all .list) = ap (λ (j : ℕ). take j (all .list)) e ∙ few-take len (all .list) (gathered-filled len all q .sixteen) in
+place-sixteen {k} {place} {t} {text} {list} len b all ws e q x =
+    let a : take k (all .list) ≡ take len (all .list) = ap (λ (j : ℕ). take j (all .list)) e ∙ take-sixteen len (all .list) (gathered-filled len all q .sixteen) in
     subst (λ (l : List Process). PlaceInText t (record { bench = b; records = l; words = ws }) text list place) a x

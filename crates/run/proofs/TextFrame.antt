@@ -56,7 +56,9 @@ module _ (t : List Process) where
   reply-frame : (s : Progress) → Sixteen s → (e : Entry) (out : Reply × Memory) → (numberOf (out .0) ≡ 0 → processOf e < 16) → replied (longer t s) e (behind t out) ≡ longer t (replied s e out)
   reply-frame s h e out below = go (eqb (numberOf (out .0)) 0) refl
     where
-      go : (b : Bool) → eqb (numberOf (out .0)) 0 ≡ b → cond b (counted (longer t s) (withRecords (out .1) (out .1 .records ++ t)) (linesOf (longer t s) e (behind t out))) (stopped (numberOf (out .0)) (longer t s))
+      go : (b : Bool) → eqb (numberOf (out .0)) 0 ≡ b → cond b
+          (counted (longer t s) (withRecords (out .1) (out .1 .records ++ t)) (linesOf (longer t s) e (behind t out)))
+          (stopped (numberOf (out .0)) (longer t s))
           ≡ longer t (cond b (counted s (out .1) (linesOf s e out)) (stopped (numberOf (out .0)) s))
       go true x = ap (λ l. counted (longer t s) (withRecords (out .1) (out .1 .records ++ t)) l) (same-lines s h e (below (eqb-true _ 0 x)) out)
       go false x = refl
@@ -75,7 +77,9 @@ module _ (t : List Process) where
     unfolding single
     single-frame = go (eqb (s .stop) 0) (leb mostEntries (s .entries)) (ltb (length (s .listing) - s .written) (roomNeeded (s .traced)))
       where
-        go : (a b c : Bool) → cond a (cond b (stopped 12 (longer t s)) (cond c (stopped 14 (longer t s)) (commanded e (longer t s)))) (longer t s) ≡ longer t (cond a (cond b (stopped 12 s) (cond c (stopped 14 s) (commanded e s))) s)
+        go : (a b c : Bool)
+            → cond a (cond b (stopped 12 (longer t s)) (cond c (stopped 14 (longer t s)) (commanded e (longer t s)))) (longer t s)
+            ≡ longer t (cond a (cond b (stopped 12 s) (cond c (stopped 14 s) (commanded e s))) s)
         go false b c = refl
         go true true c = refl
         go true false true = refl
@@ -174,7 +178,9 @@ module _ (t : List Process) where
     abbrev more : Memory
     more = withRecords m (m .records ++ t)
 
-    started-frame : (a : Said) → started style more listing a (setUp more (a .n) (a .w) (replicate (a .w) (a .initial))) ≡ endedLonger (started style m listing a (setUp m (a .n) (a .w) (replicate (a .w) (a .initial))))
+    started-frame : (a : Said)
+        → started style more listing a (setUp more (a .n) (a .w) (replicate (a .w) (a .initial)))
+        ≡ endedLonger (started style m listing a (setUp m (a .n) (a .w) (replicate (a .w) (a .initial))))
     started-frame a = ap (started style more listing a) (set-up-frame m t h (a .n) (a .w) (replicate (a .w) (a .initial))) ∙ go (eqb (prepared .0) 0)
       where
         prepared : ℕ × Memory
@@ -193,8 +199,11 @@ module _ (t : List Process) where
     unfolding runWith
     run-frame text = go (ltb (length listing) (roomNeeded style)) (ltb longestText (length text))
       where
-        go : (a b : Bool) → cond a (record { number = 14; entries = 0; written = 0; memory = more; listing = listing }) (cond b (ended (begun style more listing 12)) (carriedOut style more listing (read text)))
-            ≡ endedLonger (cond a (record { number = 14; entries = 0; written = 0; memory = m; listing = listing }) (cond b (ended (begun style m listing 12)) (carriedOut style m listing (read text))))
+        go : (a b : Bool) → cond a
+            (record { number = 14; entries = 0; written = 0; memory = more; listing = listing })
+            (cond b (ended (begun style more listing 12)) (carriedOut style more listing (read text)))
+            ≡ endedLonger (cond a (record { number = 14; entries = 0; written = 0; memory = m; listing = listing })
+            (cond b (ended (begun style m listing 12)) (carriedOut style m listing (read text))))
         go true b = refl
         go false true = refl
         go false false = carried-frame (read text)
@@ -215,7 +224,14 @@ first-sixteen-in style m text listing = go (decLe 16 (length (m .records)))
     go (no h) =
         let short : length (m .records) ≤ 16 = omega arith in
         rw (drop-of-length-le (m .records) short, take-all 16 (m .records) short)
-        (ap (λ rs. record { number = here .number; entries = here .entries; written = here .written; memory = withRecords (here .memory) rs; listing = here .listing }) (sym (append-none (here .memory .records))))
+        (ap (λ rs. record {
+          number = here .number;
+          entries = here .entries;
+          written = here .written;
+          memory = withRecords (here .memory) rs;
+          listing = here .listing;
+        })
+        (sym (append-none (here .memory .records))))
       where
         here : Ended
         here = runWith style m text listing

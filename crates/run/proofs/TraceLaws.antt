@@ -35,7 +35,7 @@ use Rattle.access.proofs.AccessLaws.{access-seen}
 use Rattle.access.proofs.Lengths.{SmallAccess, step-length, start-length}
 use Rattle.access.proofs.SmallLaws.{row-9-parts, access-small}
 use Rattle.run.specs.TextRun.{mostEntries, processOf, answers, accessNow, entryLine, traceLine}
-use Rattle.run.specs.Held.{Held, progress, Sound, Small, shownLine}
+use Rattle.run.specs.RunState.{RunState, progress, Sound, Small, shownLine}
 use Rattle.run.specs.Carried.{numberOf, accessSeen}
 use Rattle.run.proofs.ReachedLaws.{unhindered}
 use Rattle.run.proofs.OrderLaws.{in-order, enough, lent}
@@ -49,8 +49,8 @@ entry-fits k a (Step p) r h s x = step-length k p a (answers r) h s x
 entry-fits k a (Finish p) r h s x = step-length k p a (answers r) h s x
 
 -- all sixteen records that a run holds
-abbrev pub heldMemory : Held → Memory
-heldMemory h = record { bench = h .run .bench; records = h .run .all .list; words = h .words }
+abbrev pub stateMemory : RunState → Memory
+stateMemory h = record { bench = h .run .bench; records = h .run .all .list; words = h .words }
 
 -- a run that is not traced shows nothing
 pub shown-none : {l : List ℕ} {at : ℕ} (t : Bool) (bs : List ℕ) → not t ≡ true → Wrote l at (cond t bs []) l at
@@ -60,7 +60,7 @@ shown-none t bs e = same (simp (not-true t e)) (none _ _)
 pub shown-is : (t : Bool) (k : ℕ) (a : Access) {e e′ : Entry} (r : Reply) → not t ≡ false → e ≡ e′ → shownLine t k a e r ≡ entryLine k a e′ r
 shown-is t k a {e} r n q = let x : shownLine t k a e r ≡ entryLine k a e r = simp (not-false t n) in x ∙ ap (λ (y : Entry). entryLine k a y r) q
 
-module _ {len : ℕ} {h : Held} (s : Sound len h) (z : h .run .stop ≡ 0) where
+module _ {len : ℕ} {h : RunState} (s : Sound len h) (z : h .run .stop ≡ 0) where
   abbrev m : Memory
   m = progress len h .memory
 
@@ -89,7 +89,7 @@ module _ {len : ℕ} {h : Held} (s : Sound len h) (z : h .run .stop ≡ 0) where
     pub same-record : recordAt (h .run .all .list) (record { 0 = p }) ≡ recordAt (m .records) (record { 0 = p })
     same-record = sym (getD-take len (h .run .all .list) p noProcess (omega (arith, enough s z)))
 
-    same-access : accessNow (heldMemory h) p ≡ accessNow m p
+    same-access : accessNow (stateMemory h) p ≡ accessNow m p
     same-access = ap (λ (x : Process). accessOf (pointOf (x .line)) (record { 0 = p }) b x (h .words)) same-record
 
     small-access : SmallAccess (accessNow m p)
@@ -102,7 +102,9 @@ module _ {len : ℕ} {h : Held} (s : Sound len h) (z : h .run .stop ≡ 0) where
     abbrev own : Process
     own = recordAt (h .run .all .list) (numberOf e)
 
-    pub shown-same : {i : SequenceNumber} {j : ProcessNumber} {t : Taken} (k : ℕ) → i ≡ bankIndex (pointOf (own .line)) (b .n) own → j ≡ helpIndex (pointOf (own .line)) (b .n) (numberOf e) own → t ≡ takenAt b i j
+    pub shown-same : {i : SequenceNumber} {j : ProcessNumber} {t : Taken} (k : ℕ)
+        → i ≡ bankIndex (pointOf (own .line)) (b .n) own
+        → j ≡ helpIndex (pointOf (own .line)) (b .n) (numberOf e) own → t ≡ takenAt b i j
         → (traced : Bool) → shownLine traced k (accessSeen traced (numberOf e) (b .n) (b .w) t own (h .words)) e r ≡ cond traced (traceLine k m e r) []
     shown-same k ei ej et true = ap (λ (x : Access). entryLine k x e r) (access-seen (numberOf e) b own (h .words) (pointOf (own .line)) ei ej et ∙ same-access n)
     shown-same k ei ej et false = refl

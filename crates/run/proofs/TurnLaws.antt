@@ -17,7 +17,7 @@ use Rattle.listing.specs.Writing.{Room, Wrote}
 use Rattle.listing.proofs.WritingLaws.{then, same, room-same, room-first, room-then}
 use Rattle.access.specs.declared.Access.{Access}
 use Rattle.run.specs.TextRun.{processOf, orderOf, valueOf}
-use Rattle.run.specs.Held.{answerLine, Listable, shownLine}
+use Rattle.run.specs.RunState.{answerLine, Listable, shownLine}
 use Rattle.run.specs.Carried.{numberOf, turned, accessSeen, turnLines, Turnable, Turns}
 
 module _ {traced : Bool} {k n w at : ℕ} {e : Entry} {t : Taken} {q : Process} {ws list : List ℕ} (f : Turnable traced k e n w t q ws list at) where

@@ -1,4 +1,5 @@
--- One entry carried out on the places taken out for it, as the code does it: inner to the run, whose meaning is in TextRun.
+-- One entry carried out on the places taken out for it, as the code does it.
+-- Inner: `LoopLaws` and `CarryingLaws` prove that the loop over such entries is `TextRun`'s run.
 use Prim.Native.Nat.{ℕ, suc, _+_, _-_, _≤_, _<_}
 use mathlib.Core.Path.{_≡_}
 use mathlib.Core.List.{List, [], _∷_, _++_, map}
@@ -26,7 +27,7 @@ use Rattle.access.specs.AccessOn.{accessOn}
 use Rattle.run.specs.declared.turn.Turn.{Turn}
 use Rattle.run.specs.TextRun.{Progress, mostEntries, processOf, orderOf, valueOf, single, steps, carry, carryAll}
 use Rattle.run.specs.StopPlaces.{stopIndex}
-use Rattle.run.specs.Held.{Held, progress, Kept, Becomes, answerLine, shownLine}
+use Rattle.run.specs.RunState.{RunState, progress, Kept, Becomes, answerLine, shownLine}
 
 -- the entries that the list of a text keeps
 abbrev pub entriesIn : ℕ → List ℕ → List Entry
@@ -36,8 +37,8 @@ entriesIn count list = map entryIn (take count list)
 abbrev pub placesIn : ℕ → List ℕ → List ℕ
 placesIn count list = map placeIn (take count list)
 
--- what refuses an entry of a run that goes on, where no row that speaks of the lent memory holds: "before each entry 12, then 14", then rows
--- 4, 5, 6, 7. (Row 8 can't hold: a text's SC brings W words.) 0 for nothing.
+-- what refuses an entry of a run that goes on, where no row that speaks of the lent memory holds: "before each entry
+-- 12, then 14", then rows 4, 5, 6, 7. (Row 8 can't hold: a text's SC brings W words.) 0 for nothing.
 abbrev pub refusalOf : Order → ℕ → ℕ → ℕ → ℕ → ℕ → Process → ℕ
 refusalOf o entries room needed n p q =
     cond (leb mostEntries entries) 12 (cond (ltb room needed) 14 (first (row4 n p ∷ row5 o q ∷ row6 o q ∷ row7 o q ∷ [])))
@@ -103,17 +104,17 @@ onwardIndex left [] s = 0
 onwardIndex left (e ∷ es) s = indexAfter es (resumed left e s)
 
 -- the records from N on are what they were
-abbrev pub OthersKept : Held → Held → Type 0
+abbrev pub OthersKept : RunState → RunState → Type 0
 OthersKept h h′ = (j : ℕ) → h .run .bench .n ≤ j → getD (h′ .run .all .list) j noProcess ≡ getD (h .run .all .list) j noProcess
 
 -- a list carried out, up to its end or to the entry at `at` that stopped the run
-pub record Carries (len : ℕ) (es : List Entry) (h h′ : Held) (at : ℕ) : Type 0 where
+pub record Carries (len : ℕ) (es : List Entry) (h h′ : RunState) (at : ℕ) : Type 0 where
   pub becomes : Becomes len (carryAll es) h h′
   pub index : at ≡ stopIndex es (progress len h)
   pub others : OthersKept h h′
 
 -- A run in the middle of its list: what is left to do comes to what the whole list does.
-pub record Carrying (len : ℕ) (es : List Entry) (h : Held) (at left : ℕ) (h′ : Held) : Type 0 where
+pub record Carrying (len : ℕ) (es : List Entry) (h : RunState) (at left : ℕ) (h′ : RunState) : Type 0 where
   pub same : onward left (drop at es) (progress len h′) ≡ carryAll es (progress len h)
   pub index : at + onwardIndex left (drop at es) (progress len h′) ≡ stopIndex es (progress len h)
   pub kept : Kept len h h′

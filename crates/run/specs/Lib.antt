@@ -1,6 +1,6 @@
 pub mod TextRun
 pub mod StopPlaces
 pub mod Reached
-pub mod Held
+pub mod RunState
 pub mod Carried
-pub mod Whole
+pub mod Finished

@@ -1,4 +1,5 @@
 -- Memory that an accepted set-up and commands have made, whatever was lent.
+-- Inner: said with `model`'s set-up and commands alone; `ReachedLaws` proves it of every run after its set-up.
 use mathlib.Core.Path.{_≡_}
 use Prim.Native.Nat.{ℕ}
 use mathlib.Core.List.{List}

@@ -12,8 +12,8 @@ use Rattle.notation.specs.Grammar.{Text, bytes, says, places, deepest}
 use Rattle.notation.specs.Right.{Fault}
 use Rattle.run.specs.TextRun.{Progress, carry, carryAll, begun, roomNeeded, longestText}
 
--- "After a refused entry nothing more runs.": how many of the entries are carried out whole before the one that stops the run, all where
--- none does. `!` is one of them, with all its steps.
+-- "After a refused entry nothing more runs.": how many of the entries are carried out whole before the one that stops
+-- the run, all where none does. `!` is one of them, with all its steps.
 unfoldable pub stopIndex : List Entry → Progress → ℕ
 stopIndex [] s = 0
 stopIndex (e ∷ es) s = cond (eqb (carry e s .stop) 0) (suc (stopIndex es (carry e s))) 0
@@ -28,7 +28,8 @@ startedPlace t listing es ps prepared = cond (eqb (prepared .0) 0) (itemPlace es
 
 -- the place in a text that is looked at: that of its fault, or of an item of a right text
 pub record PlaceInText (t : Bool) (m : Memory) (text listing : List ℕ) (place : ℕ) : Type 0 where
-  -- "A fault 10 or 11 stands at the first byte (the text's end counts as one) after which no text of any length could be right"
+  -- "A fault 10 or 11 stands at the first byte (the text's end counts as one) after which no text of any length could
+  -- be right"
   pub fault : (k : ℕ) (p : Fault text k) → p .at ≡ place
   pub item : (x : Text deepest) → bytes x ≡ text → let a = says x in
       place ≡ startedPlace t listing (a .entries) (places x) (setUp m (a .n) (a .w) (replicate (a .w) (a .initial)))

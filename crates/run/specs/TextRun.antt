@@ -1,5 +1,5 @@
--- The meaning of a text run (01, "When the bench says no" and "Schedule text and listing"), in two styles: the listing, and the trace, which
--- has a line for each accepted command.
+-- The meaning of a text run (01, "When the bench says no" and "Schedule text and listing"), in two styles: the listing,
+-- and the trace, which has a line for each accepted command.
 use Prim.Native.Nat.{ℕ, zero, suc, _+_, _-_, _*_}
 use mathlib.Core.List.{List, [], _∷_, _++_}
 use mathlib.Core.Bool.{Bool, true, false, not, _&&_, cond}
@@ -28,8 +28,8 @@ use Rattle.access.specs.declared.Access.{Access}
 use Rattle.access.specs.Accesses.{accessOf}
 use Rattle.access.specs.TraceLines.{stepLine, startLine}
 
--- A run in progress: the lent memory, the listing, how many of its bytes are written, the entries done, the number of the refusal that
--- stopped it, 0 while it goes on, and whether it writes a trace.
+-- A run in progress: the lent memory, the listing, how many of its bytes are written, the entries done, the number of
+-- the refusal that stopped it, 0 while it goes on, and whether it writes a trace.
 pub record Progress : Type 0 where
   pub memory : Memory
   pub listing : List ℕ
@@ -52,7 +52,8 @@ roomNeeded t = cond t 128 0 + 744
 abbrev pub longestText : ℕ
 longestText = 16384
 
--- "The listing has a line for each answer": the bytes that the reply to process p adds, with the memory as the command left it
+-- "The listing has a line for each answer": the bytes that the reply to process p adds, with the memory as the command
+-- left it
 abbrev pub lineOf : Memory → ℕ → Reply → List ℕ
 lineOf m p (Refused c) = []
 lineOf m p Accepted = []
@@ -133,7 +134,8 @@ single e s =
 abbrev pub unanswered : ℕ → Progress → Bool
 unanswered p s = eqb (s .stop) 0 && not (isIdle (recordAt (s .memory .records) (record { 0 = p })))
 
--- steps of p until its call answers; `left` is how many may follow, k the number of the refusal where none of them answers, 0 for none
+-- steps of p until its call answers; `left` is how many may follow, k the number of the refusal where none of them
+-- answers, 0 for none
 unfoldable pub steps : ℕ → ℕ → ℕ → Progress → Progress
 steps k zero p s = stopped k s
 steps k (suc left) p s = cond (unanswered p (single (Step p) s)) (steps k left p (single (Step p) s)) (single (Step p) s)
@@ -181,7 +183,8 @@ abbrev pub carriedOut : Bool → Memory → List ℕ → Reading → Ended
 carriedOut t m listing (right a) = started t m listing a (setUp m (a .n) (a .w) (replicate (a .w) (a .initial)))
 carriedOut t m listing (wrong k left) = ended (begun t m listing k)
 
--- "A text run takes 14 at its start, then 12 for length, then 10 and 11 over the whole text"; "A refusal 14 at the start writes nothing."
+-- "A text run takes 14 at its start, then 12 for length, then 10 and 11 over the whole text"; "A refusal 14 at the
+-- start writes nothing."
 unfoldable pub runWith : Bool → Memory → List ℕ → List ℕ → Ended
 runWith t m text listing =
     cond (ltb (length listing) (roomNeeded t)) (record { number = 14; entries = 0; written = 0; memory = m; listing = listing })

@@ -1,11 +1,12 @@
 // The listing's line for an answer (01, "The listing has a line for each answer").
 ghost use Rattle.listing.specs.Writing.{Wrote};
-ghost use Rattle.run.specs.Held.{answerLine, Listable};
+ghost use Rattle.run.specs.RunState.{answerLine, Listable};
 use model::ProcessNumber;
 use model::Reply;
 use words::word_places;
 
-// The line of a reply to process p, from a place of the listing on; none where there is no answer. It gives the place after it.
+// The line of a reply to process p, from a place of the listing on; none where there is no answer. It gives the place
+// after it.
 pub fn answer_line(
     reply: Reply,
     p: u64,

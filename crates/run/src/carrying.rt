@@ -2,7 +2,7 @@
 ghost use Prim.Native.Nat.{_≤_};
 ghost use mathlib.Core.Path.{_≡_};
 ghost use lib.ListN.{length};
-ghost use Rattle.run.specs.Held.{held, Sound};
+ghost use Rattle.run.specs.RunState.{stateOf, Sound};
 ghost use Rattle.run.specs.Carried.{entriesIn, Carries};
 use crate::entries;
 use crate::limits;
@@ -19,8 +19,8 @@ pub struct Carried {
     pub at: usize,
 }
 
-// Bench and records are worked on where they stand in this function: passed to another and back, they would be copied for each entry. An entry
-// that is refused stops the run; `!` stays at its place in the list until its call answers.
+// Bench and records are worked on where they stand in this function: passed to another and back, they would be copied
+// for each entry. An entry that is refused stops the run; `!` stays at its place in the list until its call answers.
 pub fn carry_out(
     run: Run,
     len: usize,
@@ -29,8 +29,8 @@ pub fn carry_out(
     words: &mut [u64],
     list: &mut [u8],
 ) -> Carried
-    requires { ⌜ (count ≤ length (now entries)) × (Sound len (held run (now words) (now list))) × (run .stop ≡ 0) ⌝ }
-    ensures { λ r. ⌜ Carries len (entriesIn count (now (entries .entry))) (held run (now (words .entry)) (now (list .entry))) (held (r .run) (now (words .exit)) (now (list .exit))) (r .at) ⌝ }
+    requires { ⌜ (count ≤ length (now entries)) × (Sound len (stateOf run (now words) (now list))) × (run .stop ≡ 0) ⌝ }
+    ensures { λ r. ⌜ Carries len (entriesIn count (now (entries .entry))) (stateOf run (now (words .entry)) (now (list .entry))) (stateOf (r .run) (now (words .exit)) (now (list .exit))) (r .at) ⌝ }
 {
     let n = run.bench.n;
     let w = run.bench.w;

@@ -45,7 +45,8 @@ pub fn place_of(p: u64) -> usize
     0
 }
 
-// "`!` is steps until the call answers": whether the entry is not over with a step that leaves its process at this line.
+// "`!` is steps until the call answers": whether the entry is not over with a step that leaves its process at this
+// line.
 pub fn stays(e: Entry, line: u8) -> bool
     ensures { λ r. ⌜ r ≡ staysAt e line ⌝ }
 {

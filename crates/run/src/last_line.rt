@@ -1,13 +1,14 @@
 // The end of a text run: its last line and what it returns.
 ghost use mathlib.Core.Path.{_≡_};
-ghost use Rattle.run.specs.Whole.{freshRun, wholeOf, closed, Closable};
+ghost use Rattle.run.specs.Finished.{freshRun, finishedOf, closed, Closable};
 use crate::state::Run;
 use model::Bench;
 use tables::records::Records;
 
-// What a text run leaves of the bench and the records, how many of the records may differ from before, and what it returns: its number, the
-// entries done, the listing bytes written and the place in the text at which it stopped, 0 where it stopped at none.
-pub struct Whole {
+// What a text run leaves of the bench and the records, how many of the records may differ from before, and what it
+// returns: its number, the entries done, the listing bytes written and the place in the text at which it stopped, 0
+// where it stopped at none.
+pub struct Finished {
     pub bench: Bench,
     pub all: Records,
     pub stored: usize,
@@ -32,12 +33,12 @@ pub fn fresh(bench: Bench, all: Records, number: u8, traced: bool) -> Run
 }
 
 // What a run returns that has written so many bytes; the first `stored` records are to be stored.
-pub fn returned(run: Run, stored: usize, place: usize, written: usize) -> Whole
-    ensures { λ r. ⌜ r ≡ wholeOf run stored place written ⌝ }
+pub fn returned(run: Run, stored: usize, place: usize, written: usize) -> Finished
+    ensures { λ r. ⌜ r ≡ finishedOf run stored place written ⌝ }
 {
     let bench = run.bench;
     let all = run.all;
-    Whole {
+    Finished {
         bench,
         all,
         stored,
@@ -49,7 +50,7 @@ pub fn returned(run: Run, stored: usize, place: usize, written: usize) -> Whole
 }
 
 // "The last line is `end E` or `refused C E`".
-pub fn ended(run: Run, stored: usize, place: usize, list: &mut [u8]) -> Whole
+pub fn ended(run: Run, stored: usize, place: usize, list: &mut [u8]) -> Finished
     requires { ⌜ Closable run (now list) ⌝ }
     ensures { λ r. ⌜ (r, now (list .exit)) ≡ closed run stored place (now (list .entry)) ⌝ }
 {

@@ -6,8 +6,9 @@ use model::Order;
 use model::Process;
 use rows::causes;
 
-// "before each entry 12, then 14", then rows 4, 5, 6, 7; 0 for nothing. After a set-up rows 1, 2, 3 and 9 cannot hold, and a text's SC brings
-// W words, so nothing else can refuse. The record is not looked at where the process is none of N.
+// "before each entry 12, then 14", then rows 4, 5, 6, 7; 0 for nothing. After a set-up rows 1, 2, 3 and 9 cannot hold,
+// and a text's SC brings W words, so nothing else can refuse. The record is not looked at where the process is none of
+// N.
 pub fn refusal(
     order: Order,
     entries: usize,

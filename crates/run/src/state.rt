@@ -5,8 +5,8 @@ use crate::limits;
 use model::Bench;
 use tables::records::Records;
 
-// The bench and the records, the bytes of the listing that are written, the entries done, the number of the refusal that stopped the run,
-// 0 while it goes on, and whether it writes a trace.
+// The bench and the records, the bytes of the listing that are written, the entries done, the number of the refusal
+// that stopped the run, 0 while it goes on, and whether it writes a trace.
 pub struct Run {
     pub bench: Bench,
     pub all: Records,

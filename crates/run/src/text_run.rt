@@ -1,5 +1,5 @@
-// A whole text run (01, "When the bench says no"): "A text run takes 14 at its start, then 12 for length, then 10 and 11 over the whole text,
-// then 1, 2, 3, then the set-up, then the entries".
+// A whole text run (01, "When the bench says no"): "A text run takes 14 at its start, then 12 for length, then 10 and
+// 11 over the whole text, then 1, 2, 3, then the set-up, then the entries".
 ghost use mathlib.Core.Path.{_≡_};
 ghost use mathlib.Core.Bool.{true, false, cond};
 ghost use Prim.Native.Nat.{_≤_, _<_};
@@ -12,11 +12,11 @@ ghost use Rattle.notation.specs.Grammar.{largest};
 ghost use Rattle.notation.specs.EntryWords.{placeIn};
 ghost use Rattle.run.specs.StopPlaces.{PlaceInText, StopsAt};
 ghost use Rattle.run.specs.Carried.{entriesIn, placesIn};
-ghost use Rattle.run.specs.Whole.{memoryOf, fewOf, Others, Answers, Lending, Headed, startedWith, placeWith, saysAfter, refusedWith};
+ghost use Rattle.run.specs.Finished.{memoryOf, atMostSixteen, Others, Answers, Lending, Headed, startedWith, placeWith, saysAfter, refusedWith};
 use crate::carrying;
 use crate::entries;
 use crate::last_line;
-use crate::last_line::Whole;
+use crate::last_line::Finished;
 use crate::limits;
 use crate::set_up;
 use crate::state;
@@ -43,7 +43,7 @@ fn refused(
     place: usize,
     words: &mut [u64],
     list: &mut [u8],
-) -> Whole
+) -> Finished
     requires { ⌜ (Lending len all (now list)) × (number ≤ 15) ⌝ }
     ensures { λ r. ⌜
         Answers len all r (now (words .exit)) (now (list .exit)) (refusedWith number (memoryOf bench all len (now (words .entry))) (now (list .entry))) ×
@@ -64,7 +64,8 @@ fn stop_place(stop: u8, entries: &[u64], at: usize) -> usize
     entries::item_place(entries[at])
 }
 
-// "then 1, 2, 3, then the set-up, then the entries": those of the list, up to `count`. The value is looked at only where W is in its range.
+// "then 1, 2, 3, then the set-up, then the entries": those of the list, up to `count`. The value is looked at only
+// where W is in its range.
 fn started(
     bench: Bench,
     all: Records,
@@ -75,7 +76,7 @@ fn started(
     count: usize,
     words: &mut [u64],
     list: &mut [u8],
-) -> Whole
+) -> Finished
     requires { ⌜ (Lending len all (now list)) × (first .initial ≤ largest) × (count ≤ length (now entries)) ⌝ }
     ensures { λ r. ⌜
         Answers len all r (now (words .exit)) (now (list .exit))
@@ -117,7 +118,7 @@ fn checked(
     words: &mut [u64],
     text: &[u8],
     list: &mut [u8],
-) -> Whole
+) -> Finished
     requires { ⌜ (Lending len all (now list)) × (Headed (now text) first) ⌝ }
     ensures { λ r. ⌜
         Answers len all r (now (words .exit)) (now (list .exit))
@@ -152,8 +153,8 @@ fn checked(
 }
 
 // Of the lent records at most sixteen are looked at.
-fn few(len: usize) -> usize
-    ensures { λ r. ⌜ r ≡ fewOf len ⌝ }
+fn records_seen(len: usize) -> usize
+    ensures { λ r. ⌜ r ≡ atMostSixteen len ⌝ }
 {
     if 16 < len {
         return 16;
@@ -170,7 +171,7 @@ fn run_in_style(
     words: &mut [u64],
     text: &[u8],
     list: &mut [u8],
-) -> Whole
+) -> Finished
     requires { ⌜ all ≡ gathered (take len (all .list)) noProcess 16 ⌝ }
     ensures { λ r. ⌜
         (record { number = r .number; entries = r .entries; written = r .written; memory = memoryOf (r .bench) (r .all) len (now (words .exit)); listing = now (list .exit) }
@@ -179,9 +180,9 @@ fn run_in_style(
         Others all r ×
         StopsAt traced (memoryOf bench all len (now (words .entry))) (now (text .entry)) (now (list .entry)) (r .place) ⌝ }
 {
-    let lent = few(len);
+    let lent = records_seen(len);
     if list.len() < state::room_needed(traced) {
-        return Whole {
+        return Finished {
             bench,
             all,
             stored: 0,
@@ -217,8 +218,8 @@ fn run_in_style(
     }
 }
 
-// The text run: the number of its refusal, 0 at `end`, the entries done, the listing bytes written, the place in the text at which it
-// stopped, and all memory after it.
+// The text run: the number of its refusal, 0 at `end`, the entries done, the listing bytes written, the place in the
+// text at which it stopped, and all memory after it.
 // `all` holds the first sixteen of `len` lent records, with a filler where there are fewer.
 pub fn run_by_value(
     bench: Bench,
@@ -227,7 +228,7 @@ pub fn run_by_value(
     words: &mut [u64],
     text: &[u8],
     list: &mut [u8],
-) -> Whole
+) -> Finished
     requires { ⌜ all ≡ gathered (take len (all .list)) noProcess 16 ⌝ }
     ensures { λ r. ⌜
         (record { number = r .number; entries = r .entries; written = r .written; memory = memoryOf (r .bench) (r .all) len (now (words .exit)); listing = now (list .exit) }
@@ -247,7 +248,7 @@ pub fn trace_by_value(
     words: &mut [u64],
     text: &[u8],
     list: &mut [u8],
-) -> Whole
+) -> Finished
     requires { ⌜ all ≡ gathered (take len (all .list)) noProcess 16 ⌝ }
     ensures { λ r. ⌜
         (record { number = r .number; entries = r .entries; written = r .written; memory = memoryOf (r .bench) (r .all) len (now (words .exit)); listing = now (list .exit) }

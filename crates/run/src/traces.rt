@@ -1,9 +1,10 @@
-// The trace's line of a command: its access is seen in the memory before the command, and it is written once the command is accepted.
+// The trace's line of a command: its access is seen in the memory before the command, and it is written once the
+// command is accepted.
 ghost use mathlib.Core.Path.{_≡_};
 ghost use Rattle.listing.specs.Writing.{Room, Wrote};
 ghost use Rattle.run.specs.TextRun.{answers};
 ghost use Rattle.taken.specs.Ranges.{Ready};
-ghost use Rattle.run.specs.Held.{shownLine};
+ghost use Rattle.run.specs.RunState.{shownLine};
 ghost use Rattle.run.specs.Carried.{accessSeen};
 use access::Access;
 use access::access_of;

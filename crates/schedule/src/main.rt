@@ -1,4 +1,5 @@
-// The program `schedule`: schedule text from standard input, at most 16,385 bytes, and its listing, of at most 65,536 bytes, to standard output.
+// The program `schedule`: schedule text from standard input, at most 16,385 bytes, and its listing, of at most 65,536
+// bytes, to standard output.
 fn main() {
     let mut text = [0; 16385];
     let got = io::read_full(0, &mut text);

@@ -1,25 +1,24 @@
--- The set-up by value: its refusal by the lengths of what is lent, and what it makes of the bench and of the words. The records are set up one by one, where they lie.
+-- The set-up by value: its refusal by the lengths of what is lent, and what it makes of the bench and of the words. The
+-- records are set up one by one, where they lie.
+-- Inner: `set-up-number` below and `bench`'s `SetUpLaws` prove that this is `model`'s set-up.
 use mathlib.Core.Path.{_≡_, refl}
-use Prim.Native.Nat.{ℕ, _*_, _≤_}
-use mathlib.Core.List.{List, [], _∷_, map}
-use mathlib.Core.Bool.{cond, not}
+use Prim.Native.Nat.{ℕ, _≤_}
+use mathlib.Core.List.{List, map}
+use mathlib.Core.Bool.{cond}
 use lib.Dec.{eqb}
 use lib.ListN.{length, replicate}
 use lib.Seq.{sets}
 use Rattle.model.specs.declared.Bench.{Bench}
 use Rattle.model.specs.declared.Process.{Process}
-use Rattle.model.specs.Refusals.{Row, first, row1, row2}
+use Rattle.model.specs.Sizes.{lentWords}
+use Rattle.model.specs.Refusals.{first, setUpRowsOf}
 use Rattle.model.specs.Machine.{Memory}
 use Rattle.model.specs.SetUp.{numbers, bankAtSetUp, helpAtSetUp, benchAtSetUp, recordsAtSetUp, wordsAtSetUp, setUpRefusal}
-use Rattle.rows.specs.Lengths.{row3Lent}
 use Rattle.setup.specs.declared.Prepared.{Prepared}
-
-abbrev pub row8Always : ℕ → ℕ → Row
-row8Always w k = record { number = 8; holds = not (eqb k w) }
 
 -- a set-up's refusal by the lengths of what is lent
 unfoldable pub setUpNumber : ℕ → ℕ → ℕ → ℕ → ℕ → ℕ
-setUpNumber n w records words value = first (row1 n ∷ row2 w ∷ row3Lent n w records words ∷ row8Always w value ∷ [])
+setUpNumber n w records words value = first (setUpRowsOf n w records words value)
 
 pub set-up-number : (m : Memory) (n w : ℕ) (value : List ℕ) → setUpNumber n w (length (m .records)) (length (m .words)) (length value) ≡ setUpRefusal m n w value
 unfolding setUpNumber setUpRefusal
@@ -37,7 +36,7 @@ pub record Accepted (n w words value : ℕ) : Type 0 where
   pub n-most : n ≤ 16
   pub w-most : w ≤ 64
   pub n-some : 1 ≤ n
-  pub words-lent : 5 * n * w ≤ words
+  pub words-lent : lentWords n w ≤ words
   pub value-words : value ≡ w
 
 -- the number, the bench and the words after a set-up with `len` records lent

@@ -1,13 +1,15 @@
 // The set-up by value (01, "Set-up"). Memory beyond what N and W need stays.
 ghost use mathlib.Core.Path.{_≡_};
-ghost use Prim.Native.Nat.{_+_, _*_, _≤_, _<_};
+ghost use Prim.Native.Nat.{_+_, _≤_, _<_};
 ghost use lib.ListN.{length};
+ghost use Rattle.model.specs.Sizes.{sequenceNumbers};
 ghost use Rattle.model.specs.SetUp.{benchAtSetUp, processAtSetUp, wordsAtSetUp};
 ghost use Rattle.setup.specs.SetUpByValue.{setUpNumber, banksSet, helpsSet, Accepted, prepared};
 use model::Bench;
 use model::Process;
 use model::ProcessNumber;
 use model::SequenceNumber;
+use model::sizes;
 use rows::causes;
 use words::word_runs;
 
@@ -72,7 +74,10 @@ pub fn bench_at_set_up(bench: Bench, n: usize, w: usize) -> Bench
     ensures { λ r. ⌜ r ≡ benchAtSetUp bench n w ⌝ }
 {
     let x = model::x_at_set_up();
-    let mut next = tables::put_x(with_helps(with_banks(bench, 2 * n), n), x);
+    let mut next = tables::put_x(
+        with_helps(with_banks(bench, sizes::sequence_numbers(n)), n),
+        x,
+    );
     next.n = n;
     next.w = w;
     next
@@ -84,15 +89,15 @@ pub fn words_at_set_up(words: &mut [u64], n: usize, w: usize, value: &[u64])
     ensures { λ _. ⌜ now (words .exit) ≡ wordsAtSetUp (now (words .entry)) n w (now (value .entry)) ⌝ }
 {
     word_runs::copy_in(words, 0, value);
-    word_runs::fill(words, w, 5 * n * w, 0);
+    word_runs::fill(words, w, sizes::lent_words(n, w), 0);
 }
 
 // The record of process p, which owns buffer 2N + p.
 pub fn record_at_set_up(n: usize, p: ProcessNumber) -> Process
     requires { ⌜ (n ≤ 16) × (p .0 < 16) ⌝ }
-    ensures { λ r. ⌜ r ≡ processAtSetUp (2 * n + p .0) ⌝ }
+    ensures { λ r. ⌜ r ≡ processAtSetUp (sequenceNumbers n + p .0) ⌝ }
 {
-    model::process_at_set_up((2 * n + p.0 as usize) as u8)
+    model::process_at_set_up((sizes::sequence_numbers(n) + p.0 as usize) as u8)
 }
 
 // The whole set-up but for the records, of which `len` are lent: refused with its number, or done.

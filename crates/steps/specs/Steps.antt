@@ -1,5 +1,5 @@
 -- A step, or a start, on the shared places that it could touch.
--- `TakenLaws` proves that to take them, to step and to put them back is `model`'s step.
+-- Inner: `TakenLaws` proves that to take them, to step and to put them back is `model`'s step.
 use Prim.Native.Nat.{ℕ}
 use mathlib.Core.List.{List}
 use lib.Seq.{sets}
@@ -57,7 +57,8 @@ stepOn line18 p n w t q ws = (afterBank t (doLine18 (t .bank) q), ws)
 stepOn line19 p n w t q ws = (afterX t (doLine19 n p (t .x) q), ws)
 stepOn line23 p n w t q ws = (afterX t (doLine23 p (t .x) q), ws)
 
--- A start: the words of an SC in the offer area, and the process at its call's first line. It touches none of the places.
+-- A start: the words of an SC in the offer area, and the process at its call's first line. It touches none of the
+-- places.
 abbrev pub offered : Order → ProcessNumber → ℕ → ℕ → List ℕ → List ℕ → List ℕ
 offered StartLl p n w value ws = ws
 offered StartSc p n w value ws = sets ws (offerWord n w p 0) value

@@ -4,7 +4,7 @@ ghost use Rattle.model.specs.Machine.{obey};
 ghost use Rattle.taken.specs.Ranges.{Ready, Obeyable};
 ghost use Rattle.steps.specs.Steps.{offered, obeyOn};
 ghost use Rattle.model.specs.declared.Reply.the-variants.{Accepted};
-ghost use Rattle.lines.specs.Numbered.{beginNumber};
+ghost use Rattle.model.specs.Records.{beginLine};
 use crate::step;
 use lines::points;
 use lines::records;
@@ -21,7 +21,7 @@ use words::word_runs;
 
 // A start at a call's first line. It touches nothing shared.
 fn begun(line: u8, process: Process, taken: Taken) -> Stepped
-    ensures { λ r. ⌜ r ≡ record { taken = taken; process = beginNumber line process; reply = Accepted } ⌝ }
+    ensures { λ r. ⌜ r ≡ record { taken = taken; process = beginLine line process; reply = Accepted } ⌝ }
 {
     Stepped {
         taken,

@@ -1,11 +1,11 @@
 // The steps that move half a word: into the return area of p, or into BUF[mybuf].
 ghost use mathlib.Core.Path.{_≡_};
-ghost use Prim.Native.Nat.{_*_, _<_};
+ghost use Prim.Native.Nat.{_<_};
 ghost use Rattle.model.specs.Points.{line18};
-ghost use Rattle.model.specs.Sizes.{halves};
+ghost use Rattle.model.specs.Sizes.{buffers, halves};
 ghost use Rattle.model.specs.Words.{returnWord, offerWord, wordOf};
 ghost use Rattle.model.specs.Lines.{doWord, doLine11};
-ghost use Rattle.lines.specs.Numbered.{doWordNumber};
+ghost use Rattle.model.specs.Lines.{doWordThen};
 ghost use Rattle.taken.specs.Ranges.{Ready};
 ghost use Rattle.steps.specs.Steps.{readWord, writtenWord};
 use lines::on_words;
@@ -14,6 +14,7 @@ use model::BufferNumber;
 use model::Process;
 use model::ProcessNumber;
 use model::WordStep;
+use model::sizes;
 use words::word_places;
 
 // Lines 3, 6 and 7's copy: a half word of BUF[from] into the return area of p. `line` follows the last half.
@@ -26,14 +27,14 @@ pub fn read_word(
     process: Process,
     words: &mut [u64],
 ) -> WordStep
-    requires { ⌜ Ready n w process p (now words) × (from .0 < 3 * n) ⌝ }
-    ensures { λ r. ⌜ (r, now (words .exit)) ≡ readWord n w p from (doWordNumber (halves w) line process) process (now (words .entry)) ⌝ }
+    requires { ⌜ Ready n w process p (now words) × (from .0 < buffers n) ⌝ }
+    ensures { λ r. ⌜ (r, now (words .exit)) ≡ readWord n w p from (doWordThen (halves w) line process) process (now (words .entry)) ⌝ }
 {
     let k = process.word;
     let source = word_places::buffer_word(w, from, k / 2);
     let target = word_places::return_word(n, w, p, k / 2);
     word_places::copy_half(words, k, source, target);
-    on_words::do_word(2 * w, line, process)
+    on_words::do_word(sizes::halves(w), line, process)
 }
 
 // Line 11: a half word of the return area into BUF[mybuf].
@@ -51,7 +52,7 @@ pub fn step_11(
     let source = word_places::return_word(n, w, p, k / 2);
     let target = word_places::buffer_word(w, process.mybuf, k / 2);
     word_places::copy_half(words, k, source, target);
-    on_words::do_line_11(2 * w, process)
+    on_words::do_line_11(sizes::halves(w), process)
 }
 
 // Line 17: a half word of the offer area into BUF[mybuf].
@@ -69,5 +70,5 @@ pub fn step_17(
     let source = word_places::offer_word(n, w, p, k / 2);
     let target = word_places::buffer_word(w, process.mybuf, k / 2);
     word_places::copy_half(words, k, source, target);
-    on_words::do_word(2 * w, points::LINE_18, process)
+    on_words::do_word(sizes::halves(w), points::LINE_18, process)
 }

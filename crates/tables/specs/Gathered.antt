@@ -1,4 +1,5 @@
 -- The lent records by value.
+-- Inner: `GatheredLaws` proves that they are the lent ones, as far as N needs.
 use Prim.Native.Nat.{ℕ, zero, suc}
 use mathlib.Core.List.{List}
 use lib.ListN.{getD, set, replicate}

@@ -34,64 +34,13 @@ either P true h i = h
 either P false h i = i
 
 module _ (n : ℕ) (q : Process) where
-  -- the clauses of the index, as one test of the point's number
-  bank-cases : (y : Point) → bankIndex y n q ≡ cond (eqb (lineNumber y) (lineNumber line18)) (next n (q .x .seq)) (q .x .seq)
-  bank-cases idle = refl
-  bank-cases line1 = refl
-  bank-cases line2 = refl
-  bank-cases line3 = refl
-  bank-cases line4 = refl
-  bank-cases line5 = refl
-  bank-cases line6 = refl
-  bank-cases line7 = refl
-  bank-cases line7copy = refl
-  bank-cases line8 = refl
-  bank-cases line9 = refl
-  bank-cases line10 = refl
-  bank-cases line11 = refl
-  bank-cases line12 = refl
-  bank-cases line12valid = refl
-  bank-cases line13 = refl
-  bank-cases line14 = refl
-  bank-cases line14valid = refl
-  bank-cases line15 = refl
-  bank-cases line17 = refl
-  bank-cases line18 = refl
-  bank-cases line19 = refl
-  bank-cases line23 = refl
-
   pub bank-at-18 : q .line ≡ lineNumber line18 → next n (q .x .seq) ≡ bankIndex (pointOf (q .line)) n q
   bank-at-18 e = ap (λ (k : ℕ). bankIndex (pointOf k) n q) (sym e)
 
   pub bank-elsewhere : (q .line ≡ lineNumber line18 → ⊥) → q .x .seq ≡ bankIndex (pointOf (q .line)) n q
-  bank-elsewhere h = sym (bank-cases (pointOf (q .line)) ∙ rw (not-at (q .line) (lineNumber line18) refl h))
+  bank-elsewhere h = rw (not-at (q .line) (lineNumber line18) refl h)
 
 module _ (n : ℕ) (p : ProcessNumber) (q : Process) where
-  help-cases : (y : Point) → helpIndex y n p q ≡ cond (eqb (lineNumber y) (lineNumber line14)) (helped n (q .x .seq)) (cond (eqb (lineNumber y) (lineNumber line15)) (helped n (q .x .seq)) p)
-  help-cases idle = refl
-  help-cases line1 = refl
-  help-cases line2 = refl
-  help-cases line3 = refl
-  help-cases line4 = refl
-  help-cases line5 = refl
-  help-cases line6 = refl
-  help-cases line7 = refl
-  help-cases line7copy = refl
-  help-cases line8 = refl
-  help-cases line9 = refl
-  help-cases line10 = refl
-  help-cases line11 = refl
-  help-cases line12 = refl
-  help-cases line12valid = refl
-  help-cases line13 = refl
-  help-cases line14 = refl
-  help-cases line14valid = refl
-  help-cases line15 = refl
-  help-cases line17 = refl
-  help-cases line18 = refl
-  help-cases line19 = refl
-  help-cases line23 = refl
-
   pub help-at-14 : q .line ≡ lineNumber line14 → helped n (q .x .seq) ≡ helpIndex (pointOf (q .line)) n p q
   help-at-14 e = ap (λ (k : ℕ). helpIndex (pointOf k) n p q) (sym e)
 
@@ -99,7 +48,7 @@ module _ (n : ℕ) (p : ProcessNumber) (q : Process) where
   help-at-15 e = ap (λ (k : ℕ). helpIndex (pointOf k) n p q) (sym e)
 
   pub help-elsewhere : (q .line ≡ lineNumber line14 → ⊥) → (q .line ≡ lineNumber line15 → ⊥) → p ≡ helpIndex (pointOf (q .line)) n p q
-  help-elsewhere h i = sym (help-cases (pointOf (q .line)) ∙ rw (not-at (q .line) (lineNumber line14) refl h, not-at (q .line) (lineNumber line15) refl i))
+  help-elsewhere h i = rw (not-at (q .line) (lineNumber line14) refl h, not-at (q .line) (lineNumber line15) refl i)
 
 -- a step's indices, at any point
 module _ {n w : ℕ} {q : Process} {p : ProcessNumber} {ws : List ℕ} (r : Ready n w q p ws) (y : Point) where
@@ -107,7 +56,7 @@ module _ {n w : ℕ} {q : Process} {p : ProcessNumber} {ws : List ℕ} (r : Read
   bank-index-in =
       let In : SequenceNumber → Type 0 = λ s. s .0 < 2 * n in
       let h : In (next n (q .x .seq)) = mod-lt (q .x .seq .0 + 1) {m = 2 * n} (omega (arith, r .lent .n-some)) in
-      subst In (sym (bank-cases n q y)) (either In (eqb (lineNumber y) (lineNumber line18)) h (r .x-seq))
+      either In (eqb (lineNumber y) (lineNumber line18)) h (r .x-seq)
 
   pub help-index-in : helpIndex y n p q .0 < n
   help-index-in =
@@ -115,7 +64,7 @@ module _ {n w : ℕ} {q : Process} {p : ProcessNumber} {ws : List ℕ} (r : Read
       let In : ProcessNumber → Type 0 = λ j. j .0 < n in
       let h : In (helped n (q .x .seq)) = mod-lt (q .x .seq .0) {m = n} (l .n-some) in
       let at-15 = either In (eqb (lineNumber y) (lineNumber line15)) h (l .process) in
-      subst In (sym (help-cases n p q y)) (either In (eqb (lineNumber y) (lineNumber line14)) h at-15)
+      either In (eqb (lineNumber y) (lineNumber line14)) h at-15
 
   -- and so they are places of the tables
   pub bank-index-small : bankIndex y n q .0 < 32

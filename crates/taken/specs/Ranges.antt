@@ -1,14 +1,16 @@
 -- The ranges that a step relies on, n for N and w for W. Rows 1, 2, 3, 9 and 4 of the refusal table ask for them.
+-- Inner: `machine`'s `ObeyLaws` proves them of every command that no row refuses. `access`'s `Truth` has them as
+-- premise.
 use mathlib.Core.Path.{_≡_}
 use mathlib.Core.Bool.{true}
-use Prim.Native.Nat.{ℕ, _*_, _<_, _≤_}
+use Prim.Native.Nat.{ℕ, _<_, _≤_}
 use mathlib.Core.List.{List}
 use lib.ListN.{length}
 use Rattle.model.specs.declared.ProcessNumber.{ProcessNumber}
 use Rattle.model.specs.declared.Bench.{Bench}
 use Rattle.model.specs.declared.Process.{Process}
 use Rattle.model.specs.declared.Order.{Order}
-use Rattle.model.specs.Sizes.{halves}
+use Rattle.model.specs.Sizes.{buffers, sequenceNumbers, halves, lentWords}
 use Rattle.model.specs.Refusals.{bringsValue}
 
 -- N, W and the lent words are as rows 1 to 3 ask, the process is one of N
@@ -17,15 +19,15 @@ pub record Lent (n w : ℕ) (p : ProcessNumber) (ws : List ℕ) : Type 0 where
   pub n-most : n ≤ 16
   pub w-most : w ≤ 64
   pub process : p .0 < n
-  pub words : 5 * n * w ≤ length ws
+  pub words : lentWords n w ≤ length ws
 
 -- and the numbers of the process record are in their ranges
 pub record Ready (n w : ℕ) (q : Process) (p : ProcessNumber) (ws : List ℕ) : Type 0 where
   pub lent : Lent n w p ws
-  pub mybuf : q .mybuf .0 < 3 * n
-  pub x-buf : q .x .buf .0 < 3 * n
-  pub x-seq : q .x .seq .0 < 2 * n
-  pub b-buf : q .b .0 < 3 * n
+  pub mybuf : q .mybuf .0 < buffers n
+  pub x-buf : q .x .buf .0 < buffers n
+  pub x-seq : q .x .seq .0 < sequenceNumbers n
+  pub b-buf : q .b .0 < buffers n
   pub word : q .word < halves w
   pub count : q .count < 4294967296
 

@@ -1,6 +1,9 @@
 -- The shared places that a step could touch, taken out of the bench record: X, one place of Bank and one of Help.
+-- Inner: `TakenLaws` of crate steps proves that a step on them, put back, is `model`'s step.
 use Prim.Native.Nat.{ℕ}
+use mathlib.Core.Bool.{cond}
 use mathlib.Core.List.{List}
+use lib.Dec.{eqb}
 use Rattle.model.specs.declared.SequenceNumber.{SequenceNumber}
 use Rattle.model.specs.declared.ProcessNumber.{ProcessNumber}
 use Rattle.model.specs.declared.Bench.{Bench}
@@ -12,61 +15,20 @@ use Rattle.model.specs.declared.HelpStep.{HelpStep}
 use Rattle.model.specs.declared.WordStep.{WordStep}
 use Rattle.model.specs.declared.Moved.{Moved}
 use Rattle.model.specs.Tables.{bankAt, helpAt, putX, putBank, putHelp, next, helped}
-use Rattle.model.specs.Points.{Point, idle, line1, line2, line3, line4, line5, line6, line7, line7copy, line8, line9, line10, line11, line12, line12valid, line13, line14, line14valid, line15, line17, line18, line19, line23}
+use Rattle.model.specs.Points.{Point, lineNumber, line14, line15, line18}
 use Rattle.taken.specs.declared.Taken.{Taken}
 use Rattle.taken.specs.declared.Stepped.{Stepped}
 
--- Which place of Bank: line 18 reads Bank[(x.seq + 1) mod 2N], lines 12 and 13 touch Bank[x.seq]. The other lines touch none: any place will do.
+-- Which place of Bank: line 18 reads Bank[(x.seq + 1) mod 2N], lines 12 and 13 touch Bank[x.seq]. The other lines touch
+-- none: any place will do.
 abbrev pub bankIndex : Point → ℕ → Process → SequenceNumber
-bankIndex idle n q = q .x .seq
-bankIndex line1 n q = q .x .seq
-bankIndex line2 n q = q .x .seq
-bankIndex line3 n q = q .x .seq
-bankIndex line4 n q = q .x .seq
-bankIndex line5 n q = q .x .seq
-bankIndex line6 n q = q .x .seq
-bankIndex line7 n q = q .x .seq
-bankIndex line7copy n q = q .x .seq
-bankIndex line8 n q = q .x .seq
-bankIndex line9 n q = q .x .seq
-bankIndex line10 n q = q .x .seq
-bankIndex line11 n q = q .x .seq
-bankIndex line12 n q = q .x .seq
-bankIndex line12valid n q = q .x .seq
-bankIndex line13 n q = q .x .seq
-bankIndex line14 n q = q .x .seq
-bankIndex line14valid n q = q .x .seq
-bankIndex line15 n q = q .x .seq
-bankIndex line17 n q = q .x .seq
-bankIndex line18 n q = next n (q .x .seq)
-bankIndex line19 n q = q .x .seq
-bankIndex line23 n q = q .x .seq
+bankIndex y n q = cond (eqb (lineNumber y) (lineNumber line18)) (next n (q .x .seq)) (q .x .seq)
 
--- Which place of Help: lines 14 and 15 touch Help[x.seq mod N], lines 1, 4, 8, 9 and 10 Help[p]. For the other lines too it is the own one.
+-- Which place of Help: lines 14 and 15 touch Help[x.seq mod N], lines 1, 4, 8, 9 and 10 Help[p]. For the other lines
+-- too it is the own one.
 abbrev pub helpIndex : Point → ℕ → ProcessNumber → Process → ProcessNumber
-helpIndex idle n p q = p
-helpIndex line1 n p q = p
-helpIndex line2 n p q = p
-helpIndex line3 n p q = p
-helpIndex line4 n p q = p
-helpIndex line5 n p q = p
-helpIndex line6 n p q = p
-helpIndex line7 n p q = p
-helpIndex line7copy n p q = p
-helpIndex line8 n p q = p
-helpIndex line9 n p q = p
-helpIndex line10 n p q = p
-helpIndex line11 n p q = p
-helpIndex line12 n p q = p
-helpIndex line12valid n p q = p
-helpIndex line13 n p q = p
-helpIndex line14 n p q = helped n (q .x .seq)
-helpIndex line14valid n p q = p
-helpIndex line15 n p q = helped n (q .x .seq)
-helpIndex line17 n p q = p
-helpIndex line18 n p q = p
-helpIndex line19 n p q = p
-helpIndex line23 n p q = p
+helpIndex y n p q =
+    cond (eqb (lineNumber y) (lineNumber line14)) (helped n (q .x .seq)) (cond (eqb (lineNumber y) (lineNumber line15)) (helped n (q .x .seq)) p)
 
 -- X, Bank[i] and Help[j]
 abbrev pub takenAt : Bench → SequenceNumber → ProcessNumber → Taken
@@ -88,7 +50,8 @@ putBack b i j s = record { bench = putTaken b i j (s .taken); process = s .proce
 abbrev pub restored : Bench → SequenceNumber → ProcessNumber → Stepped × List ℕ → Moved × List ℕ
 restored b i j out = (putBack b i j (out .0), out .1)
 
--- What a line makes of the one item that it touches ("A step makes one access"): the other places stay as they were taken.
+-- What a line makes of the one item that it touches ("A step makes one access"): the other places stay as they were
+-- taken.
 abbrev pub afterX : Taken → XStep → Stepped
 afterX t s = record { taken = record { x = s .place; bank = t .bank; help = t .help }; process = s .process; reply = s .reply }
 

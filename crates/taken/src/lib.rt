@@ -1,4 +1,5 @@
-// The shared places that a step could touch, by themselves: a step passes these on, and not the bench record, which is 16 times as large.
+// The shared places that a step could touch, by themselves: a step passes these on, and not the bench record, which is
+// 16 times as large.
 ghost use mathlib.Core.Path.{_≡_};
 ghost use Prim.Native.Nat.{_<_};
 ghost use Rattle.model.specs.Points.{pointOf};

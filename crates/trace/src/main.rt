@@ -1,4 +1,5 @@
-// The program `trace`: schedule text from standard input, at most 16,385 bytes, and its trace, of at most 3,145,728 bytes, to standard output.
+// The program `trace`: schedule text from standard input, at most 16,385 bytes, and its trace, of at most 3,145,728
+// bytes, to standard output.
 ghost use mathlib.Core.Path.{_≡_};
 ghost use lib.ListN.{length};
 

@@ -37,13 +37,13 @@ within-list n w k h = omega (arith, mul-le-mul-right {m = k} {n = n / w} w h, di
 pub viewed : (w : ℕ) (value written : List ℕ) (k : ℕ) → viewNumber w value written k ≡ 0 → Viewed w value written k
 unfolding viewNumber
 viewed w value written k e =
-    let r15 : ℕ = cond (row15 w written k .holds) 15 0 in
-    let r8 : ℕ = cond (row8always w value .holds) 8 r15 in
-    let r3 : ℕ = cond (row3view w written .holds) 3 r8 in
+    let r15 : ℕ = cond (row15 w (length written) k .holds) 15 0 in
+    let r8 : ℕ = cond (row8always w (length value) .holds) 8 r15 in
+    let r3 : ℕ = cond (row3view w (length written) .holds) 3 r8 in
     let c2 = cleared (row2 w .holds) 1 r3 e in
-    let c3 = cleared (row3view w written .holds) 2 r8 (c2 .1) in
-    let c8 = cleared (row8always w value .holds) 7 r15 (c3 .1) in
-    let c15 = cleared (row15 w written k .holds) 14 0 (c8 .1) in
+    let c3 = cleared (row3view w (length written) .holds) 2 r8 (c2 .1) in
+    let c8 = cleared (row8always w (length value) .holds) 7 r15 (c3 .1) in
+    let c15 = cleared (row15 w (length written) k .holds) 14 0 (c8 .1) in
     record {
       some = w-in w (c2 .0) .0;
       small = w-in w (c2 .0) .1;

@@ -1,10 +1,12 @@
-// The lent words: 5N rows of W words. Rows 0 to 3N-1 are BUF, row 3N+p is the return area of p, row 4N+p its offer area.
+// The lent words: 5N rows of W words. Rows 0 to 3N-1 are BUF, row 3N+p is the return area of p, row 4N+p its offer
+// area.
 ghost use mathlib.Core.Path.{_≡_};
 ghost use Prim.Native.Nat.{_+_, _*_, _<_, _≤_};
 ghost use lib.ListN.{length};
 ghost use Rattle.model.specs.Words.{bufferWord, returnWord, offerWord, half, withHalf, copiedHalf};
 use model::BufferNumber;
 use model::ProcessNumber;
+use model::sizes;
 
 // Where word k of BUF[b] lies.
 pub fn buffer_word(w: usize, b: BufferNumber, k: usize) -> usize
@@ -19,7 +21,7 @@ pub fn return_word(n: usize, w: usize, p: ProcessNumber, k: usize) -> usize
     requires { ⌜ (n ≤ 16) × ((w ≤ 64) × (k < 64)) ⌝ }
     ensures { λ r. ⌜ r ≡ returnWord n w p k ⌝ }
 {
-    (3 * n + p.0 as usize) * w + k
+    (sizes::buffers(n) + p.0 as usize) * w + k
 }
 
 // Where word k of p's offer area lies.

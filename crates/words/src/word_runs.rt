@@ -16,7 +16,8 @@ pub fn copy_in(words: &mut [u64], at: usize, value: &[u64])
     }
 }
 
-// One number from one place to before another: the zeros of the set-up, and the offer of an SC in a text, "k in all W words".
+// One number from one place to before another: the zeros of the set-up, and the offer of an SC in a text, "k in all W
+// words".
 pub fn fill(words: &mut [u64], from: usize, to: usize, number: u64)
     requires { ⌜ (from ≤ to) × (to ≤ length (now words)) ⌝ }
     ensures { λ _. ⌜ now (words .exit) ≡ sets (now (words .entry)) from (replicate (to - from) number) ⌝ }

@@ -7,8 +7,8 @@ use Rattle.setup.proofs.bench_at_set_up.Tie as tie
 x-at-set-up-requires : tie.Need-x-at-set-up-requires
 x-at-set-up-requires c κs = search needs
 
-mul-with-banks : tie.Need-mul-with-banks
-mul-with-banks c = search needs
+sequence-numbers-requires : tie.Need-sequence-numbers-requires
+sequence-numbers-requires c κs = search needs
 
 with-banks-requires : tie.Need-with-banks-requires
 with-banks-requires c κs = search needs
@@ -20,14 +20,22 @@ put-x-requires : tie.Need-put-x-requires
 put-x-requires c κs = search needs
 
 returns : tie.Need-returns
-returns c = simp (c .put-x .ensures, c .before .with-helps .ensures, c .before .before .with-banks .ensures, c .before .before .before .x-at-set-up .ensures)
+returns c =
+    let banks = c .before .before in
+    simp (
+      c .put-x .ensures,
+      c .before .with-helps .ensures,
+      banks .with-banks .ensures,
+      banks .before .sequence-numbers .ensures,
+      banks .before .before .x-at-set-up .ensures,
+    )
 
 pub bench-at-set-up-spec : {M : Type 1} → statement M
 bench-at-set-up-spec =
     tie.close
     (tie.spec
     x-at-set-up-requires
-    mul-with-banks
+    sequence-numbers-requires
     with-banks-requires
     with-helps-requires
     put-x-requires

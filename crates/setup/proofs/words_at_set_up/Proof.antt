@@ -15,19 +15,16 @@ copy-in-requires c κs =
     let start = c .before .before .before in
     omega (arith, start .pre, first-row (start .args .n) (start .args .w) (start .pre .n-some))
 
-mul-fill : tie.Need-mul-fill
-mul-fill c = search needs
-
-mul-fill-2 : tie.Need-mul-fill-2
-mul-fill-2 c = search needs
+lent-words-requires : tie.Need-lent-words-requires
+lent-words-requires c κs = search needs
 
 fill-requires : tie.Need-fill-requires
 fill-requires c κs =
-    let copied = c .before .before .before in
+    let copied = c .before .before .before .before in
     let start = copied .before .before .before .before in
     let a = start .args in
     let e : length (copied .copy-in .last .0) ≡ length (now (a .words)) = ap length (copied .copy-in .ensures) ∙ simp length-sets in
-    (first-row (a .n) (a .w) (start .pre .n-some), omega (arith, start .pre, e))
+    (omega (arith, first-row (a .n) (a .w) (start .pre .n-some)), omega (arith, start .pre, e))
 
 same-length : tie.Need-same-length
 same-length c = search needs
@@ -35,12 +32,13 @@ same-length c = search needs
 returns : tie.Need-returns
 returns c =
     let filled = c .before .before in
-    let copied = filled .before .before .before .before in
+    let sized = filled .before in
+    let copied = sized .before .before .before .before in
     let start = copied .before .before .before .before in
     let a = start .args in
     filled .fill .ensures ∙
-    simp (copied .copy-in .ensures) (words-set (now (a .words)) (now (a .value)) (a .n) (a .w) (start .pre .value-words))
+    simp (copied .copy-in .ensures, sized .lent-words .ensures) (words-set (now (a .words)) (now (a .value)) (a .n) (a .w) (start .pre .value-words))
 
 pub words-at-set-up-spec : {M : Type 1} → statement M
 words-at-set-up-spec =
-    tie.close (tie.spec copy-in-requires mul-fill mul-fill-2 fill-requires same-length returns)
+    tie.close (tie.spec copy-in-requires lent-words-requires fill-requires same-length returns)

@@ -1,24 +1,20 @@
--- `rows::causes::too_little_lent` meets its contract: the tests are the row's, and 5NW fits.
+-- `rows::causes::too_little_lent` meets its contract: the tests are the row's.
 -- Assumes nothing.
-use Prim.Native.Nat.{_≤_, _*_}
-use native.Mathlib.Nat.{mul-le-mul}
 use native.Mathlib.Omega.{arith}
 use borrow.Author.Tests.{lt-ltb, le-ltb}
 use borrow.Author.Needs.{needs}
+use Rattle.model.specs.Sizes.{lentWords}
 use Rattle.rows.proofs.causes.too_little_lent.Statement.{statement}
 use Rattle.rows.proofs.causes.too_little_lent.Tie as tie
 
-mul-if1 : tie.Need-mul-if1
-mul-if1 c = search needs
-
-mul-if1-2 : tie.Need-mul-if1-2
-mul-if1-2 c = let h : 5 * c .args .n ≤ 80 = omega arith in omega (arith, mul-le-mul h (c .pre .1))
+lent-words-requires : tie.Need-lent-words-requires
+lent-words-requires c κs = search needs
 
 returns : tie.Need-returns
-returns c = simp (lt-ltb _ _ (c .if1 .taken))
+returns c = let a = c .before .before .args in simp (lt-ltb (a .words) (lentWords (a .n) (a .w)) (omega arith))
 
 returns-2 : tie.Need-returns-2
-returns-2 c = simp (le-ltb _ _ (c .if1 .left))
+returns-2 c = let a = c .before .before .args in simp (le-ltb (a .words) (lentWords (a .n) (a .w)) (omega arith))
 
 pub too-little-lent-spec : {M : Type 1} → statement M
-too-little-lent-spec = tie.close (tie.spec mul-if1 mul-if1-2 returns returns-2)
+too-little-lent-spec = tie.close (tie.spec lent-words-requires returns returns-2)

@@ -8,14 +8,11 @@ use Rattle.rows.proofs.ranges.count_ok.Tie as tie
 returns : tie.Need-returns
 returns c = simp (eq-eqb _ _ (c .if1 .taken))
 
-mul-result : tie.Need-mul-result
-mul-result c = search needs
-
-add-result : tie.Need-add-result
-add-result c = search needs
+busy-most-requires : tie.Need-busy-most-requires
+busy-most-requires c κs = search needs
 
 returns-2 : tie.Need-returns-2
-returns-2 c = simp (ne-eqb _ _ (c .if1 .left))
+returns-2 c = simp (ne-eqb _ _ (c .before .if1 .left), c .busy-most .ensures)
 
 pub count-ok-spec : {M : Type 1} → statement M
-count-ok-spec = tie.close (tie.spec returns mul-result add-result returns-2)
+count-ok-spec = tie.close (tie.spec returns busy-most-requires returns-2)

@@ -1,8 +1,10 @@
 -- `rows::ranges::progress_ok` meets its contract: each part that fails answers.
 -- Assumes nothing.
 use mathlib.Core.Path.{sym, _∙_}
+use native.Mathlib.Omega.{arith}
 use borrow.Author.Tests.{lt-ltb, le-ltb, not-true, not-false}
 use borrow.Author.Needs.{needs}
+use Rattle.model.specs.Sizes.{halves}
 use Rattle.laws.proofs.AndLaws.{pass, fail}
 use Rattle.rows.proofs.ranges.progress_ok.Statement.{statement}
 use Rattle.rows.proofs.ranges.progress_ok.Tie as tie
@@ -13,18 +15,27 @@ line-ok-requires c κs = search needs
 returns : tie.Need-returns
 returns c = fail _ _ (sym (c .before .line-ok .ensures) ∙ not-true _ (c .if1 .taken))
 
-mul-if2 : tie.Need-mul-if2
-mul-if2 c = search needs
+halves-requires : tie.Need-halves-requires
+halves-requires c κs = search needs
 
 returns-2 : tie.Need-returns-2
-returns-2 c = pass _ (sym (c .before .before .line-ok .ensures) ∙ not-false _ (c .before .if1 .left)) (fail _ _ (le-ltb _ _ (c .if2 .taken)))
+returns-2 c =
+    let at1 = c .before .before in
+    let ok1 = sym (at1 .before .line-ok .ensures) ∙ not-false _ (at1 .if1 .left) in
+    let a = at1 .before .before .args in
+    pass _ ok1 (fail _ _ (le-ltb (a .process .word) (halves (a .w)) (omega arith)))
 
 count-ok-requires : tie.Need-count-ok-requires
 count-ok-requires c κs = search needs
 
 returns-3 : tie.Need-returns-3
-returns-3 c = pass _ (sym (c .before .before .before .line-ok .ensures) ∙ not-false _ (c .before .before .if1 .left)) (pass _ (lt-ltb _ _ (c .before .if2 .left)) (c .count-ok .ensures))
+returns-3 c =
+    let at1 = c .before .before .before in
+    let ok1 = sym (at1 .before .line-ok .ensures) ∙ not-false _ (at1 .if1 .left) in
+    let a = at1 .before .before .args in
+    pass _ ok1 (pass _ (lt-ltb (a .process .word) (halves (a .w)) (omega arith)) (c .count-ok .ensures))
 
 pub progress-ok-spec : {M : Type 1} → statement M
 progress-ok-spec =
-    tie.close (tie.spec line-ok-requires returns mul-if2 returns-2 count-ok-requires returns-3)
+    tie.close
+    (tie.spec line-ok-requires returns halves-requires returns-2 count-ok-requires returns-3)

@@ -5,14 +5,15 @@ use Prim.Native.Nat.{_-_}
 use borrow.Author.Needs.{needs}
 use borrow.Author.Tests.{not-true, not-false}
 use Rattle.model.specs.Sizes.{llMost}
-use Rattle.run.specs.Held.{held}
+use Rattle.run.specs.RunState.{stateOf}
 use Rattle.run.proofs.LoopLaws.{goingRun, Head, from-run, first-head, head-all, looking, place-small, loop-refused, loop-sized, loop-process, loop-more, loop-bank, loop-help, loop-turnable, loop-over, loop-further, loop-unanswered}
 use Rattle.run.proofs.carrying.carry_out.Statement.{statement}
 use Rattle.run.proofs.carrying.carry_out.Tie as tie
 
 abbrev Inv-loop : tie.InvT-loop
 Inv-loop len entries count words₀ list₀ n w traced needed most bench₀ all₀ written₀ done₀ stop₀ at₀ left₀ words list bench all written done stop at left =
-    Head count entries len n w needed (held (goingRun bench₀ all₀ written₀ done₀ traced) words₀ list₀) at left (held (goingRun bench all written done traced) words list) × (stop ≡ 0) × (most ≡ llMost w)
+    Head count entries len n w needed (stateOf (goingRun bench₀ all₀ written₀ done₀ traced) words₀ list₀) at left
+    (stateOf (goingRun bench all written done traced) words list) × (stop ≡ 0) × (most ≡ llMost w)
 
 abbrev μ-loop : tie.MeasureT-loop
 μ-loop len entries count words₀ list₀ n w traced needed most bench₀ all₀ written₀ done₀ stop₀ at₀ left₀ words list bench all written done stop at left = 60001 - done
@@ -185,13 +186,15 @@ element-set-from-help c =
 
 mul-next : tie.Need-mul-next Inv-loop μ-loop
 mul-next c =
-    let c23 = c .before .before .before .before .before .before .before .before .before .before .before .before .before .before .before .before .before .before .before .before .before .before .before in
+    let c11 = c .before .before .before .before .before .before .before .before .before .before .before in
+    let c23 = c11 .before .before .before .before .before .before .before .before .before .before .before .before in
     let c24 = c23 .before in
     omega (arith, place-small (c24 .process-of .result) (c23 .place-of .ensures))
 
 element-set-from-next : tie.Need-element-set-from-next Inv-loop μ-loop
 element-set-from-next c =
-    let c23 = c .before .before .before .before .before .before .before .before .before .before .before .before .before .before .before .before .before .before .before .before .before .before .before in
+    let c11 = c .before .before .before .before .before .before .before .before .before .before .before in
+    let c23 = c11 .before .before .before .before .before .before .before .before .before .before .before .before in
     let c24 = c23 .before in
     omega (arith, place-small (c24 .process-of .result) (c23 .place-of .ensures))
 
@@ -200,7 +203,8 @@ stays-requires c κs = search needs
 
 add-at : tie.Need-add-at Inv-loop μ-loop
 add-at c =
-    let c29 = c .before .before .before .before .before .before .before .before .before .before .before .before .before .before .before .before .before .before .before .before .before .before .before .before .before .before .before .before .before in
+    let c14 = c .before .before .before .before .before .before .before .before .before .before .before .before .before .before in
+    let c29 = c14 .before .before .before .before .before .before .before .before .before .before .before .before .before .before .before in
     let c37 = c29 .before .before .before .before .before .before .before .before in
     omega (arith, c29 .loop-test .taken, c37 .fits .count)
 
@@ -220,12 +224,17 @@ loop-again c =
     let c22 = c21 .before in let c23 = c22 .before in let c25 = c23 .before .before in let c26 = c25 .before in let c27 = c26 .before in
     let c29 = c27 .before .before in let c30 = c29 .before in
     let x = looking (c30 .loop .inv .0) (c29 .loop-test .taken) (c27 .entry-in .ensures) (c26 .process-of .ensures) (c25 .place-of .ensures) (c23 .order-of .ensures) in
-    let f = sym (c22 .refusal .ensures) ∙ c21 .if1 .left in
-    (rw (c30 .loop .inv .2) (loop-over x f (c20 .bank-index .ensures) (c19 .help-index .ensures) refl (c11 .carry .ensures) (sym (c .before .stays .ensures) ∙ not-true _ (c .if2 .taken))), c21 .if1 .left, c30 .loop .inv .2)
+    let f = sym (c22 .refusal .ensures) ∙ c21 .if1 .left in (
+      rw (c30 .loop .inv .2) (loop-over x f (c20 .bank-index .ensures) (c19 .help-index .ensures) refl
+          (c11 .carry .ensures) (sym (c .before .stays .ensures) ∙ not-true _ (c .if2 .taken))),
+      c21 .if1 .left,
+      c30 .loop .inv .2,
+    )
 
 sub-left : tie.Need-sub-left Inv-loop μ-loop
 sub-left c =
-    let c30 = c .before .before .before .before .before .before .before .before .before .before .before .before .before .before .before .before .before .before .before .before .before .before .before .before .before .before .before .before .before .before in
+    let c15 = c .before .before .before .before .before .before .before .before .before .before .before .before .before .before .before in
+    let c30 = c15 .before .before .before .before .before .before .before .before .before .before .before .before .before .before .before in
     omega (arith, c30 .loop .inv .0 .carrying .some)
 
 loop-less-2 : tie.Need-loop-less-2 Inv-loop μ-loop
@@ -244,8 +253,12 @@ loop-again-2 c =
     let c23 = c22 .before in let c24 = c23 .before in let c26 = c24 .before .before in let c27 = c26 .before in let c28 = c27 .before in
     let c30 = c28 .before .before in let c31 = c30 .before in
     let x = looking (c31 .loop .inv .0) (c30 .loop-test .taken) (c28 .entry-in .ensures) (c27 .process-of .ensures) (c26 .place-of .ensures) (c24 .order-of .ensures) in
-    let f = sym (c23 .refusal .ensures) ∙ c22 .if1 .left in
-    (loop-further x f (c21 .bank-index .ensures) (c20 .help-index .ensures) refl (c12 .carry .ensures) (sym (c .before .before .stays .ensures) ∙ not-false _ (c .before .if2 .left)) (c .if3 .left), c22 .if1 .left, c31 .loop .inv .2)
+    let f = sym (c23 .refusal .ensures) ∙ c22 .if1 .left in (
+      loop-further x f (c21 .bank-index .ensures) (c20 .help-index .ensures) refl (c12 .carry .ensures)
+          (sym (c .before .before .stays .ensures) ∙ not-false _ (c .before .if2 .left)) (c .if3 .left),
+      c22 .if1 .left,
+      c31 .loop .inv .2,
+    )
 
 same-length : tie.Need-same-length Inv-loop μ-loop
 same-length c = (head-all (c .before .loop .inv .0) (c .loop-test .left)) .becomes .kept .words
@@ -285,7 +298,9 @@ same-length-5 c =
     let c30 = c28 .before .before in let c31 = c30 .before in
     let x = looking (c31 .loop .inv .0) (c30 .loop-test .taken) (c28 .entry-in .ensures) (c27 .process-of .ensures) (c26 .place-of .ensures) (c24 .order-of .ensures) in
     let f = sym (c23 .refusal .ensures) ∙ c22 .if1 .left in
-    (loop-unanswered x f (c21 .bank-index .ensures) (c20 .help-index .ensures) refl (c12 .carry .ensures) (sym (c .before .before .stays .ensures) ∙ not-false _ (c .before .if2 .left)) (c .if3 .taken)) .becomes .kept .words
+    (loop-unanswered x f (c21 .bank-index .ensures) (c20 .help-index .ensures) refl (c12 .carry .ensures)
+    (sym (c .before .before .stays .ensures) ∙ not-false _ (c .before .if2 .left))
+    (c .if3 .taken)) .becomes .kept .words
 
 same-length-6 : tie.Need-same-length-6 Inv-loop μ-loop
 same-length-6 c =
@@ -295,7 +310,9 @@ same-length-6 c =
     let c30 = c28 .before .before in let c31 = c30 .before in
     let x = looking (c31 .loop .inv .0) (c30 .loop-test .taken) (c28 .entry-in .ensures) (c27 .process-of .ensures) (c26 .place-of .ensures) (c24 .order-of .ensures) in
     let f = sym (c23 .refusal .ensures) ∙ c22 .if1 .left in
-    (loop-unanswered x f (c21 .bank-index .ensures) (c20 .help-index .ensures) refl (c12 .carry .ensures) (sym (c .before .before .stays .ensures) ∙ not-false _ (c .before .if2 .left)) (c .if3 .taken)) .becomes .kept .listing
+    (loop-unanswered x f (c21 .bank-index .ensures) (c20 .help-index .ensures) refl (c12 .carry .ensures)
+    (sym (c .before .before .stays .ensures) ∙ not-false _ (c .before .if2 .left))
+    (c .if3 .taken)) .becomes .kept .listing
 
 returns-3 : tie.Need-returns-3 Inv-loop μ-loop
 returns-3 c =
@@ -305,7 +322,9 @@ returns-3 c =
     let c30 = c28 .before .before in let c31 = c30 .before in let c38 = c31 .before .before .before .before .before .before .before in
     let x = looking (c31 .loop .inv .0) (c30 .loop-test .taken) (c28 .entry-in .ensures) (c27 .process-of .ensures) (c26 .place-of .ensures) (c24 .order-of .ensures) in
     let f = sym (c23 .refusal .ensures) ∙ c22 .if1 .left in
-    from-run (c38 .pre .2) (loop-unanswered x f (c21 .bank-index .ensures) (c20 .help-index .ensures) refl (c12 .carry .ensures) (sym (c .before .before .stays .ensures) ∙ not-false _ (c .before .if2 .left)) (c .if3 .taken))
+    from-run (c38 .pre .2) (loop-unanswered x f (c21 .bank-index .ensures) (c20 .help-index .ensures) refl
+    (c12 .carry .ensures) (sym (c .before .before .stays .ensures) ∙ not-false _ (c .before .if2 .left))
+    (c .if3 .taken))
 
 pub carry-out-spec : {M : Type 1} → statement M
 carry-out-spec =

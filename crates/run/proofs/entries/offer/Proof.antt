@@ -36,7 +36,9 @@ area-lent {n} {w} {p = p} l e = omega (arith, e, row-lies n {r = 4 * n + p .0} {
 area-small : {n w : ℕ} {p : ProcessNumber} {ws : List ℕ} → Lent n w p ws → offerWord n w p 0 + w ≤ 20544
 area-small {n} {w} {p} l = let r : 4 * n + p .0 ≤ 79 = omega (arith, l .process, l .n-most) in let x = mul-le-mul r (l .w-most) in omega (arith, x, l .w-most)
 
-filled : (e : Entry) (n w : ℕ) (p : ProcessNumber) (ws : List ℕ) {q k at : ℕ} {ws′ : List ℕ} → e ≡ StartSc q k → at ≡ offerWord n w p 0 → ws′ ≡ sets ws at (replicate (at + w - at) k) → ws′ ≡ offered (orderOf e) p n w (valueOf w e) ws
+filled : (e : Entry) (n w : ℕ) (p : ProcessNumber) (ws : List ℕ) {q k at : ℕ} {ws′ : List ℕ} → e ≡ StartSc q k
+    → at ≡ offerWord n w p 0 → ws′ ≡ sets ws at (replicate (at + w - at) k)
+    → ws′ ≡ offered (orderOf e) p n w (valueOf w e) ws
 filled e n w p ws {k = k} {at = at} f g h = let one : at + w - at ≡ w = omega arith in h ∙ ap (λ (j : ℕ). sets ws at (replicate j k)) one ∙ rw (f, g)
 
 enum-known-e : tie.Need-enum-known-e

@@ -14,7 +14,8 @@ use Rattle.run.proofs.refusals.refusal.Statement.{statement}
 use Rattle.run.proofs.refusals.refusal.Tie as tie
 
 -- past rows 12, 14 and 4
-past-4 : (o : Order) (entries room needed n p : ℕ) (q : Process) {r : ℕ} → entries < mostEntries → needed ≤ room → p < n → r ≡ first (row5 o q ∷ row6 o q ∷ row7 o q ∷ []) → r ≡ refusalOf o entries room needed n p q
+past-4 : (o : Order) (entries room needed n p : ℕ) (q : Process) {r : ℕ} → entries < mostEntries → needed ≤ room
+    → p < n → r ≡ first (row5 o q ∷ row6 o q ∷ row7 o q ∷ []) → r ≡ refusalOf o entries room needed n p q
 past-4 o entries room needed n p q e l m f = over _ 12 (lt-leb mostEntries entries e) (over _ 14 (le-ltb room needed l) (over _ 4 (lt-leb n p m) f))
 
 returns : tie.Need-returns
@@ -51,13 +52,17 @@ returns-6 : tie.Need-returns-6
 returns-6 c =
     let c2 = c .before .before in let c4 = c2 .before .before in let c6 = c4 .before .before in let a = c6 .before .before .before .args in
     past-4 (a .order) (a .entries) (a .room) (a .needed) (a .n) (a .p) (a .process) (c6 .before .before .if1 .left) (c6 .before .if2 .left) (c6 .if3 .left)
-    (over _ 5 (sym (c4 .before .start-at-busy .ensures) ∙ c4 .if4 .left) (over _ 6 (sym (c2 .before .step-at-idle .ensures) ∙ c2 .if5 .left) (here _ 7 _ (sym (c .before .never-linked .ensures) ∙ c .if6 .taken))))
+    (over _ 5 (sym (c4 .before .start-at-busy .ensures) ∙ c4 .if4 .left)
+    (over _ 6 (sym (c2 .before .step-at-idle .ensures) ∙ c2 .if5 .left)
+    (here _ 7 _ (sym (c .before .never-linked .ensures) ∙ c .if6 .taken))))
 
 returns-7 : tie.Need-returns-7
 returns-7 c =
     let c2 = c .before .before in let c4 = c2 .before .before in let c6 = c4 .before .before in let a = c6 .before .before .before .args in
     past-4 (a .order) (a .entries) (a .room) (a .needed) (a .n) (a .p) (a .process) (c6 .before .before .if1 .left) (c6 .before .if2 .left) (c6 .if3 .left)
-    (over _ 5 (sym (c4 .before .start-at-busy .ensures) ∙ c4 .if4 .left) (over _ 6 (sym (c2 .before .step-at-idle .ensures) ∙ c2 .if5 .left) (over _ 7 {r = 0} (sym (c .before .never-linked .ensures) ∙ c .if6 .left) refl)))
+    (over _ 5 (sym (c4 .before .start-at-busy .ensures) ∙ c4 .if4 .left)
+    (over _ 6 (sym (c2 .before .step-at-idle .ensures) ∙ c2 .if5 .left)
+    (over _ 7 {r = 0} (sym (c .before .never-linked .ensures) ∙ c .if6 .left) refl)))
 
 pub refusal-spec : {M : Type 1} → statement M
 refusal-spec =

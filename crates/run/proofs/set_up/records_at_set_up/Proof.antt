@@ -32,8 +32,11 @@ loop-less c = omega (arith, c .before .before .loop-test .taken)
 
 loop-again : tie.Need-loop-again Inv-loop μ-loop
 loop-again c =
-    let c3 = c .before .before .before in let c4 = c3 .before in
-    (records-again (c4 .args .all .list) (c4 .args .n) (c3 .loop .p) (c3 .loop .inv .0) (c .before .record-at-set-up .ensures) (c .with-record .ensures), omega (arith, c .before .before .loop-test .taken))
+    let c3 = c .before .before .before in let c4 = c3 .before in (
+      records-again (c4 .args .all .list) (c4 .args .n) (c3 .loop .p) (c3 .loop .inv .0)
+          (c .before .record-at-set-up .ensures) (c .with-record .ensures),
+      omega (arith, c .before .before .loop-test .taken),
+    )
 
 returns : tie.Need-returns Inv-loop μ-loop
 returns c = records-all (c .before .before .args .all .list) (c .before .before .args .n) (c .before .loop .p) (c .before .loop .inv .0) (c .before .loop .inv .1) (c .loop-test .left)

@@ -4,7 +4,7 @@ use mathlib.Core.Bool.{false}
 use native.Mathlib.Omega.{arith}
 use borrow.Author.Needs.{needs}
 use denote.Ref.{now}
-use Rattle.run.specs.Whole.{freshRun}
+use Rattle.run.specs.Finished.{freshRun}
 use Rattle.run.proofs.RunLaws.{closed-answers, closed-place}
 use Rattle.run.proofs.text_run.refused.Statement.{statement}
 use Rattle.run.proofs.text_run.refused.Tie as tie

@@ -8,14 +8,14 @@ use lib.ListN.{length}
 use Rattle.notation.specs.Readers.{HeaderSays}
 use Rattle.run.specs.declared.text_run.First.{First}
 use Rattle.run.specs.TextRun.{roomNeeded}
-use Rattle.run.specs.Whole.{memoryOf, refusedWith, saysAfter}
-use Rattle.run.proofs.RunLaws.{lending-few, run-14, run-12, run-not-headed, run-headed, answered, ended-as}
-use Rattle.run.proofs.StopLaws.{place-is, line-place, place-few, stops-14, stops-12, stops-looked}
+use Rattle.run.specs.Finished.{memoryOf, refusedWith, saysAfter}
+use Rattle.run.proofs.RunLaws.{lending-sixteen, run-14, run-12, run-not-headed, run-headed, answered, ended-as}
+use Rattle.run.proofs.StopLaws.{place-is, line-place, place-sixteen, stops-14, stops-12, stops-looked}
 use Rattle.run.proofs.text_run.run_in_style.Statement.{statement}
 use Rattle.run.proofs.text_run.run_in_style.Tie as tie
 
-few-requires : tie.Need-few-requires
-few-requires c κs = search needs
+records-seen-requires : tie.Need-records-seen-requires
+records-seen-requires c κs = search needs
 
 room-needed-requires : tie.Need-room-needed-requires
 room-needed-requires c κs = search needs
@@ -32,7 +32,7 @@ refused-requires : tie.Need-refused-requires
 refused-requires c κs =
     let c3 = c .before .before .before in let c4 = c3 .before in let c5 = c4 .before in let c9 = c5 .before .before .before .before in
     let a = c9 .args in
-    let lent = lending-few {list = now (a .list)} (a .traced) (a .len) (c5 .few .ensures) (c9 .pre) (omega (arith, c3 .if1 .left, c4 .room-needed .ensures)) in
+    let lent = lending-sixteen {list = now (a .list)} (a .traced) (a .len) (c5 .records-seen .ensures) (c9 .pre) (omega (arith, c3 .if1 .left, c4 .room-needed .ensures)) in
     (lent, omega arith)
 
 same-length : tie.Need-same-length
@@ -47,7 +47,7 @@ returns-2 c =
     let c10 = c9 .before in let c14 = c10 .before .before .before .before in
     let a = c14 .args in
     let m = memoryOf (a .bench) (a .all) (a .len) (now (a .words)) in
-    let all = answered (a .len) (a .bench) (a .all) (now (a .words)) (λ m. refusedWith 12 m (now (a .list))) (c10 .few .ensures) (c14 .pre) (c4 .refused .ensures .0) in
+    let all = answered (a .len) (a .bench) (a .all) (now (a .words)) (λ m. refusedWith 12 m (now (a .list))) (c10 .records-seen .ensures) (c14 .pre) (c4 .refused .ensures .0) in
     let room : roomNeeded (a .traced) ≤ length (now (a .list)) = omega (arith, c8 .if1 .left, c9 .room-needed .ensures) in
     ended-as all (run-12 (a .traced) m (now (a .text)) (now (a .list)) room (c7 .if2 .taken)) (stops-12 (c7 .if2 .taken) (c4 .refused .ensures .1))
 
@@ -62,7 +62,7 @@ refused-requires-2 c κs =
     let c7 = c .before .before .before .before .before .before .before in let c8 = c7 .before in let c9 = c8 .before in
     let c13 = c9 .before .before .before .before in
     let a = c13 .args in
-    let lent = lending-few {list = now (a .list)} (a .traced) (a .len) (c9 .few .ensures) (c13 .pre) (omega (arith, c7 .if1 .left, c8 .room-needed .ensures)) in
+    let lent = lending-sixteen {list = now (a .list)} (a .traced) (a .len) (c9 .records-seen .ensures) (c13 .pre) (omega (arith, c7 .if1 .left, c8 .room-needed .ensures)) in
     (lent, omega arith)
 
 enum-known-header-2 : tie.Need-enum-known-header-2
@@ -73,7 +73,7 @@ checked-requires c κs =
     let c3 = c .before .before .before in let c5 = c3 .before .before in let c6 = c5 .before in let c7 = c6 .before in let c8 = c7 .before in
     let c9 = c8 .before in let c13 = c9 .before .before .before .before in
     let a = c13 .args in
-    let lent = lending-few {list = now (a .list)} (a .traced) (a .len) (c9 .few .ensures) (c13 .pre) (omega (arith, c7 .if1 .left, c8 .room-needed .ensures)) in
+    let lent = lending-sixteen {list = now (a .list)} (a .traced) (a .len) (c9 .records-seen .ensures) (c13 .pre) (omega (arith, c7 .if1 .left, c8 .room-needed .ensures)) in
     let first = subst (HeaderSays _) (c3 .header2 .given .1) (c5 .first-line .ensures) in
     (lent, record { line = first; placeable = omega (arith, c6 .if2 .left) })
 
@@ -90,7 +90,7 @@ returns-3 c =
     let c18 = c14 .before .before .before .before in
     let a = c18 .args in
     let m = memoryOf (a .bench) (a .all) (a .len) (now (a .words)) in
-    let all = answered (a .len) (a .bench) (a .all) (now (a .words)) (λ m. refusedWith 10 m (now (a .list))) (c14 .few .ensures) (c18 .pre) (c4 .refused2 .ensures .0) in
+    let all = answered (a .len) (a .bench) (a .all) (now (a .words)) (λ m. refusedWith 10 m (now (a .list))) (c14 .records-seen .ensures) (c18 .pre) (c4 .refused2 .ensures .0) in
     let first = subst (HeaderSays _) (c8 .header .given .1) (c10 .first-line .ensures) in
     let room : roomNeeded (a .traced) ≤ length (now (a .list)) = omega (arith, c12 .if1 .left, c13 .room-needed .ensures) in
     let place = place-is (c4 .refused2 .ensures .1) (line-place first) in
@@ -111,17 +111,19 @@ returns-4 c =
     let m = memoryOf (a .bench) (a .all) (a .len) (now (a .words)) in
     let g = c8 .header2 .given .0 in
     let f : First = record { n = g .0; w = g .1 .0; initial = g .1 .1 .0; items = g .1 .1 .1 .0 } in
-    let all = answered (a .len) (a .bench) (a .all) (now (a .words)) (λ m. saysAfter (a .traced) (now (a .text)) f m (now (a .list))) (c14 .few .ensures) (c18 .pre) (c4 .checked .ensures .0) in
+    let all = answered (a .len) (a .bench) (a .all) (now (a .words))
+    (λ m. saysAfter (a .traced) (now (a .text)) f m (now (a .list))) (c14 .records-seen .ensures) (c18 .pre)
+    (c4 .checked .ensures .0) in
     let first = subst (HeaderSays _) (c8 .header2 .given .1) (c10 .first-line .ensures) in
     let room : roomNeeded (a .traced) ≤ length (now (a .list)) = omega (arith, c12 .if1 .left, c13 .room-needed .ensures) in
-    let place = place-few (a .len) (a .bench) (a .all) (now (a .words)) (c14 .few .ensures) (c18 .pre) (c4 .checked .ensures .1) in
+    let place = place-sixteen (a .len) (a .bench) (a .all) (now (a .words)) (c14 .records-seen .ensures) (c18 .pre) (c4 .checked .ensures .1) in
     ended-as all (run-headed (a .traced) m (now (a .text)) (now (a .list)) room f (c11 .if2 .left) first) (stops-looked room (c11 .if2 .left) place)
 
 pub run-in-style-spec : {M : Type 1} → statement M
 run-in-style-spec =
     tie.close
     (tie.spec
-    few-requires
+    records-seen-requires
     room-needed-requires
     returns
     refused-requires

@@ -7,10 +7,10 @@ use lib.ListN.{length, length-map, length-replicate}
 use lib.Seq.{length-sets}
 use Rattle.setup.specs.SetUpByValue.{Accepted}
 use Rattle.run.specs.declared.state.Run.{Run}
-use Rattle.run.specs.Held.{Sound}
+use Rattle.run.specs.RunState.{Sound}
 use Rattle.run.specs.Carried.{entriesIn, placesIn}
 use Rattle.run.proofs.WordLaws.{prefix-length}
-use Rattle.run.proofs.StartLaws.{number-small, accepted, begun-sound, first-held, others-left}
+use Rattle.run.proofs.StartLaws.{number-small, accepted, begun-sound, first-state, others-left}
 use Rattle.run.proofs.RunLaws.{sound-closable, closed-answers, closed-place, answers-as, refused-start, carried-start}
 use Rattle.run.proofs.StopLaws.{stop-within, item-read, refused-place, begun-place}
 use borrow.Author.Needs.{needs}
@@ -97,11 +97,11 @@ carry-out-requires c κs =
     let c11 = c10 .before in let c12 = c11 .before in let c16 = c12 .before .before .before .before in
     let a = c16 .args in
     let e = sym (c12 .set-up-number .ensures) ∙ c11 .if1 .left in
-    let held = first-held (a .traced) (a .bench) (now (a .words)) (c16 .pre .0) (a .first .n) (a .first .w) (a .first .initial) (c16 .pre .1) e
+    let begins = first-state (a .traced) (a .bench) (now (a .words)) (c16 .pre .0) (a .first .n) (a .first .w) (a .first .initial) (c16 .pre .1) e
     (c .before .before .fresh .ensures) (c4 .bench-at-set-up .ensures) (c3 .records-at-set-up .ensures) (c7 .words-at-set-up .ensures) (c10 .repeated .ensures) in
     let sound = begun-sound (a .traced) (a .bench) (now (a .words)) (c16 .pre .0) (a .first .n) (a .first .w) (a .first .initial) (c16 .pre .1) e
     (record { bank = simp length-map at (c16 .good .0 .1 .1 .1 .1 .1 .0 .1 .0 .1); help = simp length-map at (c16 .good .0 .1 .1 .1 .1 .1 .1 .0 .1 .0 .1) }) in
-    (c16 .pre .2, subst (Sound _) (sym held) sound, ap (λ (r : Run). r .stop) (c .before .before .fresh .ensures))
+    (c16 .pre .2, subst (Sound _) (sym begins) sound, ap (λ (r : Run). r .stop) (c .before .before .fresh .ensures))
 
 stop-place-requires : tie.Need-stop-place-requires
 stop-place-requires c κs =
@@ -130,15 +130,15 @@ returns-2 c =
     let c21 = c18 .before .before .before in let c22 = c21 .before in let c23 = c22 .before in let c27 = c23 .before .before .before .before in
     let a = c27 .args in
     let e = sym (c23 .set-up-number .ensures) ∙ c22 .if1 .left in
-    let held = first-held (a .traced) (a .bench) (now (a .words)) (c27 .pre .0) (a .first .n) (a .first .w) (a .first .initial) (c27 .pre .1) e
+    let begins = first-state (a .traced) (a .bench) (now (a .words)) (c27 .pre .0) (a .first .n) (a .first .w) (a .first .initial) (c27 .pre .1) e
     (c13 .fresh .ensures) (c15 .bench-at-set-up .ensures) (c14 .records-at-set-up .ensures) (c18 .words-at-set-up .ensures) (c21 .repeated .ensures) in
     let es = entriesIn (a .count) (now (a .entries)) in
     let ps = placesIn (a .count) (now (a .entries)) in
     let out = c10 .carry-out .ensures in
-    let made = carried-start (a .traced) (a .first) es (a .bench) (now (a .words)) (c27 .pre .0) (c23 .set-up-number .ensures) (c27 .pre .1) (c22 .if1 .left) held (out .becomes) in
-    let others = others-left (a .traced) (a .bench) (now (a .words)) (c27 .pre .0) (a .first .n) (a .first .w) (a .first .initial) (c27 .pre .1) e held out in
+    let made = carried-start (a .traced) (a .first) es (a .bench) (now (a .words)) (c27 .pre .0) (c23 .set-up-number .ensures) (c27 .pre .1) (c22 .if1 .left) begins (out .becomes) in
+    let others = others-left (a .traced) (a .bench) (now (a .words)) (c27 .pre .0) (a .first .n) (a .first .w) (a .first .initial) (c27 .pre .1) e begins out in
     let item = item-read (now (a .entries)) (c27 .pre .2) (ap (λ (r : Run). r .stop) (c13 .fresh .ensures)) out in
-    let begun = begun-place (a .traced) (a .first) es ps (a .bench) (now (a .words)) (c27 .pre .0) (c23 .set-up-number .ensures) (c27 .pre .1) (c22 .if1 .left) held in (
+    let begun = begun-place (a .traced) (a .first) es ps (a .bench) (now (a .words)) (c27 .pre .0) (c23 .set-up-number .ensures) (c27 .pre .1) (c22 .if1 .left) begins in (
       answers-as (closed-answers (c10 .carry-out .result .run) _ _ (c10 .carry-out .ensures .becomes .kept .sound .filled) others (c .before .before .ended .ensures)) (made .same),
       closed-place (c10 .carry-out .result .run) _ (c .before .before .ended .ensures) ∙ c4 .stop-place .ensures ∙ item ∙ begun,
     )

@@ -7,7 +7,9 @@ use Rattle.run.proofs.traces.trace_line.Statement.{statement}
 use Rattle.run.proofs.traces.trace_line.Tie as tie
 
 returns : tie.Need-returns
-returns c = shown-none (c .before .before .args .traced) (entryLine (c .before .before .args .entry) (c .before .before .args .access) (c .before .before .args .e) (c .before .before .args .reply)) (c .if1 .taken)
+returns c =
+    let a = c .before .before .args in
+    shown-none (a .traced) (entryLine (a .entry) (a .access) (a .e) (a .reply)) (c .if1 .taken)
 
 answers-requires : tie.Need-answers-requires
 answers-requires c κs = search needs
@@ -82,7 +84,8 @@ same-length-4 c = search needs
 returns-5 : tie.Need-returns-5
 returns-5 c =
     let c5 = c .before .before .before .before .before in let c7 = c5 .before .before in let c8 = c7 .before in let c10 = c8 .before .before in
-    same (shown-is (c10 .args .traced) (c10 .args .entry) (c10 .args .access) (c10 .args .reply) (c8 .if1 .left) (c5 .e4 .given .1)) (rw (c7 .answers .ensures) at (c .before .before .step-line .ensures))
+    same (shown-is (c10 .args .traced) (c10 .args .entry) (c10 .args .access) (c10 .args .reply) (c8 .if1 .left)
+    (c5 .e4 .given .1)) (rw (c7 .answers .ensures) at (c .before .before .step-line .ensures))
 
 same-length-5 : tie.Need-same-length-5
 same-length-5 c = search needs
@@ -90,7 +93,8 @@ same-length-5 c = search needs
 returns-6 : tie.Need-returns-6
 returns-6 c =
     let c5 = c .before .before .before .before .before in let c7 = c5 .before .before in let c8 = c7 .before in let c10 = c8 .before .before in
-    same (shown-is (c10 .args .traced) (c10 .args .entry) (c10 .args .access) (c10 .args .reply) (c8 .if1 .left) (c5 .e5 .given .1)) (rw (c7 .answers .ensures) at (c .before .before .step-line2 .ensures))
+    same (shown-is (c10 .args .traced) (c10 .args .entry) (c10 .args .access) (c10 .args .reply) (c8 .if1 .left)
+    (c5 .e5 .given .1)) (rw (c7 .answers .ensures) at (c .before .before .step-line2 .ensures))
 
 pub trace-line-spec : {M : Type 1} → statement M
 trace-line-spec =

@@ -21,8 +21,8 @@ copy-half-requires c κs =
       simp (c .before .buffer-word .ensures) (lies (a .n) (omega arith) (omega arith) (h .lent .words)),
     )
 
-mul-do-line-11 : tie.Need-mul-do-line-11
-mul-do-line-11 c = search needs
+halves-requires : tie.Need-halves-requires
+halves-requires c κs = search needs
 
 do-line-11-requires : tie.Need-do-line-11-requires
 do-line-11-requires c κs = search needs
@@ -32,9 +32,11 @@ same-length c = search needs
 
 returns : tie.Need-returns
 returns c =
-    let copied = c .before .before .before in
+    let sized = c .before in
+    let copied = sized .before .before .before in
     simp (
       c .do-line-11 .ensures,
+      sized .halves .ensures,
       copied .copy-half .ensures,
       copied .before .before .before .return-word .ensures,
       copied .before .before .buffer-word .ensures,
@@ -47,7 +49,7 @@ step-11-spec =
     return-word-requires
     buffer-word-requires
     copy-half-requires
-    mul-do-line-11
+    halves-requires
     do-line-11-requires
     same-length
     returns)

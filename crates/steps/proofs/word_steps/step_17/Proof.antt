@@ -21,8 +21,8 @@ copy-half-requires c κs =
       simp (c .before .buffer-word .ensures) (lies (a .n) (omega arith) (omega arith) (h .lent .words)),
     )
 
-mul-do-word : tie.Need-mul-do-word
-mul-do-word c = search needs
+halves-requires : tie.Need-halves-requires
+halves-requires c κs = search needs
 
 do-word-requires : tie.Need-do-word-requires
 do-word-requires c κs = search needs
@@ -32,9 +32,11 @@ same-length c = search needs
 
 returns : tie.Need-returns
 returns c =
-    let copied = c .before .before .before in
+    let sized = c .before in
+    let copied = sized .before .before .before in
     simp (
       c .do-word .ensures,
+      sized .halves .ensures,
       copied .copy-half .ensures,
       copied .before .before .before .offer-word .ensures,
       copied .before .before .buffer-word .ensures,
@@ -47,7 +49,7 @@ step-17-spec =
     offer-word-requires
     buffer-word-requires
     copy-half-requires
-    mul-do-word
+    halves-requires
     do-word-requires
     same-length
     returns)

@@ -1,4 +1,5 @@
 -- The whole text run as the code holds it: what its parts are given and what they answer.
+-- Inner: `RunLaws` and `StopLaws` prove that the parts make `TextRun`'s run and `StopPlaces`' place.
 use mathlib.Core.Path.{_≡_}
 use mathlib.Core.Bool.{Bool, false, cond}
 use Prim.Native.Nat.{ℕ, _+_, _≤_}
@@ -19,17 +20,17 @@ use Rattle.notation.specs.FirstLine.{whole}
 use Rattle.notation.specs.Readers as R
 use Rattle.listing.specs.Lines.{endLine, refusedLine}
 use Rattle.run.specs.declared.state.Run.{Run}
-use Rattle.run.specs.declared.last_line.Whole.{Whole}
+use Rattle.run.specs.declared.last_line.Finished.{Finished}
 use Rattle.run.specs.declared.text_run.First.{First}
 use Rattle.run.specs.TextRun.{Ended, ended, begun, started, carriedOut, mostEntries, roomNeeded}
 use Rattle.run.specs.StopPlaces.{startedPlace}
-use Rattle.run.specs.Held.{Filled, lastRoom}
+use Rattle.run.specs.RunState.{Filled, lastRoom}
 
 abbrev pub freshRun : Bench → Records → ℕ → Bool → Run
 freshRun b all k t = record { bench = b; all = all; written = 0; entries = 0; stop = k; traced = t }
 
-abbrev pub wholeOf : Run → ℕ → ℕ → ℕ → Whole
-wholeOf r stored place written =
+abbrev pub finishedOf : Run → ℕ → ℕ → ℕ → Finished
+finishedOf r stored place written =
     record { bench = r .bench; all = r .all; stored = stored; number = r .stop; entries = r .entries; written = written; place = place }
 
 -- the last line of a run
@@ -37,8 +38,8 @@ abbrev pub lastOf : Run → List ℕ
 lastOf r = cond (eqb (r .stop) 0) (endLine (r .entries)) (refusedLine (r .stop) (r .entries))
 
 -- what a run comes to with its last line
-abbrev pub closed : Run → ℕ → ℕ → List ℕ → Whole × List ℕ
-closed r stored place list = (wholeOf r stored place (r .written + length (lastOf r)), sets list (r .written) (lastOf r))
+abbrev pub closed : Run → ℕ → ℕ → List ℕ → Finished × List ℕ
+closed r stored place list = (finishedOf r stored place (r .written + length (lastOf r)), sets list (r .written) (lastOf r))
 
 -- there is room for the last line
 pub record Closable (r : Run) (list : List ℕ) : Type 0 where
@@ -51,15 +52,15 @@ abbrev pub memoryOf : Bench → Records → ℕ → List ℕ → Memory
 memoryOf b all len words = record { bench = b; records = take len (all .list); words = words }
 
 -- of the lent records at most sixteen are looked at
-abbrev pub fewOf : ℕ → ℕ
-fewOf len = cond (ltb 16 len) 16 len
+abbrev pub atMostSixteen : ℕ → ℕ
+atMostSixteen len = cond (ltb 16 len) 16 len
 
 -- the records from `stored` on are what they were
-abbrev pub Others : Records → Whole → Type 0
+abbrev pub Others : Records → Finished → Type 0
 Others all r = (j : ℕ) → r .stored ≤ j → getD (r .all .list) j noProcess ≡ getD (all .list) j noProcess
 
 -- what a part of a text run answers, with the memory and the listing after it, where `all` were lent
-pub record Answers (len : ℕ) (all : Records) (r : Whole) (ws list : List ℕ) (e : Ended) : Type 0 where
+pub record Answers (len : ℕ) (all : Records) (r : Finished) (ws list : List ℕ) (e : Ended) : Type 0 where
   pub same : _≡_ {A = Ended} (record { number = r .number; entries = r .entries; written = r .written; memory = memoryOf (r .bench) (r .all) len ws; listing = list }) e
   pub filled : Filled len (r .all .list)
   pub others : Others all r

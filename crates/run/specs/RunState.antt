@@ -1,12 +1,14 @@
 -- The run as the code holds it, what holds of it at every moment, and what its inner functions promise of it.
+-- Inner: `progress` gives `TextRun`'s run of it, and `RunLaws` puts the promises together to that run.
 use mathlib.Core.Path.{_≡_}
-use Prim.Native.Nat.{ℕ, _+_, _*_, _≤_, _<_}
+use Prim.Native.Nat.{ℕ, _+_, _≤_, _<_}
 use mathlib.Core.List.{List, []}
 use mathlib.Core.Bool.{Bool, cond}
 use lib.ListN.{length, getD, take}
 use Rattle.model.specs.declared.Process.{Process}
 use Rattle.model.specs.declared.Reply.{Reply}
 use Rattle.model.specs.declared.Reply.the-variants.{Refused, Accepted, LlAnswered, ScAnswered, VlAnswered}
+use Rattle.model.specs.Sizes.{lentWords}
 use Rattle.model.specs.Words.{returnArea}
 use Rattle.model.specs.Records.{noProcess}
 use Rattle.model.specs.Machine.{Memory}
@@ -21,16 +23,16 @@ use Rattle.run.specs.TextRun.{Progress, mostEntries, roomNeeded, entryLi
 use Rattle.run.specs.Reached.{Reached}
 
 -- the run, the lent words and the listing
-pub record Held : Type 0 where
+pub record RunState : Type 0 where
   pub run : Run
   pub words : List ℕ
   pub listing : List ℕ
 
-abbrev pub held : Run → List ℕ → List ℕ → Held
-held r words listing = record { run = r; words = words; listing = listing }
+abbrev pub stateOf : Run → List ℕ → List ℕ → RunState
+stateOf r words listing = record { run = r; words = words; listing = listing }
 
 -- what that is as a run in progress, where `len` records are lent
-abbrev pub progress : ℕ → Held → Progress
+abbrev pub progress : ℕ → RunState → Progress
 progress len h = record {
   memory = record { bench = h .run .bench; records = take len (h .run .all .list); words = h .words };
   listing = h .listing;
@@ -52,14 +54,14 @@ pub record Filled (len : ℕ) (list : List Process) : Type 0 where
 pub record Fit (m : Memory) : Type 0 where
   pub reached : Reached m
   pub width : m .bench .w ≤ 64
-  pub small : (i : ℕ) → i < 5 * m .bench .n * m .bench .w → getD (m .words) i 0 ≤ largest
+  pub small : (i : ℕ) → i < lentWords (m .bench .n) (m .bench .w) → getD (m .words) i 0 ≤ largest
 
 -- the longest last line has 17 bytes
 abbrev pub lastRoom : ℕ
 lastRoom = 17
 
 -- what holds of a run at every moment
-pub record Sound (len : ℕ) (h : Held) : Type 0 where
+pub record Sound (len : ℕ) (h : RunState) : Type 0 where
   pub few : len ≤ 16
   pub filled : Filled len (h .run .all .list)
   pub entries : h .run .entries ≤ mostEntries
@@ -68,19 +70,19 @@ pub record Sound (len : ℕ) (h : Held) : Type 0 where
   pub going : h .run .stop ≡ 0 → Fit (progress len h .memory)
 
 -- it goes on, and neither 12 nor 14 holds
-pub record Ready (h : Held) : Type 0 where
+pub record Ready (h : RunState) : Type 0 where
   pub goes : h .run .stop ≡ 0
   pub entries : h .run .entries < mostEntries
   pub room : h .run .written + roomNeeded (h .run .traced) ≤ length (h .listing)
 
 -- the run stays sound, and as much is lent as before
-pub record Kept (len : ℕ) (h h′ : Held) : Type 0 where
+pub record Kept (len : ℕ) (h h′ : RunState) : Type 0 where
   pub sound : Sound len h′
   pub words : length (h′ .words) ≡ length (h .words)
   pub listing : length (h′ .listing) ≡ length (h .listing)
 
 -- one run becomes another
-pub record Becomes (len : ℕ) (f : Progress → Progress) (h h′ : Held) : Type 0 where
+pub record Becomes (len : ℕ) (f : Progress → Progress) (h h′ : RunState) : Type 0 where
   pub same : progress len h′ ≡ f (progress len h)
   pub kept : Kept len h h′
 
@@ -101,7 +103,7 @@ pub record Listable (r : Reply) (p n w : ℕ) (ws list : List ℕ) (at : ℕ) : 
   pub process : p < n
   pub n-most : n ≤ 16
   pub w-most : w ≤ 64
-  pub lent : 5 * n * w ≤ length ws
+  pub lent : lentWords n w ≤ length ws
   pub room : Room list at (answerLine n w ws p r)
 
 -- the trace's line of an accepted entry, none in a run that is not traced
