@@ -17,11 +17,11 @@ use Rattle.tables.specs.declared.records.Records.{Records}
 use Rattle.tables.specs.Gathered.{gathered}
 use Rattle.tables.proofs.GatheredLaws.{gathered-length, gathered-at}
 use Rattle.run.specs.declared.last_line.Finished.{Finished}
-use Rattle.run.specs.TextRun.{Ended, runText}
+use Rattle.semantics.specs.TextRun.{Ended, runText}
 use Rattle.run.specs.Finished.{atMostSixteen, Others}
 use Rattle.run.proofs.RecordLaws.{sixteen-most}
-use Rattle.run.proofs.TextFrame.{endedLonger, first-sixteen}
-use Rattle.run.specs.StopPlaces.{StopsAt}
+use Rattle.semantics.proofs.TextFrame.{endedLonger, first-sixteen}
+use Rattle.semantics.specs.StopPlaces.{StopsAt}
 use Rattle.bench.specs.declared.RunLeft.{RunLeft}
 use Rattle.bench.specs.Lent.{memory, recordsStored}
 use Rattle.bench.specs.Running.{left, Ran}

@@ -7,7 +7,7 @@ ghost use Rattle.tables.specs.Gathered.{gathered};
 ghost use Rattle.model.specs.Command.{command};
 ghost use Rattle.model.specs.SetUp.{setUp};
 ghost use Rattle.model.specs.View.{viewNumber, view};
-ghost use Rattle.run.specs.TextRun.{runText};
+ghost use Rattle.semantics.specs.TextRun.{runText};
 ghost use Rattle.bench.specs.Lent.{memory};
 ghost use Rattle.bench.specs.SettingUp.{setUpByValue};
 ghost use Rattle.bench.specs.Running.{Ran};

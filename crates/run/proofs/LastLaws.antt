@@ -9,7 +9,7 @@ use borrow.Author.Tests.{eq-eqb, ne-eqb}
 use Rattle.listing.specs.Lines.{endLine, refusedLine}
 use Rattle.listing.specs.Writing.{Room, Wrote}
 use Rattle.listing.proofs.Lengths.{end-length, refused-length}
-use Rattle.run.specs.declared.state.Run.{Run}
+use Rattle.entry.specs.declared.state.Run.{Run}
 use Rattle.run.specs.declared.last_line.Finished.{Finished}
 use Rattle.run.specs.Finished.{finishedOf, lastOf, closed, Closable}
 

@@ -25,15 +25,16 @@ use Rattle.notation.specs.Listed.{Keeps}
 use Rattle.notation.proofs.HeaderLaws.{headed-reads}
 use Rattle.notation.proofs.GroupLaws.{not-headed}
 use Rattle.notation.proofs.ListedLaws.{kept-entries}
-use Rattle.run.specs.declared.state.Run.{Run}
+use Rattle.entry.specs.declared.state.Run.{Run}
 use Rattle.run.specs.declared.last_line.Finished.{Finished}
 use Rattle.run.specs.declared.text_run.First.{First}
-use Rattle.run.specs.TextRun.{Progress, Ended, ended, begun, carryAll, started, carriedOut, roomNeeded, longestText, runWith}
-use Rattle.run.specs.RunState.{RunState, stateOf, progress, Filled, Sound, Kept, Becomes}
-use Rattle.run.specs.Carried.{entriesIn}
+use Rattle.semantics.specs.TextRun.{Progress, Ended, ended, begun, carryAll, started, carriedOut, roomNeeded, longestText, runWith}
+use Rattle.entry.specs.RunState.{RunState, stateOf, progress, Filled, Sound, Kept, Becomes}
+use Rattle.carrying.specs.Carried.{entriesIn}
 use Rattle.run.specs.Finished.{freshRun, closed, Closable, memoryOf, atMostSixteen, Others, Answers, Lending, refusedWith, startedWith, saysAfter}
-use Rattle.run.proofs.RecordLaws.{gathered-filled, filled-gathered, sixteen-most, take-sixteen, filled-sixteen, sixteen-filled}
-use Rattle.run.proofs.KeptLaws.{kept-run}
+use Rattle.entry.proofs.FilledLaws.{gathered-filled, filled-gathered}
+use Rattle.run.proofs.RecordLaws.{sixteen-most, take-sixteen, filled-sixteen, sixteen-filled}
+use Rattle.semantics.proofs.KeptLaws.{kept-run}
 use Rattle.run.proofs.StartLaws.{set-up-same, first, begun-same}
 
 -- a sound run has room for its last line

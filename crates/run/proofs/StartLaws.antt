@@ -21,16 +21,16 @@ use Rattle.rows.proofs.RowLaws.{cleared, neither}
 use Rattle.setup.proofs.SetUpLaws.{first-row, set-up-fits}
 use Rattle.notation.specs.declared.Entry.{Entry}
 use Rattle.notation.specs.Grammar.{largest}
-use Rattle.run.specs.RunState.{RunState, stateOf, progress, Filled, Sound}
-use Rattle.run.specs.Carried.{Carries}
-use Rattle.run.specs.Reached.{Reached}
-use Rattle.run.specs.TextRun.{Progress, begun}
+use Rattle.entry.specs.RunState.{RunState, stateOf, progress, Filled, Sound}
+use Rattle.carrying.specs.Carried.{Carries}
+use Rattle.semantics.specs.Reached.{Reached}
+use Rattle.semantics.specs.TextRun.{Progress, begun}
 use Rattle.run.specs.Finished.{freshRun, memoryOf, Lending}
-use Rattle.run.specs.declared.state.Run.{Run}
-use Rattle.run.proofs.WordLaws.{Every, every-replicate, take-replicate}
-use Rattle.run.proofs.RecordLaws.{filled-set, lent-length}
-use Rattle.run.proofs.ReachedLaws.{reached-set-up}
-use Rattle.run.proofs.CommandLaws.{first-small}
+use Rattle.entry.specs.declared.state.Run.{Run}
+use Rattle.entry.proofs.WordLaws.{Every, every-replicate, take-replicate}
+use Rattle.entry.proofs.FilledLaws.{filled-set, lent-length}
+use Rattle.semantics.proofs.ReachedLaws.{reached-set-up}
+use Rattle.entry.proofs.CommandLaws.{first-small}
 use Rattle.run.proofs.SetUpLaws.{mapped-length}
 
 pub number-small : (n w len words value : ℕ) → setUpNumber n w len words value ≤ 9

@@ -29,14 +29,15 @@ use Rattle.notation.proofs.ListedText.{listed-says, words-say, words-stand}
 use Rattle.notation.proofs.ReplyPlaces.{no-first-fault, no-first-place, broken-fault, broken-place, closed-fault, closed-at}
 use Rattle.notation.proofs.Theorems.{read-is-right, fault-is-wrong}
 use Rattle.run.specs.declared.text_run.First.{First}
-use Rattle.run.specs.TextRun.{Progress, begun, carry, carryAll, roomNeeded, longestText}
-use Rattle.run.specs.StopPlaces.{stopIndex, itemPlace, startedPlace, PlaceInText, StopsAt}
-use Rattle.run.specs.RunState.{RunState, progress}
-use Rattle.run.specs.Carried.{entriesIn, placesIn, Carries}
+use Rattle.semantics.specs.TextRun.{Progress, begun, carry, carryAll, roomNeeded, longestText}
+use Rattle.semantics.specs.StopPlaces.{stopIndex, itemPlace, startedPlace, PlaceInText, StopsAt}
+use Rattle.entry.specs.RunState.{RunState, progress}
+use Rattle.carrying.specs.Carried.{entriesIn, placesIn, Carries}
 use Rattle.run.specs.Finished.{memoryOf, atMostSixteen, Lending, placeWith}
-use Rattle.run.proofs.RecordLaws.{gathered-filled, take-sixteen}
-use Rattle.run.proofs.LoopLaws.{count-entries}
-use Rattle.run.proofs.KeptLaws.{kept-run, kept-index}
+use Rattle.entry.proofs.FilledLaws.{gathered-filled}
+use Rattle.run.proofs.RecordLaws.{take-sixteen}
+use Rattle.carrying.proofs.LoopLaws.{count-entries}
+use Rattle.semantics.proofs.KeptLaws.{kept-run, kept-index}
 use Rattle.run.proofs.StartLaws.{set-up-same, first, begun-same}
 use Rattle.run.proofs.RunLaws.{not-begun, is-begun}
 

@@ -19,12 +19,12 @@ use Rattle.notation.specs.Scan.{scan, between}
 use Rattle.notation.specs.FirstLine.{whole}
 use Rattle.notation.specs.Readers as R
 use Rattle.listing.specs.Lines.{endLine, refusedLine}
-use Rattle.run.specs.declared.state.Run.{Run}
+use Rattle.entry.specs.declared.state.Run.{Run}
 use Rattle.run.specs.declared.last_line.Finished.{Finished}
 use Rattle.run.specs.declared.text_run.First.{First}
-use Rattle.run.specs.TextRun.{Ended, ended, begun, started, carriedOut, mostEntries, roomNeeded}
-use Rattle.run.specs.StopPlaces.{startedPlace}
-use Rattle.run.specs.RunState.{Filled, lastRoom}
+use Rattle.semantics.specs.TextRun.{Ended, ended, begun, started, carriedOut, mostEntries, roomNeeded}
+use Rattle.semantics.specs.StopPlaces.{startedPlace}
+use Rattle.entry.specs.RunState.{Filled, lastRoom}
 
 abbrev pub freshRun : Bench → Records → ℕ → Bool → Run
 freshRun b all k t = record { bench = b; all = all; written = 0; entries = 0; stop = k; traced = t }

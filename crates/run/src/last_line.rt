@@ -1,7 +1,7 @@
 // The end of a text run: its last line and what it returns.
 ghost use mathlib.Core.Path.{_≡_};
 ghost use Rattle.run.specs.Finished.{freshRun, finishedOf, closed, Closable};
-use crate::state::Run;
+use entry::state::Run;
 use model::Bench;
 use tables::records::Records;
 

@@ -6,10 +6,10 @@ use denote.Ref.{now}
 use lib.ListN.{length, length-map, length-replicate}
 use lib.Seq.{length-sets}
 use Rattle.setup.specs.SetUpByValue.{Accepted}
-use Rattle.run.specs.declared.state.Run.{Run}
-use Rattle.run.specs.RunState.{Sound}
-use Rattle.run.specs.Carried.{entriesIn, placesIn}
-use Rattle.run.proofs.WordLaws.{prefix-length}
+use Rattle.entry.specs.declared.state.Run.{Run}
+use Rattle.entry.specs.RunState.{Sound}
+use Rattle.carrying.specs.Carried.{entriesIn, placesIn}
+use Rattle.entry.proofs.WordLaws.{prefix-length}
 use Rattle.run.proofs.StartLaws.{number-small, accepted, begun-sound, first-state, others-left}
 use Rattle.run.proofs.RunLaws.{sound-closable, closed-answers, closed-place, answers-as, refused-start, carried-start}
 use Rattle.run.proofs.StopLaws.{stop-within, item-read, refused-place, begun-place}

@@ -1,0 +1,11 @@
+pub mod FilledLaws
+pub mod WordLaws
+pub mod ObeyLaws
+pub mod CommandLaws
+pub mod DecisionLaws
+pub mod SingleLaws
+pub mod OrderLaws
+pub mod TraceLaws
+pub mod TurnLaws
+pub mod EntryLaws
+pub mod AnswerLaws

@@ -1,0 +1,103 @@
+// What an entry orders: its process, its order and its value.
+ghost use mathlib.Core.Path.{_≡_};
+ghost use lib.ListN.{replicate};
+ghost use Rattle.semantics.specs.TextRun.{processOf, orderOf, valueOf};
+ghost use Rattle.taken.specs.Ranges.{Lent};
+ghost use Rattle.steps.specs.Steps.{offered};
+ghost use Rattle.notation.specs.EntryWords.{entryIn, placeIn};
+ghost use Rattle.entry.specs.Turned.{placeOf, staysAt};
+use lines::points;
+use model::Order;
+use model::ProcessNumber;
+use notation::Entry;
+use words::word_places;
+use words::word_runs;
+
+// The entry that a number of the list keeps.
+pub fn entry_in(word: u64) -> Entry
+    ensures { λ r. ⌜ r ≡ entryIn word ⌝ }
+{
+    let kind = word % 8;
+    let p = word / 8 % 32;
+    match kind {
+        0 => Entry::StartLl(p),
+        1 => Entry::StartVl(p),
+        2 => Entry::StartSc(p, word / 256 % 4294967296),
+        3 => Entry::Step(p),
+        _ => Entry::Finish(p),
+    }
+}
+
+// The place of its item in the text.
+pub fn item_place(word: u64) -> usize
+    ensures { λ r. ⌜ r ≡ placeIn word ⌝ }
+{
+    (word / 1099511627776) as usize
+}
+
+// The record that is looked at for a process number.
+pub fn place_of(p: u64) -> usize
+    ensures { λ r. ⌜ r ≡ placeOf p ⌝ }
+{
+    if p < 16 {
+        return p as usize;
+    }
+    0
+}
+
+// "`!` is steps until the call answers": whether the entry is not over with a step that leaves its process at this
+// line.
+pub fn stays(e: Entry, line: u8) -> bool
+    ensures { λ r. ⌜ r ≡ staysAt e line ⌝ }
+{
+    match e {
+        Entry::StartLl(_) => false,
+        Entry::StartVl(_) => false,
+        Entry::StartSc(_, _) => false,
+        Entry::Step(_) => false,
+        Entry::Finish(_) => line != points::IDLE,
+    }
+}
+
+// "The value k has k in all W words": those of a start of SC into the offer area. No other entry has any.
+pub fn offer(e: Entry, n: usize, w: usize, p: ProcessNumber, words: &mut [u64])
+    requires { ⌜ Lent n w p (now words) ⌝ }
+    ensures { λ _. ⌜ now (words .exit) ≡ offered (orderOf e) p n w (valueOf w e) (now (words .entry)) ⌝ }
+{
+    let Entry::StartSc(_, k) = e else {
+        return;
+    };
+    let at = word_places::offer_word(n, w, p, 0);
+    word_runs::fill(words, at, at + w, k);
+}
+
+pub fn process_of(e: Entry) -> u64
+    ensures { λ r. ⌜ r ≡ processOf e ⌝ }
+{
+    match e {
+        Entry::StartLl(p) => p,
+        Entry::StartVl(p) => p,
+        Entry::StartSc(p, _) => p,
+        Entry::Step(p) => p,
+        Entry::Finish(p) => p,
+    }
+}
+
+pub fn order_of(e: Entry) -> Order
+    ensures { λ r. ⌜ r ≡ orderOf e ⌝ }
+{
+    match e {
+        Entry::StartLl(_) => Order::StartLl,
+        Entry::StartVl(_) => Order::StartVl,
+        Entry::StartSc(_, _) => Order::StartSc,
+        Entry::Step(_) => Order::Step,
+        Entry::Finish(_) => Order::Step,
+    }
+}
+
+// "The value k has k in all W words": as many as W may be.
+pub fn repeated(k: u64) -> [u64; 64]
+    ensures { λ r. ⌜ r ≡ replicate 64 k ⌝ }
+{
+    [k; 64]
+}

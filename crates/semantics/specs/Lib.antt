@@ -1,0 +1,3 @@
+pub mod TextRun
+pub mod StopPlaces
+pub mod Reached
