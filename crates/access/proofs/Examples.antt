@@ -23,7 +23,8 @@ use Rattle.access.specs.declared.Access.{Access}
 use Rattle.access.specs.declared.Act.the-variants.{Sc}
 use Rattle.access.specs.Accesses.{bankAccess, vlOfX, accessOf}
 use Rattle.listing.specs.Quoted.{quoted}
-use Rattle.access.specs.TraceLines.{spaced, bracketed, headText, halfText, halfPlaceText, itemText, valuesText, truthText, storedText, writtenText, actText, endText, stepLine, broughtText, startLine}
+use Rattle.access.specs.TraceLines.{spaced, bracketed, headText, halfText, halfPlaceText, itemText, valuesText, truthText, storedText}
+use Rattle.access.specs.TraceLines.{writtenText, actText, endText, stepLine, broughtText, startLine}
 
 -- the line of a step of p, with its answer; ws are the words after it
 stepped : ℕ → ℕ → Access → ℕ → ℕ → List ℕ → Reply → List ℕ
@@ -69,7 +70,9 @@ case-A :
     ++ quoted "16 0 17 BUF[4][0] high write 0\n"
     ++ quoted "17 0 18 Bank[1] read 1\n"
     ++ quoted "18 0 19 X SC 4 1 true links cleared answers 0 S 6 1\n"
-unfolding traced entryLine stepped command refusal inRange obey stepAt accessOf setUp setUpRefusal spaced bracketed headText halfText halfPlaceText itemText valuesText storedText writtenText actText endText stepLine broughtText startLine llLine truthLine answerHead wordsOf decimal digits
+unfolding traced entryLine stepped command refusal inRange obey stepAt accessOf setUp setUpRefusal spaced bracketed
+    headText halfText halfPlaceText itemText valuesText storedText writtenText actText endText stepLine broughtText
+    startLine llLine truthLine answerHead wordsOf decimal digits
 case-A = refl
 
 -- an SC that did nothing, a VL of each truth, and a start of a VL

@@ -16,7 +16,8 @@ use Rattle.access.specs.declared.Act.the-variants.{Read, Write, Ll, Sc, 
 use Rattle.access.specs.declared.Access.{Access}
 use Rattle.access.specs.Items.{index, wordPlace}
 use Rattle.listing.specs.Quoted.{quoted}
-use Rattle.access.specs.TraceLines.{spaced, bracketed, headText, halfText, halfPlaceText, itemText, valuesText, truthText, storedText, writtenText, actText, endText, stepLine, broughtText, startLine}
+use Rattle.access.specs.TraceLines.{spaced, bracketed, headText, halfText, halfPlaceText, itemText, valuesText, truthText, storedText}
+use Rattle.access.specs.TraceLines.{writtenText, actText, endText, stepLine, broughtText, startLine}
 
 -- no number of an access has more than ten digits, nor its line more than three
 pub record SmallAccess (a : Access) : Type 0 where

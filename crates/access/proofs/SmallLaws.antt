@@ -24,7 +24,8 @@ use Rattle.model.specs.Tables.{noBank, noHelp, bankAt, helpAt, next, helped}
 use Rattle.model.specs.Sizes.{halves}
 use Rattle.model.specs.Words.{bufferWord, wordOf, half}
 use Rattle.model.proofs.HalfLaws.{half-small}
-use Rattle.model.specs.Points.{Point, idle, line1, line2, line3, line4, line5, line6, line7, line7copy, line8, line9, line10, line11, line12, line12valid, line13, line14, line14valid, line15, line17, line18, line19, line23}
+use Rattle.model.specs.Points.{Point, idle, line1, line2, line3, line4, line5, line6, line7, line7copy, line8, line9, line10, line11}
+use Rattle.model.specs.Points.{line12, line12valid, line13, line14, line14valid, line15, line17, line18, line19, line23}
 use Rattle.model.specs.Machine.{Memory}
 use Rattle.model.specs.Refusals.{every, bufferOk, sequenceOk, xOk, linksOk, xPlaceOk, bankPlaceOk, helpPlaceOk, lineOk, countOk, processOk, benchOk, inRange}
 use Rattle.taken.specs.Ranges.{Ready}

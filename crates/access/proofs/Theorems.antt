@@ -16,7 +16,8 @@ use Rattle.model.specs.declared.Process.{Process}
 use Rattle.model.specs.Places.{linked, llX, scX, llBank, scBank, llHelp, scHelp, writeHelp}
 use Rattle.model.specs.Tables.{bankAt, helpAt, putX, putHelp, next, helped}
 use Rattle.model.specs.Words.{bufferWord, returnWord, offerWord, wordOf, half, copiedHalf}
-use Rattle.model.specs.Points.{Point, idle, line1, line2, line3, line4, line5, line6, line7, line7copy, line8, line9, line10, line11, line12, line12valid, line13, line14, line14valid, line15, line17, line18, line19, line23}
+use Rattle.model.specs.Points.{Point, idle, line1, line2, line3, line4, line5, line6, line7, line7copy, line8, line9, line10, line11}
+use Rattle.model.specs.Points.{line12, line12valid, line13, line14, line14valid, line15, line17, line18, line19, line23}
 use Rattle.model.specs.Machine.{stepAt}
 use Rattle.taken.proofs.IndexLaws.{bank-index-small, help-index-small}
 use Rattle.access.proofs.PlaceLaws.{word-lies}

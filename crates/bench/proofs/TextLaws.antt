@@ -17,11 +17,10 @@ use Rattle.tables.specs.declared.records.Records.{Records}
 use Rattle.tables.specs.Gathered.{gathered}
 use Rattle.tables.proofs.GatheredLaws.{gathered-length, gathered-at}
 use Rattle.run.specs.declared.last_line.Finished.{Finished}
-use Rattle.semantics.specs.TextRun.{Ended, runText}
-use Rattle.run.specs.Finished.{atMostSixteen, Others}
+use Rattle.semantics.specs.TextRun.{runText}
+use Rattle.run.specs.Finished.{atMostSixteen, TextRan}
 use Rattle.run.proofs.RecordLaws.{sixteen-most}
 use Rattle.semantics.proofs.TextFrame.{endedLonger, first-sixteen}
-use Rattle.semantics.specs.StopPlaces.{StopsAt}
 use Rattle.bench.specs.declared.RunLeft.{RunLeft}
 use Rattle.bench.specs.Lent.{memory, recordsStored}
 use Rattle.bench.specs.Running.{left, Ran}
@@ -124,20 +123,18 @@ ran-stored b rs ws text listing r zs vs ls ran stored =
 pub at-most-sixteen : (b : Bench) (all : Records) (len : ℕ) (ws text list : List ℕ) (r : Finished) (k : ℕ) (ws′ list′ : List ℕ)
     → all ≡ gathered (take len (all .list)) noProcess 16
     → k ≡ atMostSixteen (r .stored)
-    → (_≡_ {A = Ended} (record { number = r .number; entries = r .entries; written = r .written; memory = memory (r .bench) (take len (r .all .list)) ws′; listing = list′ })
-    (runText (memory b (take len (all .list)) ws) text list))
-    × (r .all ≡ gathered (take len (r .all .list)) noProcess 16) × Others all r × StopsAt false (memory b (take len (all .list)) ws) text list (r .place)
+    → TextRan false b all len ws text list r ws′ list′
     → Ran b all len ws text list (record { bench = r .bench; all = r .all; stored = k; number = r .number; entries = r .entries; written = r .written }) ws′ list′
 at-most-sixteen b all len ws text list r k ws′ list′ q e x = record
-    { same = x .0; again = x .1; others = others; few = subst (λ (n : ℕ). n ≤ 16) (sym e) (sixteen-most (r .stored)) }
+    { same = x .same; again = x .again; others = others; few = subst (λ (n : ℕ). n ≤ 16) (sym e) (sixteen-most (r .stored)) }
   where
     past : (l : Records) → l ≡ gathered (take len (l .list)) noProcess 16 → (j : ℕ) → 16 ≤ j → getD (l .list) j noProcess ≡ noProcess
     past l g j h = List·getD-eq-default (l .list) noProcess
         (let n = ap (λ (m : Records). length (m .list)) g ∙ gathered-length (take len (l .list)) noProcess 16 in omega arith)
 
     either : (j : ℕ) → (t : Bool) → ltb 16 (r .stored) ≡ t → cond t 16 (r .stored) ≤ j → getD (r .all .list) j noProcess ≡ getD (all .list) j noProcess
-    either j true f h = past (r .all) (x .1) j h ∙ sym (past all q j h)
-    either j false f h = x .2 j h
+    either j true f h = past (r .all) (x .again) j h ∙ sym (past all q j h)
+    either j false f h = x .others j h
 
     others : (j : ℕ) → k ≤ j → getD (r .all .list) j noProcess ≡ getD (all .list) j noProcess
     others j h = either j (ltb 16 (r .stored)) refl (subst (λ (n : ℕ). n ≤ j) e h)

@@ -4,7 +4,6 @@ ghost use mathlib.Core.Path.{_≡_};
 ghost use lib.ListN.{getD, set};
 ghost use Rattle.model.specs.Records.{noProcess};
 ghost use Rattle.tables.specs.Gathered.{gathered};
-ghost use Rattle.run.specs.Finished.{atMostSixteen};
 ghost use Rattle.bench.specs.Lent.{recordFor, recordsStored, recordsToWrite, recordsWritten};
 use model::Process;
 use model::ProcessNumber;
@@ -76,16 +75,6 @@ pub fn set_up_records(records: &mut [Process], n: usize, count: usize)
         store_at(records, i, q);
         i += 1;
     }
-}
-
-// How many of sixteen records are stored back.
-pub fn at_most_sixteen(n: usize) -> usize
-    ensures { λ r. ⌜ r ≡ atMostSixteen n ⌝ }
-{
-    if 16 < n {
-        return 16;
-    }
-    n
 }
 
 // One of sixteen records, or the filler past their end.

@@ -31,7 +31,9 @@ pub fn command(
     order: Order,
     value: &[u64],
 ) -> Reply
-    ensures { λ r. ⌜ (r, memory (now (bench .exit)) (now (records .exit)) (now (words .exit))) ≡ command (memory (now (bench .entry)) (now (records .entry)) (now (words .entry))) process order (now (value .entry)) ⌝ }
+    ensures { λ r. ⌜
+        (r, memory (now (bench .exit)) (now (records .exit)) (now (words .exit)))
+        ≡ command (memory (now (bench .entry)) (now (records .entry)) (now (words .entry))) process order (now (value .entry)) ⌝ }
 {
     let b = *bench;
     let len = records.len();
@@ -86,7 +88,9 @@ pub fn set_up(
     w: usize,
     value: &[u64],
 ) -> u8
-    ensures { λ r. ⌜ (r, memory (now (bench .exit)) (now (records .exit)) (now (words .exit))) ≡ setUp (memory (now (bench .entry)) (now (records .entry)) (now (words .entry))) n w (now (value .entry)) ⌝ }
+    ensures { λ r. ⌜
+        (r, memory (now (bench .exit)) (now (records .exit)) (now (words .exit)))
+        ≡ setUp (memory (now (bench .entry)) (now (records .entry)) (now (words .entry))) n w (now (value .entry)) ⌝ }
 {
     let b = *bench;
     let len = records.len();
@@ -129,7 +133,7 @@ fn run_gathered(
     let out = run::text_run::run_by_value(bench, all, len, words, text, listing);
     let next = out.bench;
     let records = out.all;
-    let stored = lent::at_most_sixteen(out.stored);
+    let stored = run::text_run::records_seen(out.stored);
     RunLeft {
         bench: next,
         all: records,
@@ -151,7 +155,15 @@ pub fn run_text(
     text: &[u8],
     listing: &mut [u8],
 ) -> TextRun
-    ensures { λ r. ⌜ record { number = r .number; entries = r .entries; written = r .written; memory = memory (now (bench .exit)) (now (records .exit)) (now (words .exit)); listing = now (listing .exit) } ≡ runText (memory (now (bench .entry)) (now (records .entry)) (now (words .entry))) (now (text .entry)) (now (listing .entry)) ⌝ }
+    ensures { λ r. ⌜
+        record {
+          number = r .number;
+          entries = r .entries;
+          written = r .written;
+          memory = memory (now (bench .exit)) (now (records .exit)) (now (words .exit));
+          listing = now (listing .exit);
+        }
+        ≡ runText (memory (now (bench .entry)) (now (records .entry)) (now (words .entry))) (now (text .entry)) (now (listing .entry)) ⌝ }
 {
     let b = *bench;
     let len = records.len();

@@ -11,7 +11,8 @@ use entry::state;
 use entry::state::Run;
 use entry::turn;
 use model::ProcessNumber;
-use taken::Taken;
+use model::sizes;
+use notation::entry_words;
 
 // The run after its list, and its place in it: that of the entry that stopped the run, or the end.
 pub struct Carried {
@@ -36,7 +37,7 @@ pub fn carry_out(
     let w = run.bench.w;
     let traced = run.traced;
     let needed = state::room_needed(traced);
-    let most = 8 * w + 7;
+    let most = sizes::ll_most(w);
     let mut bench = run.bench;
     let mut all = run.all;
     let mut written = run.written;
@@ -45,7 +46,7 @@ pub fn carry_out(
     let mut at = 0;
     let mut left = most;
     while at < count {
-        let e = entries::entry_in(entries[at]);
+        let e = entry_words::entry_in(entries[at]);
         let p = entries::process_of(e);
         let k = entries::place_of(p);
         let process = all.list[k];
@@ -54,22 +55,16 @@ pub fn carry_out(
         if stop != 0 {
             break;
         }
-        let bank_index = taken::bank_index(n, process);
-        let help_index = taken::help_index(n, ProcessNumber(p as u8), process);
-        let i = bank_index.0 as usize;
-        let j = help_index.0 as usize;
-        let places = Taken {
-            x: bench.x,
-            bank: bench.bank[i],
-            help: bench.help[j],
-        };
+        let i = taken::bank_index(n, process).0 as usize;
+        let j = taken::help_index(n, ProcessNumber(p as u8), process).0 as usize;
+        let places = taken::places(bench.x, bench.bank[i], bench.help[j]);
         done += 1;
         let turn = turn::carry(traced, done, e, n, w, places, process, words, list, written);
-        let next = turn.process;
         let put = turn.taken;
         let x = put.x;
         let bank = put.bank;
         let help = put.help;
+        let next = turn.process;
         bench.x = x;
         bench.bank[i] = bank;
         bench.help[j] = help;

@@ -20,7 +20,8 @@ use Rattle.model.specs.Replies.{numberOf}
 use Rattle.model.specs.Sizes.{halves}
 use Rattle.model.specs.Words.{bufferWord, returnWord, offerWord, wordOf, withHalf, copiedHalf}
 use Rattle.model.proofs.HalfLaws.{with-half-small}
-use Rattle.model.specs.Points.{Point, pointOf, idle, line1, line2, line3, line4, line5, line6, line7, line7copy, line8, line9, line10, line11, line12, line12valid, line13, line14, line14valid, line15, line17, line18, line19, line23}
+use Rattle.model.specs.Points.{Point, pointOf, idle, line1, line2, line3, line4, line5, line6, line7, line7copy, line8, line9, line10}
+use Rattle.model.specs.Points.{line11, line12, line12valid, line13, line14, line14valid, line15, line17, line18, line19, line23}
 use Rattle.model.specs.Machine.{stepAt, obey}
 use Rattle.taken.specs.Ranges.{Ready}
 use Rattle.words.proofs.WordLaws.{within}

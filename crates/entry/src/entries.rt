@@ -4,7 +4,6 @@ ghost use lib.ListN.{replicate};
 ghost use Rattle.semantics.specs.TextRun.{processOf, orderOf, valueOf};
 ghost use Rattle.taken.specs.Ranges.{Lent};
 ghost use Rattle.steps.specs.Steps.{offered};
-ghost use Rattle.notation.specs.EntryWords.{entryIn, placeIn};
 ghost use Rattle.entry.specs.Turned.{placeOf, staysAt};
 use lines::points;
 use model::Order;
@@ -12,28 +11,6 @@ use model::ProcessNumber;
 use notation::Entry;
 use words::word_places;
 use words::word_runs;
-
-// The entry that a number of the list keeps.
-pub fn entry_in(word: u64) -> Entry
-    ensures { λ r. ⌜ r ≡ entryIn word ⌝ }
-{
-    let kind = word % 8;
-    let p = word / 8 % 32;
-    match kind {
-        0 => Entry::StartLl(p),
-        1 => Entry::StartVl(p),
-        2 => Entry::StartSc(p, word / 256 % 4294967296),
-        3 => Entry::Step(p),
-        _ => Entry::Finish(p),
-    }
-}
-
-// The place of its item in the text.
-pub fn item_place(word: u64) -> usize
-    ensures { λ r. ⌜ r ≡ placeIn word ⌝ }
-{
-    (word / 1099511627776) as usize
-}
 
 // The record that is looked at for a process number.
 pub fn place_of(p: u64) -> usize

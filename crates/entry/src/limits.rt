@@ -1,4 +1,5 @@
-// 01's limits of a text run, and the numbers of its own refusals; rows 1 to 9 have theirs in `rows::causes`.
+// 01's limits of a text run, and the numbers of its own refusals; rows 1 to 9 have theirs in `rows::causes`, 10 and 11 in
+// `notation::items`.
 pub const MOST_ENTRIES: usize = 60000;
 
 // Room for an entry's line, and for a trace's line before it.
@@ -9,10 +10,6 @@ pub const TRACE_ROOM: usize = 872;
 pub const LONGEST_TEXT: usize = 16384;
 
 pub const DEEPEST: usize = 8;
-
-pub const TEXT_BROKEN: u8 = 10;
-
-pub const TOO_DEEP: u8 = 11;
 
 pub const TOO_MUCH: u8 = 12;
 

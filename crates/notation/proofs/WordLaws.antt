@@ -6,7 +6,7 @@ use native.Mathlib.Omega.{arith}
 use native.Mathlib.Decide.{decLe}
 use borrow.Author.Tests.{le-leb, lt-leb}
 use Rattle.notation.specs.Grammar.{largest}
-use Rattle.notation.specs.EntryWords.{keptProcess, entryOfKind, kindIn, processIn, numberIn, entryIn, placeUnit, placeIn}
+use Rattle.notation.specs.EntryWords.{keptProcess, entryOfKind, processUnit, numberUnit, placeUnit, kindIn, processIn, numberIn, entryIn, placeIn}
 
 -- a process number in the code
 pub kept-itself : (p : ℕ) → p ≤ 15 → p ≡ keptProcess p
@@ -24,7 +24,7 @@ kept-small p = go (decLe p 15)
 
 -- the parts of a packed number
 abbrev word : ℕ → ℕ → ℕ → ℕ
-word kind p k = kind + 8 * p + 256 * k
+word kind p k = kind + processUnit * p + numberUnit * k
 
 module _ (kind p k : ℕ) (few : kind ≤ 4) (small : p ≤ 16) (fits : k ≤ largest) where
   kind-in : kindIn (word kind p k) ≡ kind

@@ -23,25 +23,37 @@ keptEntry (Finish p) = Finish (keptProcess p)
 abbrev pub entryOfKind : ℕ → ℕ → ℕ → Entry
 entryOfKind kind p k = cond (eqb kind 0) (StartLl p) (cond (eqb kind 1) (StartVl p) (cond (eqb kind 2) (StartSc p k) (cond (eqb kind 3) (Step p) (Finish p))))
 
-abbrev pub kindIn : ℕ → ℕ
-kindIn word = word % 8
+-- where a part begins, and how many values it can have
+abbrev pub processUnit : ℕ
+processUnit = 8
 
-abbrev pub processIn : ℕ → ℕ
-processIn word = word / 8 % 32
+abbrev pub processValues : ℕ
+processValues = 32
 
-abbrev pub numberIn : ℕ → ℕ
-numberIn word = word / 256 % 4294967296
+abbrev pub numberUnit : ℕ
+numberUnit = 256
 
--- the entry that a number keeps
-unfoldable pub entryIn : ℕ → Entry
-entryIn word = entryOfKind (kindIn word) (processIn word) (numberIn word)
+abbrev pub numberValues : ℕ
+numberValues = 4294967296
 
--- the numbers of an entry end below the place
 abbrev pub placeUnit : ℕ
 placeUnit = 1099511627776
 
 abbrev pub largestPlace : ℕ
 largestPlace = 16777215
+
+abbrev pub kindIn : ℕ → ℕ
+kindIn word = word % processUnit
+
+abbrev pub processIn : ℕ → ℕ
+processIn word = word / processUnit % processValues
+
+abbrev pub numberIn : ℕ → ℕ
+numberIn word = word / numberUnit % numberValues
+
+-- the entry that a number keeps
+unfoldable pub entryIn : ℕ → Entry
+entryIn word = entryOfKind (kindIn word) (processIn word) (numberIn word)
 
 abbrev pub placeIn : ℕ → ℕ
 placeIn word = word / placeUnit

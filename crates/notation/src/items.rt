@@ -14,9 +14,9 @@ use crate::skip;
 use crate::turns;
 
 // 01's numbers of a text that breaks the notation, and of a group too deep.
-const TEXT_BROKEN: u8 = 10;
+pub const TEXT_BROKEN: u8 = 10;
 
-const TOO_DEEP: u8 = 11;
+pub const TOO_DEEP: u8 = 11;
 
 // An item is read up to a place, with its entries kept up to another; or it has a fault, with its number and place.
 pub enum Done {

@@ -28,10 +28,11 @@ use Rattle.notation.proofs.ListedLaws.{kept-entries}
 use Rattle.entry.specs.declared.state.Run.{Run}
 use Rattle.run.specs.declared.last_line.Finished.{Finished}
 use Rattle.run.specs.declared.text_run.First.{First}
-use Rattle.semantics.specs.TextRun.{Progress, Ended, ended, begun, carryAll, started, carriedOut, roomNeeded, longestText, runWith}
+use Rattle.semantics.specs.TextRun.{Progress, Ended, ended, begun, carryAll, carriedOut, roomNeeded, longestText, runWith}
+use Rattle.semantics.specs.StopPlaces.{StopsAt}
 use Rattle.entry.specs.RunState.{RunState, stateOf, progress, Filled, Sound, Kept, Becomes}
 use Rattle.carrying.specs.Carried.{entriesIn}
-use Rattle.run.specs.Finished.{freshRun, closed, Closable, memoryOf, atMostSixteen, Others, Answers, Lending, refusedWith, startedWith, saysAfter}
+use Rattle.run.specs.Finished.{closed, Closable, memoryOf, atMostSixteen, Others, endOf, Answers, Lending, TextRan, refusedWith, startedWith, saysAfter}
 use Rattle.entry.proofs.FilledLaws.{gathered-filled, filled-gathered}
 use Rattle.run.proofs.RecordLaws.{sixteen-most, take-sixteen, filled-sixteen, sixteen-filled}
 use Rattle.semantics.proofs.KeptLaws.{kept-run}
@@ -165,14 +166,7 @@ module _ (t : Bool) (m : Memory) (text list : List ℕ) where
 pub answered : {k : ℕ} {out : Finished} {ws′ list′ : List ℕ} (len : ℕ) (b : Bench) (all : Records) (ws : List ℕ)
     (g : Memory → Ended) → k ≡ atMostSixteen len → all ≡ gathered (take len (all .list)) noProcess 16
     → Answers k all out ws′ list′ (g (memoryOf b all k ws))
-    → (_≡_ {A = Ended} (record {
-      number = out .number;
-      entries = out .entries;
-      written = out .written;
-      memory = memoryOf (out .bench) (out .all) len ws′;
-      listing = list′;
-    })
-    (g (memoryOf b all len ws))) × (out .all ≡ gathered (take len (out .all .list)) noProcess 16) × Others all out
+    → (endOf len out ws′ list′ ≡ g (memoryOf b all len ws)) × (out .all ≡ gathered (take len (out .all .list)) noProcess 16) × Others all out
 answered {k} {out} {ws′} {list′} len b all ws g e q x =
     let f : Filled (atMostSixteen len) (out .all .list) = subst (λ (j : ℕ). Filled j (out .all .list)) e (x .filled) in
     let a : take k (all .list) ≡ take len (all .list) = ap (λ (j : ℕ). take j (all .list)) e ∙ take-sixteen len (all .list) (gathered-filled len all q .sixteen) in
@@ -190,5 +184,8 @@ answered {k} {out} {ws′} {list′} len b all ws g e q x =
     )
 
 -- with the place at which the run stopped
-pub ended-as : {a b c : Ended} {P Q R : Type 0} → (a ≡ b) × P × Q → b ≡ c → R → (a ≡ c) × P × Q × R
-ended-as x e r = (x .0 ∙ e, x .1, x .2, r)
+pub ended-as : {t : Bool} {b : Bench} {all : Records} {len : ℕ} {ws text list : List ℕ} {r : Finished} {ws′ list′ : List ℕ} {e : Ended}
+    → (endOf len r ws′ list′ ≡ e) × (r .all ≡ gathered (take len (r .all .list)) noProcess 16) × Others all r
+    → e ≡ runWith t (memoryOf b all len ws) text list → StopsAt t (memoryOf b all len ws) text list (r .place)
+    → TextRan t b all len ws text list r ws′ list′
+ended-as x e s = record { same = x .0 ∙ e; again = x .1; others = x .2; stops = s }

@@ -12,6 +12,7 @@ use Rattle.model.specs.Records.{noProcess}
 use Rattle.model.specs.Machine.{Memory}
 use Rattle.model.specs.SetUp.{setUp}
 use Rattle.tables.specs.declared.records.Records.{Records}
+use Rattle.tables.specs.Gathered.{gathered}
 use Rattle.notation.specs.declared.Entry.{Entry}
 use Rattle.notation.specs.Grammar.{deepest}
 use Rattle.notation.specs.EntryWords.{largestPlace}
@@ -22,8 +23,8 @@ use Rattle.listing.specs.Lines.{endLine, refusedLine}
 use Rattle.entry.specs.declared.state.Run.{Run}
 use Rattle.run.specs.declared.last_line.Finished.{Finished}
 use Rattle.run.specs.declared.text_run.First.{First}
-use Rattle.semantics.specs.TextRun.{Ended, ended, begun, started, carriedOut, mostEntries, roomNeeded}
-use Rattle.semantics.specs.StopPlaces.{startedPlace}
+use Rattle.semantics.specs.TextRun.{Ended, ended, begun, started, carriedOut, mostEntries, roomNeeded, runWith}
+use Rattle.semantics.specs.StopPlaces.{startedPlace, StopsAt}
 use Rattle.entry.specs.RunState.{Filled, lastRoom}
 
 abbrev pub freshRun : Bench → Records → ℕ → Bool → Run
@@ -59,9 +60,13 @@ atMostSixteen len = cond (ltb 16 len) 16 len
 abbrev pub Others : Records → Finished → Type 0
 Others all r = (j : ℕ) → r .stored ≤ j → getD (r .all .list) j noProcess ≡ getD (all .list) j noProcess
 
+-- what a run returns and leaves, with the words and the listing after it
+abbrev pub endOf : ℕ → Finished → List ℕ → List ℕ → Ended
+endOf len r ws list = record { number = r .number; entries = r .entries; written = r .written; memory = memoryOf (r .bench) (r .all) len ws; listing = list }
+
 -- what a part of a text run answers, with the memory and the listing after it, where `all` were lent
 pub record Answers (len : ℕ) (all : Records) (r : Finished) (ws list : List ℕ) (e : Ended) : Type 0 where
-  pub same : _≡_ {A = Ended} (record { number = r .number; entries = r .entries; written = r .written; memory = memoryOf (r .bench) (r .all) len ws; listing = list }) e
+  pub same : endOf len r ws list ≡ e
   pub filled : Filled len (r .all .list)
   pub others : Others all r
 
@@ -70,6 +75,15 @@ pub record Lending (len : ℕ) (all : Records) (list : List ℕ) : Type 0 where
   pub few : len ≤ 16
   pub filled : Filled len (all .list)
   pub room : roomNeeded false ≤ length list
+
+-- what a whole text run answers, in one of the two styles, where `all` holds the first sixteen of `len` lent records:
+-- the run of `semantics`, at any lent memory, with the filler in its place again, the records from `stored` on as they
+-- were, and the place at which it stopped
+pub record TextRan (t : Bool) (b : Bench) (all : Records) (len : ℕ) (ws text list : List ℕ) (r : Finished) (ws′ list′ : List ℕ) : Type 0 where
+  pub same : endOf len r ws′ list′ ≡ runWith t (memoryOf b all len ws) text list
+  pub again : r .all ≡ gathered (take len (r .all .list)) noProcess 16
+  pub others : Others all r
+  pub stops : StopsAt t (memoryOf b all len ws) text list (r .place)
 
 -- the first line is read
 pub record Headed (s : List ℕ) (f : First) : Type 0 where

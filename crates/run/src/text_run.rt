@@ -7,12 +7,11 @@ ghost use lib.Dec.{eqb};
 ghost use lib.ListN.{length, getD, take};
 ghost use Rattle.model.specs.Records.{noProcess};
 ghost use Rattle.tables.specs.Gathered.{gathered};
-ghost use Rattle.semantics.specs.TextRun.{runWith, runText, traceText};
 ghost use Rattle.notation.specs.Grammar.{largest};
 ghost use Rattle.notation.specs.EntryWords.{placeIn};
-ghost use Rattle.semantics.specs.StopPlaces.{PlaceInText, StopsAt};
+ghost use Rattle.semantics.specs.StopPlaces.{PlaceInText};
 ghost use Rattle.carrying.specs.Carried.{entriesIn, placesIn};
-ghost use Rattle.run.specs.Finished.{memoryOf, atMostSixteen, Others, Answers, Lending, Headed, startedWith, placeWith, saysAfter, refusedWith};
+ghost use Rattle.run.specs.Finished.{memoryOf, atMostSixteen, Answers, Lending, Headed, TextRan, startedWith, placeWith, saysAfter, refusedWith};
 use crate::last_line;
 use crate::last_line::Finished;
 use crate::set_up;
@@ -21,6 +20,7 @@ use entry::limits;
 use entry::state;
 use model::Bench;
 use notation::Header;
+use notation::entry_words;
 use notation::items;
 use notation::items::Items;
 use tables::records::Records;
@@ -60,7 +60,7 @@ fn stop_place(stop: u8, entries: &[u64], at: usize) -> usize
     if stop == 0 {
         return 0;
     }
-    entries::item_place(entries[at])
+    entry_words::item_place(entries[at])
 }
 
 // "then 1, 2, 3, then the set-up, then the entries": those of the list, up to `count`. The value is looked at only
@@ -124,35 +124,20 @@ fn checked(
         (saysAfter traced (now (text .entry)) first (memoryOf bench all len (now (words .entry))) (now (list .entry))) ×
         PlaceInText traced (memoryOf bench all len (now (words .entry))) (now (text .entry)) (now (list .entry)) (r .place) ⌝ }
 {
-    let mut entries = empty_list();
-    let read = items::read_items(text, first.items, limits::DEEPEST, &mut entries, 0);
+    let mut kept = empty_list();
+    let read = items::read_items(text, first.items, limits::DEEPEST, &mut kept, 0);
     match read {
         Items::Broken(k, place) => refused(bench, all, len, k, place, words, list),
-        Items::Closed(next, _) => refused(
-            bench,
-            all,
-            len,
-            limits::TEXT_BROKEN,
-            next - 1,
-            words,
-            list,
-        ),
-        Items::Ended(count) => started(
-            bench,
-            all,
-            len,
-            traced,
-            first,
-            &entries,
-            count,
-            words,
-            list,
-        ),
+        Items::Closed(next, _) => {
+            let place = next - 1;
+            refused(bench, all, len, items::TEXT_BROKEN, place, words, list)
+        }
+        Items::Ended(count) => started(bench, all, len, traced, first, &kept, count, words, list),
     }
 }
 
-// Of the lent records at most sixteen are looked at.
-fn records_seen(len: usize) -> usize
+// Of the lent records at most sixteen are looked at, and stored back.
+pub fn records_seen(len: usize) -> usize
     ensures { λ r. ⌜ r ≡ atMostSixteen len ⌝ }
 {
     if 16 < len {
@@ -173,38 +158,20 @@ fn run_in_style(
 ) -> Finished
     requires { ⌜ all ≡ gathered (take len (all .list)) noProcess 16 ⌝ }
     ensures { λ r. ⌜
-        (record { number = r .number; entries = r .entries; written = r .written; memory = memoryOf (r .bench) (r .all) len (now (words .exit)); listing = now (list .exit) }
-        ≡ runWith traced (memoryOf bench all len (now (words .entry))) (now (text .entry)) (now (list .entry))) ×
-        (r .all ≡ gathered (take len (r .all .list)) noProcess 16) ×
-        Others all r ×
-        StopsAt traced (memoryOf bench all len (now (words .entry))) (now (text .entry)) (now (list .entry)) (r .place) ⌝ }
+        TextRan traced bench all len (now (words .entry)) (now (text .entry)) (now (list .entry))
+        r (now (words .exit)) (now (list .exit)) ⌝ }
 {
     let lent = records_seen(len);
     if list.len() < state::room_needed(traced) {
-        return Finished {
-            bench,
-            all,
-            stored: 0,
-            number: limits::NO_ROOM,
-            entries: 0,
-            written: 0,
-            place: 0,
-        };
+        let run = last_line::fresh(bench, all, limits::NO_ROOM, traced);
+        return last_line::returned(run, 0, 0, 0);
     }
     if limits::LONGEST_TEXT < text.len() {
         return refused(bench, all, lent, limits::TOO_MUCH, 0, words, list);
     }
     let header = notation::first_line(text);
     match header {
-        Header::NoFirst(place) => refused(
-            bench,
-            all,
-            lent,
-            limits::TEXT_BROKEN,
-            place,
-            words,
-            list,
-        ),
+        Header::NoFirst(place) => refused(bench, all, lent, items::TEXT_BROKEN, place, words, list),
         Header::First(n, w, initial, items) => {
             let first = First {
                 n,
@@ -230,11 +197,8 @@ pub fn run_by_value(
 ) -> Finished
     requires { ⌜ all ≡ gathered (take len (all .list)) noProcess 16 ⌝ }
     ensures { λ r. ⌜
-        (record { number = r .number; entries = r .entries; written = r .written; memory = memoryOf (r .bench) (r .all) len (now (words .exit)); listing = now (list .exit) }
-        ≡ runText (memoryOf bench all len (now (words .entry))) (now (text .entry)) (now (list .entry))) ×
-        (r .all ≡ gathered (take len (r .all .list)) noProcess 16) ×
-        Others all r ×
-        StopsAt false (memoryOf bench all len (now (words .entry))) (now (text .entry)) (now (list .entry)) (r .place) ⌝ }
+        TextRan false bench all len (now (words .entry)) (now (text .entry)) (now (list .entry))
+        r (now (words .exit)) (now (list .exit)) ⌝ }
 {
     run_in_style(bench, all, len, false, words, text, list)
 }
@@ -250,11 +214,8 @@ pub fn trace_by_value(
 ) -> Finished
     requires { ⌜ all ≡ gathered (take len (all .list)) noProcess 16 ⌝ }
     ensures { λ r. ⌜
-        (record { number = r .number; entries = r .entries; written = r .written; memory = memoryOf (r .bench) (r .all) len (now (words .exit)); listing = now (list .exit) }
-        ≡ traceText (memoryOf bench all len (now (words .entry))) (now (text .entry)) (now (list .entry))) ×
-        (r .all ≡ gathered (take len (r .all .list)) noProcess 16) ×
-        Others all r ×
-        StopsAt true (memoryOf bench all len (now (words .entry))) (now (text .entry)) (now (list .entry)) (r .place) ⌝ }
+        TextRan true bench all len (now (words .entry)) (now (text .entry)) (now (list .entry))
+        r (now (words .exit)) (now (list .exit)) ⌝ }
 {
     run_in_style(bench, all, len, true, words, text, list)
 }

@@ -14,7 +14,8 @@ use Rattle.model.specs.declared.Order.the-variants.{StartLl, StartSc, StartVl, 
 use Rattle.model.specs.declared.Reply.{Reply}
 use Rattle.model.specs.declared.Reply.the-variants.{Refused}
 use Rattle.model.specs.Records.{recordAt}
-use Rattle.model.specs.Points.{Point, pointOf, idle, line1, line2, line3, line4, line5, line6, line7, line7copy, line8, line9, line10, line11, line12, line12valid, line13, line14, line14valid, line15, line17, line18, line19, line23}
+use Rattle.model.specs.Points.{Point, pointOf, idle, line1, line2, line3, line4, line5, line6, line7, line7copy, line8, line9, line10}
+use Rattle.model.specs.Points.{line11, line12, line12valid, line13, line14, line14valid, line15, line17, line18, line19, line23}
 use Rattle.model.specs.Machine.{Memory, Shaped, stepAt, obey}
 use Rattle.model.specs.Command.{command, refusal, obeyed}
 use Rattle.model.specs.SetUp.{setUp, setUpRefusal, bankAtSetUp, helpAtSetUp, numbers}

@@ -26,7 +26,9 @@ use Rattle.notation.specs.Grammar.{Said}
 use Rattle.notation.specs.FirstLine.{Reading, right, wrong, read}
 use Rattle.access.specs.declared.Access.{Access}
 use Rattle.access.specs.Accesses.{accessOf}
-use Rattle.semantics.specs.TextRun.{Progress, stopped, lineOf, accessNow, entryLine, linesOf, counted, replied, processOf, orderOf, valueOf, commanded, single, unanswered, steps, finish, carry, carryAll, Ended, ended, begun, started, carriedOut, runWith, runText, mostEntries, roomNeeded, longestText}
+use Rattle.semantics.specs.TextRun.{Progress, stopped, lineOf, accessNow, entryLine, linesOf, counted, replied, processOf, orderOf}
+use Rattle.semantics.specs.TextRun.{valueOf, commanded, single, unanswered, steps, finish, carry, carryAll, Ended, ended, begun}
+use Rattle.semantics.specs.TextRun.{started, carriedOut, runWith, runText, mostEntries, roomNeeded, longestText}
 use Rattle.semantics.proofs.CommandFrame.{withRecords, behind, same-record, command-frame, command-records, unrefused-below, set-up-frame, set-up-records}
 
 -- a run whose memory has more records behind its own

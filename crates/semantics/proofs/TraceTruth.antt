@@ -29,7 +29,8 @@ use Rattle.access.specs.Items.{InBench, halfHolding, itemAt}
 use Rattle.access.specs.Truth.{TellsTruth}
 use Rattle.access.proofs.Theorems.{trace-is-true}
 use Rattle.semantics.specs.Reached.{Reached}
-use Rattle.semantics.specs.TextRun.{Progress, stopped, mostEntries, roomNeeded, processOf, orderOf, valueOf, lineOf, accessNow, traceLine, linesOf, counted, commanded, single, unanswered, steps, carry, carryAll, begun}
+use Rattle.semantics.specs.TextRun.{Progress, stopped, mostEntries, roomNeeded, processOf, orderOf, valueOf, lineOf, accessNow}
+use Rattle.semantics.specs.TextRun.{traceLine, linesOf, counted, commanded, single, unanswered, steps, carry, carryAll, begun}
 use Rattle.semantics.proofs.ReachedLaws.{reached-set-up, reached-command}
 use Rattle.semantics.proofs.AcceptedSteps.{unrefused, left-by, stepped, at-work}
 

@@ -64,6 +64,13 @@ pub fn help_index(n: usize, p: ProcessNumber, process: Process) -> ProcessNumber
     p
 }
 
+// A place of each kind, together.
+pub fn places(x: XPlace, bank: BankPlace, help: HelpPlace) -> Taken
+    ensures { λ r. ⌜ r ≡ record { x = x; bank = bank; help = help } ⌝ }
+{
+    Taken { x, bank, help }
+}
+
 // X, Bank[i] and Help[j] taken out.
 pub fn take(bench: Bench, i: SequenceNumber, j: ProcessNumber) -> Taken
     requires { ⌜ (i .0 < 32) × (j .0 < 16) ⌝ }

@@ -36,8 +36,8 @@ refused-requires c κs =
 enum-known-read-2 : tie.Need-enum-known-read-2
 enum-known-read-2 c = search needs
 
-sub-refused : tie.Need-sub-refused
-sub-refused c =
+sub-place : tie.Need-sub-place
+sub-place c =
     let c4 = c .before .before .before .before in
     let read = subst (ItemsSay _ _ _ _ _ _) (c .before .read2 .given .1) (c4 .read-items .ensures) .are in
     omega (arith, read .read .on)
@@ -120,7 +120,7 @@ checked-spec =
     enum-known-read
     refused-requires
     enum-known-read-2
-    sub-refused
+    sub-place
     refused-requires-2
     enum-known-read-3
     slice-aggregate-started

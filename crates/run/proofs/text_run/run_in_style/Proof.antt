@@ -20,13 +20,20 @@ records-seen-requires c κs = search needs
 room-needed-requires : tie.Need-room-needed-requires
 room-needed-requires c κs = search needs
 
+fresh-requires : tie.Need-fresh-requires
+fresh-requires c κs = search needs
+
+returned-requires : tie.Need-returned-requires
+returned-requires c κs = search needs
+
 returns : tie.Need-returns
 returns c =
-    let c6 = c .before .before .before .before .before .before in
-    let a = c6 .args in
+    let c3 = c .before .before .before in let c8 = c3 .before .before .before .before .before in
+    let a = c8 .args in
     let m = memoryOf (a .bench) (a .all) (a .len) (now (a .words)) in
-    let short : length (now (a .list)) < roomNeeded (a .traced) = omega (arith, c .if1 .taken, c .before .room-needed .ensures) in
-    (run-14 (a .traced) m (now (a .text)) (now (a .list)) short, c6 .pre, λ j l. refl, stops-14 short)
+    let short : length (now (a .list)) < roomNeeded (a .traced) = omega (arith, c .before .before .if1 .taken, c3 .room-needed .ensures) in
+    rw (c .returned .ensures, c .before .fresh .ensures)
+    (record { same = run-14 (a .traced) m (now (a .text)) (now (a .list)) short; again = c8 .pre; others = λ j l. refl; stops = stops-14 short })
 
 refused-requires : tie.Need-refused-requires
 refused-requires c κs =
@@ -125,6 +132,8 @@ run-in-style-spec =
     (tie.spec
     records-seen-requires
     room-needed-requires
+    fresh-requires
+    returned-requires
     returns
     refused-requires
     same-length

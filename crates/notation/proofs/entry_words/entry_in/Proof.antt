@@ -1,8 +1,8 @@
--- `run::entries::entry_in`: by the kind.
+-- `notation::entry_words::entry_in`: by the kind.
 use borrow.Author.Tests.{ne-eqb}
 use Rattle.notation.specs.EntryWords.{entryIn}
-use Rattle.entry.proofs.entries.entry_in.Statement.{statement}
-use Rattle.entry.proofs.entries.entry_in.Tie as tie
+use Rattle.notation.proofs.entry_words.entry_in.Statement.{statement}
+use Rattle.notation.proofs.entry_words.entry_in.Tie as tie
 
 returns : tie.Need-returns
 unfolding entryIn
