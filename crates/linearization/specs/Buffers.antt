@@ -1,12 +1,13 @@
 -- Every buffer has one place, and the words of a success stay in their buffer until X has changed 2N more times.
 use mathlib.Core.Path.{_≡_}
-use Prim.Native.Nat.{ℕ, _+_, _*_, _<_}
+use Prim.Native.Nat.{ℕ, _+_, _<_}
 use mathlib.Core.List.{List, [], _∷_, _++_, map}
 use mathlib.Core.Bool.{Bool, true, false, _&&_, cond}
 use lib.Dec.{eqb}
 use lib.ListN.{take, drop}
 use Rattle.model.specs.declared.BufferNumber.{BufferNumber}
 use Rattle.model.specs.declared.Process.{Process}
+use Rattle.model.specs.Sizes.{buffers, sequenceNumbers}
 use Rattle.model.specs.Points.{Point, lineNumber, line2, line3, line4, line5, line6, line7, line7copy, line8, line9, line10}
 use Rattle.model.specs.Tables.{bankAt, helpAt}
 use Rattle.model.specs.Words.{bufferWord}
@@ -36,7 +37,7 @@ kept m i = cond (eqb i (m .bench .x .content .seq .0)) (m .bench .x .content .bu
 
 -- all 3N places in which a buffer number is found
 abbrev pub held : Memory → ℕ → List ℕ
-held m n = map (kept m) (numbers 0 (2 * n)) ++ map (owned m) (numbers 0 n)
+held m n = map (kept m) (numbers 0 (sequenceNumbers n)) ++ map (owned m) (numbers 0 n)
 
 -- how often b stands in a list
 abbrev pub occurrences : ℕ → List ℕ → ℕ
@@ -47,7 +48,7 @@ occurrences b (a ∷ rest) = cond (eqb a b) 1 0 + occurrences b rest
 abbrev pub EveryBufferOnce : Type 0
 EveryBufferOnce =
     (m : Memory) → Shaped m → (n w : ℕ) (value : List ℕ) (cs : List Command) → setUp m n w value .0 ≡ 0
-    → (b : ℕ) → b < 3 * n → occurrences b (held (after (setUp m n w value .1) cs) n) ≡ 1
+    → (b : ℕ) → b < buffers n → occurrences b (held (after (setUp m n w value .1) cs) n) ≡ 1
 
 -- the words of a buffer
 abbrev pub bufferWords : Memory → BufferNumber → List ℕ
@@ -89,4 +90,4 @@ WordsStayFor changes =
 
 -- "until X has changed 2N more times"
 abbrev pub WordsStay : Type 0
-WordsStay = WordsStayFor (λ n. 2 * n)
+WordsStay = WordsStayFor sequenceNumbers

@@ -8,6 +8,10 @@ buffers n = 3 * n
 abbrev pub sequenceNumbers : ℕ → ℕ
 sequenceNumbers n = 2 * n
 
+-- the rows of W words before the offer areas: the buffers and N return areas
+abbrev pub rowsBeforeOffers : ℕ → ℕ
+rowsBeforeOffers n = 4 * n
+
 -- "Words lent: 5 × N × W": the buffers, the return areas and the offer areas
 abbrev pub lentWords : ℕ → ℕ → ℕ
 lentWords n w = 5 * n * w

@@ -5,7 +5,7 @@ use mathlib.Core.List.{List}
 use mathlib.Core.Bool.{cond}
 use lib.Dec.{eqb}
 use lib.ListN.{getD, set, take, drop}
-use Rattle.model.specs.Sizes.{buffers}
+use Rattle.model.specs.Sizes.{buffers, rowsBeforeOffers}
 use Rattle.model.specs.declared.BufferNumber.{BufferNumber}
 use Rattle.model.specs.declared.ProcessNumber.{ProcessNumber}
 
@@ -19,7 +19,7 @@ returnWord n w p k = (buffers n + p .0) * w + k
 
 -- where word k of p's offer area lies
 abbrev pub offerWord : ℕ → ℕ → ProcessNumber → ℕ → ℕ
-offerWord n w p k = (4 * n + p .0) * w + k
+offerWord n w p k = (rowsBeforeOffers n + p .0) * w + k
 
 -- A word place counts halves, low half first: place k is in word k / 2, its low half where k is even, else its high
 -- half.
