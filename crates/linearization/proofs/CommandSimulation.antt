@@ -22,7 +22,7 @@ use Rattle.model.specs.Machine
 use Rattle.model.specs.Machine.{Memory, obey}
 use Rattle.model.specs.Refusals
 use Rattle.model.specs.Refusals.{isStart, needsLl, bringsValue}
-use Rattle.model.specs.Command.{command, refusal, putBack, obeyed}
+use Rattle.model.specs.Command.{command, refusal, storedBack, obeyed}
 use Rattle.model.specs.Replies.{says}
 use Rattle.model.specs.History.{Command}
 use Rattle.linearization.specs.OwnDoing.{NotLentMemory}
@@ -105,7 +105,7 @@ module _ (N W n : ℕ) (m : Memory) (z : State) (r : Related N W m z) (ok : InRa
 
   module _ (p : ℕ) (hp : p < N) where
     -- a record of p is put back
-    join : (o : Moved × List ℕ) (z′ : State) → Made N W p z o z′ → Related N W (putBack m (record { 0 = p }) o .1) z′
+    join : (o : Moved × List ℕ) (z′ : State) → Made N W p z o z′ → Related N W (storedBack m (record { 0 = p }) o .1) z′
     join o z′ k = record {
       sizes = r .sizes;
       n = k .n;
@@ -154,8 +154,8 @@ module _ (N W n : ℕ) (m : Memory) (z : State) (r : Related N W m z) (ok : InRa
       related = rw (eq, exec-start N W n z p v hp o s i a e) (join _ _ (follow-start N W (m .bench .x) (m .bench .bank) (m .bench .help) (m .words) p n z hp (r .places) (ok .each p hp) o v n (idle-word N (halves W) z p hp places (PointFacts.idle-is (z .loc p .point) i)) s e));
     }
       where
-        eq : command m p o v ≡ putBack m (record { 0 = p }) (obey o (record { 0 = p }) v bench (recordOf (z .loc p)) (m .words))
-        eq = obeys p o v k ∙ ap (putBack m (record { 0 = p })) (obey-is o v)
+        eq : command m p o v ≡ storedBack m (record { 0 = p }) (obey o (record { 0 = p }) v bench (recordOf (z .loc p)) (m .words))
+        eq = obeys p o v k ∙ ap (storedBack m (record { 0 = p })) (obey-is o v)
 
     step-case : (v : List ℕ) → PointFacts.isIdle (z .loc p .point) ≡ false → refusal m p Step v ≡ 0 → Followed N W n m z (record { process = p; order = Step; value = v })
     unfolding GhostMachine.step
@@ -175,13 +175,13 @@ module _ (N W n : ℕ) (m : Memory) (z : State) (r : Related N W m z) (ok : InRa
         made = Machine.stepAt (z .loc p .point) (record { 0 = p }) bench (recordOf (z .loc p)) (m .words)
 
         m′ : Memory
-        m′ = putBack m (record { 0 = p }) made .1
+        m′ = storedBack m (record { 0 = p }) made .1
 
         z′ : State
         z′ = GhostMachine.stepAt N (halves W) (z .loc p .point) n p z
 
-        eq : command m p Step v ≡ putBack m (record { 0 = p }) made
-        eq = obeys p Step v k ∙ ap (putBack m (record { 0 = p })) (obey-is Step v ∙ step-is v)
+        eq : command m p Step v ≡ storedBack m (record { 0 = p }) made
+        eq = obeys p Step v k ∙ ap (storedBack m (record { 0 = p })) (obey-is Step v ∙ step-is v)
 
         after : Related N W m′ z′
         after = join made z′ (follow N W (m .bench .x) (m .bench .bank) (m .bench .help) (m .words) p n z hp (r .places) (ok .each p hp) (z .loc p .point) refl)

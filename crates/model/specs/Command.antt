@@ -15,12 +15,12 @@ use Rattle.model.specs.Records.{recordAt}
 use Rattle.model.specs.Machine.{Memory, obey}
 use Rattle.model.specs.Refusals.{first, commandRows}
 
--- what process p's part of a command leaves, put back into all lent memory
-abbrev pub putBack : Memory → ProcessNumber → Moved × List ℕ → Reply × Memory
-putBack m p out = (out .0 .reply, record { bench = out .0 .bench; records = set (m .records) (p .0) (out .0 .process); words = out .1 })
+-- what process p's part of a command leaves, stored back into all lent memory
+abbrev pub storedBack : Memory → ProcessNumber → Moved × List ℕ → Reply × Memory
+storedBack m p out = (out .0 .reply, record { bench = out .0 .bench; records = set (m .records) (p .0) (out .0 .process); words = out .1 })
 
 abbrev pub obeyed : Memory → ProcessNumber → Order → List ℕ → Reply × Memory
-obeyed m p o value = putBack m p (obey o p value (m .bench) (recordAt (m .records) p) (m .words))
+obeyed m p o value = storedBack m p (obey o p value (m .bench) (recordAt (m .records) p) (m .words))
 
 -- the number of a refusal, 0 for none
 unfoldable pub refusal : Memory → ℕ → Order → List ℕ → ℕ
