@@ -8,9 +8,16 @@ use Rattle.linearization.proofs.Residues.{hit, mod-ne, suc-mod-ne, mod-
 use native.Mathlib.Omega.{arith}
 use lib.Dec.{ltb, eqb, lit≤}
 use Rattle.linearization.proofs.Updates.{upd, upd-same, upd-other, Split, same, other, split, by-test, contra, is-false, is-true, swap, swap-l, swap-r, swap-o, swap-inj, ifb-eq, ifb-ne}
-use Rattle.linearization.proofs.GhostMachine.{Local, Shared, State, quiet, noisy, to, setWord, word, llX, setReturned, setLinkHelp, setMoment, setB, setC, setMybuf, setE, setLinkBank, setD, setCheckedAt, rest, wBank, wBuf, wX, wEnd, wStart, begin, setLinkX}
-use Rattle.model.specs.Points.{Point, idle, line1, line2, line3, line4, line5, line6, line7, line7copy, line8, line9, line10, line11, line12, line12valid, line13, line14, line14valid, line15, line17, line18, line19, line23}
-use Rattle.linearization.proofs.Invariants.{laterG, On, on-map, on-no, on-get, on-with, lines, wide, above, apart, ProcessClauses, SharedClauses, Invariant, Withdrawing, Asking, K2, K3, H6, H7, H8, H9, K4x, Both, SamePart, Within, Got, D6}
+use Rattle.linearization.proofs.GhostMachine.{Local, Shared, State, quiet, noisy, to, setWord, word, llX}
+use Rattle.linearization.proofs.GhostMachine.{setReturned, setLinkHelp, setMoment, setB, setC, setMybuf, setE}
+use Rattle.linearization.proofs.GhostMachine.{setLinkBank, setD, setCheckedAt, rest, wBank, wBuf, wX, wEnd}
+use Rattle.linearization.proofs.GhostMachine.{wStart, begin, setLinkX}
+use Rattle.model.specs.Points.{Point, idle, line1, line2, line3, line4, line5, line6, line7, line7copy, line8, line9}
+use Rattle.model.specs.Points.{line10, line11, line12, line12valid, line13, line14, line14valid, line15, line17, line18}
+use Rattle.model.specs.Points.{line19, line23}
+use Rattle.linearization.proofs.Invariants.{laterG, On, on-map, on-no, on-get, on-with, lines, wide, above}
+use Rattle.linearization.proofs.Invariants.{apart, ProcessClauses, SharedClauses, Invariant, Withdrawing, Asking}
+use Rattle.linearization.proofs.Invariants.{K2, K3, H6, H7, H8, H9, K4x, Both, SamePart, Within, Got, D6}
 use Rattle.linearization.proofs.QuietSteps.{pre-none, pre-all, pre-put}
 use Rattle.linearization.proofs.HelpWrites.{kept-link}
 
@@ -35,7 +42,16 @@ module _ (N W n : ℕ) (h : Shared) (two : 1 < 2 * N) (i b : ℕ) (ei : i ≡ h 
   own-s13 p l m = let f : K2 N (wBank i b h) (l .linkX) = λ x. done in search arith
 
   pub all-s13 : SharedClauses N W n h → SharedClauses N W (suc n) (wBank i b h)
-  all-s13 g = record { x-seq = g .x-seq; x-buf = g .x-buf; holders-differ = g .holders-differ; recent-held = g .recent-held; recent-values = g .recent-values; last-success-past = laterG N W n h g .last-success-past; successes-past = laterG N W n h g .successes-past; kept = λ j hj. g .kept j hj ∙ go j (split j (h .xseq)) }
+  all-s13 g = record {
+    x-seq = g .x-seq;
+    x-buf = g .x-buf;
+    holders-differ = g .holders-differ;
+    recent-held = g .recent-held;
+    recent-values = g .recent-values;
+    last-success-past = laterG N W n h g .last-success-past;
+    successes-past = laterG N W n h g .successes-past;
+    kept = λ j hj. g .kept j hj ∙ go j (split j (h .xseq));
+  }
     where
       go : (j : ℕ) → Split j (h .xseq) → cond (eqb j (h .xseq)) (h .xbuf) (h .bank j) ≡ cond (eqb j (h .xseq)) (h .xbuf) (upd (h .bank) i b j)
       go j (same e) = ifb-eq j _ _ _ e ∙ sym (ifb-eq j _ _ _ e)

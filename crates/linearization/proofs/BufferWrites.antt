@@ -8,9 +8,16 @@ use Rattle.linearization.proofs.Residues.{hit, mod-ne, suc-mod-ne, mod-
 use native.Mathlib.Omega.{arith}
 use lib.Dec.{ltb, eqb, lit≤}
 use Rattle.linearization.proofs.Updates.{upd, upd-same, upd-other, Split, same, other, split, by-test, contra, is-false, is-true, swap, swap-l, swap-r, swap-o, swap-inj, ifb-eq, ifb-ne}
-use Rattle.linearization.proofs.GhostMachine.{Local, Shared, State, quiet, noisy, to, setWord, word, llX, setReturned, setLinkHelp, setMoment, setB, setC, setMybuf, setE, setLinkBank, setD, setCheckedAt, rest, wBank, wBuf, wX, wEnd, wStart, begin, setLinkX}
-use Rattle.model.specs.Points.{Point, idle, line1, line2, line3, line4, line5, line6, line7, line7copy, line8, line9, line10, line11, line12, line12valid, line13, line14, line14valid, line15, line17, line18, line19, line23}
-use Rattle.linearization.proofs.Invariants.{laterG, On, on-map, on-no, on-get, on-with, lines, wide, above, apart, ProcessClauses, SharedClauses, Invariant, Withdrawing, Asking, K2, K3, H6, H7, H8, H9, K4x, Both, SamePart, Within, Got, D6}
+use Rattle.linearization.proofs.GhostMachine.{Local, Shared, State, quiet, noisy, to, setWord, word, llX}
+use Rattle.linearization.proofs.GhostMachine.{setReturned, setLinkHelp, setMoment, setB, setC, setMybuf, setE}
+use Rattle.linearization.proofs.GhostMachine.{setLinkBank, setD, setCheckedAt, rest, wBank, wBuf, wX, wEnd}
+use Rattle.linearization.proofs.GhostMachine.{wStart, begin, setLinkX}
+use Rattle.model.specs.Points.{Point, idle, line1, line2, line3, line4, line5, line6, line7, line7copy, line8, line9}
+use Rattle.model.specs.Points.{line10, line11, line12, line12valid, line13, line14, line14valid, line15, line17, line18}
+use Rattle.model.specs.Points.{line19, line23}
+use Rattle.linearization.proofs.Invariants.{laterG, On, on-map, on-no, on-get, on-with, lines, wide, above}
+use Rattle.linearization.proofs.Invariants.{apart, ProcessClauses, SharedClauses, Invariant, Withdrawing, Asking}
+use Rattle.linearization.proofs.Invariants.{K2, K3, H6, H7, H8, H9, K4x, Both, SamePart, Within, Got, D6}
 use Rattle.linearization.proofs.QuietSteps.{pre-none, pre-all, pre-put}
 use Rattle.linearization.proofs.HelpWrites.{kept-link}
 
@@ -25,7 +32,8 @@ module _ (N W n : ℕ) (h : Shared) (p b k v : ℕ) where
   abbrev hW : Shared
   hW = wBuf b k v h
 
-  pub others-buf : (q : ℕ) (y : Point) (l : Local) → p < N → q < N → (q ≡ p → ⊥) → h .holders (2 * N + p) ≡ b → SharedClauses N W n h → ProcessClauses N W n y h q l → ProcessClauses N W (suc n) y hW q l
+  pub others-buf : (q : ℕ) (y : Point) (l : Local) → p < N → q < N → (q ≡ p → ⊥) → h .holders (2 * N + p) ≡ b → SharedClauses N W n h → ProcessClauses N W n y h q l
+      → ProcessClauses N W (suc n) y hW q l
   others-buf q y l hp hq np e g m =
       let ne : (c : ℕ) → h .holders (2 * N + q) ≡ c → c ≡ b → ⊥ = λ c o z. np (let u = g .holders-differ (2 * N + q) (2 * N + p) (omega arith) (omega arith) (o ∙ z ∙ sym e) in omega arith) in
       let f2 = on-with (lines 20 20 y) (lines 10 22 y) (wide 20 20 10 22 y (lit≤ tt) (lit≤ tt)) (λ o. spared h b k v (l .mybuf) (l .word) (l .offered) (ne _ o)) (m .owns-mybuf) (m .offered-part) in
@@ -40,7 +48,16 @@ module _ (N W n : ℕ) (h : Shared) (p b k v : ℕ) where
 
   -- D1: a word written into an owned buffer leaves the kept buffers alone
   pub all-buf : p < N → h .holders (2 * N + p) ≡ b → SharedClauses N W n h → SharedClauses N W (suc n) hW
-  all-buf hp e g = record { x-seq = g .x-seq; x-buf = g .x-buf; holders-differ = g .holders-differ; kept = g .kept; recent-held = g .recent-held; last-success-past = laterG N W n h g .last-success-past; successes-past = laterG N W n h g .successes-past; recent-values = d }
+  all-buf hp e g = record {
+    x-seq = g .x-seq;
+    x-buf = g .x-buf;
+    holders-differ = g .holders-differ;
+    kept = g .kept;
+    recent-held = g .recent-held;
+    last-success-past = laterG N W n h g .last-success-past;
+    successes-past = laterG N W n h g .successes-past;
+    recent-values = d;
+  }
     where
       d : (i : ℕ) → i ≤ h .successes → h .successes < i + 2 * N → SamePart (hW .buf (h .buffers i)) (h .values i) W
       d i x y =

@@ -49,7 +49,11 @@ late a o i r l = cond a 4 (cond (bringsValue o && not l) 8 (cond (isStart o && n
 
 late-sound : (a : Bool) (o : Order) (i r l : Bool) → NotLentMemory (late a o i r l)
 late-sound a o i r l =
-    by-test NotLentMemory a (λ _. is 4 tt) (λ _. by-test NotLentMemory (bringsValue o && not l) (λ _. is 8 tt) (λ _. by-test NotLentMemory (isStart o && not i) (λ _. is 5 tt) (λ _. by-test NotLentMemory (not (isStart o) && i) (λ _. is 6 tt) (λ _. by-test NotLentMemory (needsLl o && not r) (λ _. is 7 tt) (λ _. is 0 tt)))))
+    by-test NotLentMemory a (λ _. is 4 tt)
+    (λ _. by-test NotLentMemory (bringsValue o && not l) (λ _. is 8 tt)
+    (λ _. by-test NotLentMemory (isStart o && not i) (λ _. is 5 tt)
+    (λ _. by-test NotLentMemory (not (isStart o) && i) (λ _. is 6 tt)
+    (λ _. by-test NotLentMemory (needsLl o && not r) (λ _. is 7 tt) (λ _. is 0 tt)))))
   where
     is : (k : ℕ) → T (not (eqb k 1 || (eqb k 2 || (eqb k 3 || eqb k 9)))) → NotLentMemory k
     is k h = record { not-1 = λ e. no 1 e h; not-2 = λ e. no 2 e h; not-3 = λ e. no 3 e h; not-9 = λ e. no 9 e h }
@@ -70,7 +74,8 @@ start-reply Step p v b q ws e = absurd (contra e refl)
 module _ (N W n : ℕ) (m : Memory) (z : State) (r : Related N W m z) (ok : InRanges N (halves W) z) (counts : (q : ℕ) → q < N → CountIn W (z .loc q))
     (places : PInv N (halves W) z) where
   -- rows 1, 2, 3 and 9 do not hold
-  refusal-late : (p : ℕ) (o : Order) (v : List ℕ) → refusal m p o v ≡ late (leb N p) o (Refusals.isIdle (recordAt (m .records) (record { 0 = p }))) (recordAt (m .records) (record { 0 = p }) .answered) (eqb (length v) W)
+  refusal-late : (p : ℕ) (o : Order) (v : List ℕ)
+      → refusal m p o v ≡ late (leb N p) o (Refusals.isIdle (recordAt (m .records) (record { 0 = p }))) (recordAt (m .records) (record { 0 = p }) .answered) (eqb (length v) W)
   unfolding refusal
   refusal-late p o v =
       let s = r .sizes in let a : leb 1 N ≡ true = le-leb 1 N (s .n-low) in let b : leb 1 W ≡ true = le-leb 1 W (s .w-low) in
@@ -97,7 +102,8 @@ module _ (N W n : ℕ) (m : Memory) (z : State) (r : Related N W m z) (ok : InRa
     unfolding command
     obeys e = ap (λ b. cond b (obeyed m me o v) (Refused (refusal m p o v), m)) (eq-eqb _ 0 e)
 
-    refused-case : (k : ℕ) → (k ≡ 0 → ⊥) → refusal m p o v ≡ k → GhostRuns.exec N (halves W) n (cmdOf N W p o v) z ≡ z → GhostRuns.callF N (halves W) n (cmdOf N W p o v) z ≡ [] → Followed N W n m z (record { process = p; order = o; value = v })
+    refused-case : (k : ℕ) → (k ≡ 0 → ⊥) → refusal m p o v ≡ k → GhostRuns.exec N (halves W) n (cmdOf N W p o v) z ≡ z
+        → GhostRuns.callF N (halves W) n (cmdOf N W p o v) z ≡ [] → Followed N W n m z (record { process = p; order = o; value = v })
     refused-case k ne e x y = record {
       outcome = refusedWith k (record { not-0 = ne; number = e; leaves = refuses k ne e; said = ap (λ t. says (t .1) me (t .0)) (refuses k ne e); follows = x; silent = y });
       related = rw (refuses k ne e, x) r;
@@ -126,7 +132,8 @@ module _ (N W n : ℕ) (m : Memory) (z : State) (r : Related N W m z) (ok : InRa
     bench-is : m .bench ≡ bench
     bench-is = ap₂ (λ a b. record { n = a; w = b; x = m .bench .x; bank = m .bench .bank; help = m .bench .help }) (r .n) (r .w)
 
-    obey-is : (o : Order) (v : List ℕ) → obey o (record { 0 = p }) v (m .bench) (recordAt (m .records) (record { 0 = p })) (m .words) ≡ obey o (record { 0 = p }) v bench (recordOf (z .loc p)) (m .words)
+    obey-is : (o : Order) (v : List ℕ)
+        → obey o (record { 0 = p }) v (m .bench) (recordAt (m .records) (record { 0 = p })) (m .words) ≡ obey o (record { 0 = p }) v bench (recordOf (z .loc p)) (m .words)
     obey-is o v = ap₂ (λ b q. obey o (record { 0 = p }) v b q (m .words)) bench-is (r .process p hp)
 
     step-is : (v : List ℕ) → obey Step (record { 0 = p }) v bench (recordOf (z .loc p)) (m .words) ≡ Machine.stepAt (z .loc p .point) (record { 0 = p }) bench (recordOf (z .loc p)) (m .words)
@@ -138,7 +145,8 @@ module _ (N W n : ℕ) (m : Memory) (z : State) (r : Related N W m z) (ok : InRa
         refusal-late p o v ∙ ap (λ a. late a o (Refusals.isIdle (recordAt (m .records) (record { 0 = p }))) (recordAt (m .records) (record { 0 = p }) .answered) (eqb (length v) W)) (lt-leb N p hp)
         ∙ ap (λ q. late false o (Refusals.isIdle q) (q .answered) (eqb (length v) W)) (r .process p hp)
 
-    start-case : (o : Order) (v : List ℕ) → isStart o ≡ true → PointFacts.isIdle (z .loc p .point) ≡ true → (needsLl o ≡ true → z .loc p .answered ≡ true) → (bringsValue o ≡ true → length v ≡ W) → refusal m p o v ≡ 0
+    start-case : (o : Order) (v : List ℕ) → isStart o ≡ true → PointFacts.isIdle (z .loc p .point) ≡ true → (needsLl o ≡ true → z .loc p .answered ≡ true)
+        → (bringsValue o ≡ true → length v ≡ W) → refusal m p o v ≡ 0
         → Followed N W n m z (record { process = p; order = o; value = v })
     start-case o v s i a e k = record {
       outcome = started (record {
@@ -151,9 +159,13 @@ module _ (N W n : ℕ) (m : Memory) (z : State) (r : Related N W m z) (ok : InRa
         follows = exec-start N W n z p v hp o s i a e;
         said = ap (λ t. says (t .1) (record { 0 = p }) (t .0)) eq ∙ ap (says _ (record { 0 = p })) (start-reply o (record { 0 = p }) v bench (recordOf (z .loc p)) (m .words) s);
       });
-      related = rw (eq, exec-start N W n z p v hp o s i a e) (join _ _ (follow-start N W (m .bench .x) (m .bench .bank) (m .bench .help) (m .words) p n z hp (r .places) (ok .each p hp) o v n (idle-word N (halves W) z p hp places (PointFacts.idle-is (z .loc p .point) i)) s e));
+      related = rw (eq, exec-start N W n z p v hp o s i a e)
+          (join _ _ (follow-start N W (m .bench .x) (m .bench .bank) (m .bench .help) (m .words) p n z hp (r .places) (ok .each p hp) o v n at-first s e));
     }
       where
+        at-first : z .loc p .word ≡ 0
+        at-first = idle-word N (halves W) z p hp places (PointFacts.idle-is (z .loc p .point) i)
+
         eq : command m p o v ≡ storedBack m (record { 0 = p }) (obey o (record { 0 = p }) v bench (recordOf (z .loc p)) (m .words))
         eq = obeys p o v k ∙ ap (storedBack m (record { 0 = p })) (obey-is o v)
 
@@ -166,7 +178,8 @@ module _ (N W n : ℕ) (m : Memory) (z : State) (r : Related N W m z) (ok : InRa
         busy = b;
         number = k;
         follows = exec-step N W n z p v hp;
-        said = ap (λ t. says (t .1) (record { 0 = p }) (t .0)) eq ∙ says-at N W (m .bench .x) (m .bench .bank) (m .bench .help) (m .words) p z hp (r .places) m′ (z .loc p .point) (λ e _. return-area N W m′ z′ p hp after ∙ ap (wordsOf (halves W)) (area e));
+        said = ap (λ t. says (t .1) (record { 0 = p }) (t .0)) eq
+            ∙ says-at N W (m .bench .x) (m .bench .bank) (m .bench .help) (m .words) p z hp (r .places) m′ (z .loc p .point) (λ e _. return-area N W m′ z′ p hp after ∙ ap (wordsOf (halves W)) (area e));
       });
       related = rw (eq, exec-step N W n z p v hp) after;
     }
@@ -190,7 +203,8 @@ module _ (N W n : ℕ) (m : Memory) (z : State) (r : Related N W m z) (ok : InRa
         area e = ap (λ y. GhostMachine.stepAt N (halves W) y n p z .loc p .returned) e ∙ return-stays N (halves W) n p z
 
     -- by the order, and whether the process is idle, has an answered LL, and the value has W words
-    by-order : (o : Order) (v : List ℕ) (i a l : Bool) → PointFacts.isIdle (z .loc p .point) ≡ i → z .loc p .answered ≡ a → eqb (length v) W ≡ l → refusal m p o v ≡ late false o i a l → Followed N W n m z (record { process = p; order = o; value = v })
+    by-order : (o : Order) (v : List ℕ) (i a l : Bool) → PointFacts.isIdle (z .loc p .point) ≡ i → z .loc p .answered ≡ a → eqb (length v) W ≡ l
+        → refusal m p o v ≡ late false o i a l → Followed N W n m z (record { process = p; order = o; value = v })
     by-order StartLl v true a l ei ea el k = start-case StartLl v refl ei (λ e. absurd (contra e refl)) (λ e. absurd (contra e refl)) k
     by-order StartLl v false a l ei ea el k = refused-case p StartLl v 5 (λ e. omega arith) k (exec-busy N W n z p v hp StartLl refl ei) (silent-start N W n z p v StartLl refl)
     by-order StartVl v true true l ei ea el k = start-case StartVl v refl ei (λ e. ea) (λ e. absurd (contra e refl)) k
@@ -205,8 +219,21 @@ module _ (N W n : ℕ) (m : Memory) (z : State) (r : Related N W m z) (ok : InRa
 
   -- (b) and (c): every command
   pub followed : (c : Command) → Followed N W n m z c
-  followed c = where-is (leb N (c .process)) refl
+  followed c = where-is (leb N p) refl
     where
-      where-is : (b : Bool) → leb N (c .process) ≡ b → Followed N W n m z c
-      where-is true e = refused-case (c .process) (c .order) (c .value) 4 (λ x. omega arith) (too-high (c .process) (c .order) (c .value) e) (exec-out N W n z (c .process) (c .order) (c .value) (leb-true _ _ e)) (silent-out N W n z (c .process) (c .value) (c .order) (leb-true _ _ e))
-      where-is false e = let h : c .process < N = leb-false _ _ e in by-order (c .process) h (c .order) (c .value) (PointFacts.isIdle (z .loc (c .process) .point)) (z .loc (c .process) .answered) (eqb (length (c .value)) W) refl refl refl (tests (c .process) h (c .order) (c .value))
+      p : ℕ
+      p = c .process
+
+      o : Order
+      o = c .order
+
+      v : List ℕ
+      v = c .value
+
+      where-is : (b : Bool) → leb N p ≡ b → Followed N W n m z c
+      where-is true e =
+          let out = leb-true _ _ e in
+          refused-case p o v 4 (λ x. omega arith) (too-high p o v e) (exec-out N W n z p o v out) (silent-out N W n z p v o out)
+      where-is false e =
+          let h : p < N = leb-false _ _ e in
+          by-order p h o v (PointFacts.isIdle (z .loc p .point)) (z .loc p .answered) (eqb (length v) W) refl refl refl (tests p h o v)

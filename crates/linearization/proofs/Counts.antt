@@ -11,7 +11,9 @@ use Rattle.linearization.proofs.PointFacts.{moving}
 use Rattle.linearization.proofs.Updates.{upd, upd-same, upd-other, Split, same, other, split, by-test, contra}
 use Rattle.linearization.proofs.GhostMachine.{Local, Shared, State, quiet, noisy, word, step, stepAt, to, setLinkHelp, setLinkBank, setLinkX, setReturned}
 use Rattle.model.specs.Sizes.{halves, busyMost}
-use Rattle.model.specs.Points.{Point, idle, line1, line2, line3, line4, line5, line6, line7, line7copy, line8, line9, line10, line11, line12, line12valid, line13, line14, line14valid, line15, line17, line18, line19, line23}
+use Rattle.model.specs.Points.{Point, idle, line1, line2, line3, line4, line5, line6, line7, line7copy, line8, line9}
+use Rattle.model.specs.Points.{line10, line11, line12, line12valid, line13, line14, line14valid, line15, line17, line18}
+use Rattle.model.specs.Points.{line19, line23}
 use Rattle.model.specs.Object.{Kind, ll, sc, vl}
 use Rattle.model.specs.Linearizable.{OwnSteps, largest}
 use Rattle.linearization.proofs.Invariants.{ProcessClauses, Invariant, On, on-map, lines, still, apart}
@@ -88,7 +90,8 @@ module _ (N W : ℕ) (hW : 0 < W) where
     h = s .sh
 
     -- a step that writes: the others' points and counts stay, and their flags only go down
-    wrote : (h′ : Shared) (g : Local → Local) (k : Local) → ((f : Bool) (m : Local) → ProcessCount (m .point) f m → ProcessCount (g m .point) f (g m)) → ((q : ℕ) → (q ≡ p → ⊥) → h′ .flag q ≡ true → h .flag q ≡ true)
+    wrote : (h′ : Shared) (g : Local → Local) (k : Local) → ((f : Bool) (m : Local) → ProcessCount (m .point) f m → ProcessCount (g m .point) f (g m))
+        → ((q : ℕ) → (q ≡ p → ⊥) → h′ .flag q ≡ true → h .flag q ≡ true)
         → ProcessCount (k .point) (h′ .flag p) k → AllCounts (noisy s p h′ g k)
     wrote h′ g k stay down me = record { each = λ q hq. go q hq (split q p) }
       where
@@ -151,7 +154,10 @@ module _ (N W : ℕ) (hW : 0 < W) where
     moves line11 w d c u z = by-test AllCounts (ltb (suc (l .word)) W) (λ _. alone _ _ (λ _ x. x) (new (c .0, c .1, omega arith) tt)) (λ _. alone _ _ (λ _ x. x) (new refl tt))
     moves line12 w d c u z = fork (eqb (h .bank (l .copySeq)) (l .copyBuf)) _ _ (new (omega arith) tt) (new (omega arith) tt)
     moves line12valid w d c u z = fork (l .linkX) _ _ (new (omega arith) tt) (new (omega arith) tt)
-    moves line13 w d c u z = by-test AllCounts (l .linkBank (l .copySeq)) (λ _. wrote _ (setLinkBank (l .copySeq) false) _ (λ _ _ x. x) (λ _ _ x. x) (new (omega arith) tt)) (λ _. own _ (new (omega arith) tt))
+    moves line13 w d c u z =
+        by-test AllCounts (l .linkBank (l .copySeq))
+        (λ _. wrote _ (setLinkBank (l .copySeq) false) _ (λ _ _ x. x) (λ _ _ x. x) (new (omega arith) tt))
+        (λ _. own _ (new (omega arith) tt))
     moves line14 w d c u z = fork (h .flag (l .copySeq % N)) _ _ (new (omega arith) tt) (new (omega arith) tt)
     moves line14valid w d c u z = fork (l .linkX) _ _ (new (omega arith) tt) (new (omega arith) tt)
     moves line15 w d c u z =
@@ -256,7 +262,8 @@ module _ (N w : ℕ) (hW : 0 < halves w) where
   W = halves w
 
   -- "open calls have fewer than their kind's largest"
-  pub open-count : (kind : Kind) (n : ℕ) (y : Point) (h : Shared) (q : ℕ) (l : Local) → inCall kind y ≡ true → ProcessClauses N W n y h q l → ProcessCount N W hW y (h .flag q) l → l .count < largest w kind
+  pub open-count : (kind : Kind) (n : ℕ) (y : Point) (h : Shared) (q : ℕ) (l : Local) → inCall kind y ≡ true → ProcessClauses N W n y h q l
+      → ProcessCount N W hW y (h .flag q) l → l .count < largest w kind
   open-count kind n y h q l e m c = rw (limit-largest w kind y e) at (below-limit W y (l .word) (l .count) hW (m .in-run) (c .count))
 
   -- so a busy count is at most 8w + 6, and an idle one is 0

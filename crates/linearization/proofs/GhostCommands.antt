@@ -74,7 +74,9 @@ module _ (N W n : ℕ) (z : State) (p : ℕ) (v : List ℕ) where
 
   pub silent-idle : p < N → PointFacts.isIdle (z .loc p .point) ≡ true → GhostRuns.callF N (halves W) n (cmdOf N W p Step v) z ≡ []
   unfolding GhostRuns.callF
-  silent-idle hp i = ap (λ b. cond b (GhostRuns.callAt N (halves W) (z .loc p .point) n p z) []) (lt-ltb p N hp) ∙ ap (λ y. GhostRuns.callAt N (halves W) y n p z) (PointFacts.idle-is (z .loc p .point) i)
+  silent-idle hp i =
+      ap (λ b. cond b (GhostRuns.callAt N (halves W) (z .loc p .point) n p z) []) (lt-ltb p N hp)
+      ∙ ap (λ y. GhostRuns.callAt N (halves W) y n p z) (PointFacts.idle-is (z .loc p .point) i)
 
   pub answers-step : p < N → GhostRuns.callF N (halves W) n (cmdOf N W p Step v) z ≡ GhostRuns.callAt N (halves W) (z .loc p .point) n p z
   unfolding GhostRuns.callF

@@ -4,7 +4,9 @@ use mathlib.Core.Bool.{Bool, true, false, cond}
 use mathlib.Core.List.{List, [], _∷_, _++_}
 use Prim.Native.Nat.{ℕ, suc, _+_, _*_}
 use lib.Dec.{ltb, eqb}
-use Rattle.model.specs.Points.{Point, idle, line1, line2, line3, line4, line5, line6, line7, line7copy, line8, line9, line10, line11, line12, line12valid, line13, line14, line14valid, line15, line17, line18, line19, line23}
+use Rattle.model.specs.Points.{Point, idle, line1, line2, line3, line4, line5, line6, line7, line7copy, line8, line9}
+use Rattle.model.specs.Points.{line10, line11, line12, line12valid, line13, line14, line14valid, line15, line17, line18}
+use Rattle.model.specs.Points.{line19, line23}
 use Rattle.model.specs.Replies.{llWords, scTruth, vlTruth}
 use Rattle.model.specs.Object.{ll, sc, vl}
 use Rattle.model.specs.Linearizable.{Timed}
@@ -30,13 +32,22 @@ module _ (N W : ℕ) where
 
   -- the answered calls of p, each with the number of the command at which it takes effect
   abbrev pub llCall : ℕ → ℕ → State → Timed
-  llCall n p s = record { call = record { process = p; kind = ll; start = s .sh .start p; end = n; steps = s .loc p .count + 1; answer = llWords (wordsOf W (s .loc p .returned)); count = s .loc p .count + 1 }; moment = s .loc p .moment }
+  llCall n p s = record {
+    call = record { process = p; kind = ll; start = s .sh .start p; end = n; steps = s .loc p .count + 1; answer = llWords (wordsOf W (s .loc p .returned)); count = s .loc p .count + 1 };
+    moment = s .loc p .moment;
+  }
 
   abbrev pub scCall : ℕ → ℕ → State → Timed
-  scCall n p s = record { call = record { process = p; kind = sc (wordsOf W (s .loc p .offered)); start = s .sh .start p; end = n; steps = s .loc p .count + 1; answer = scTruth (s .loc p .linkX); count = s .loc p .count + 1 }; moment = n }
+  scCall n p s = record {
+    call = record { process = p; kind = sc (wordsOf W (s .loc p .offered)); start = s .sh .start p; end = n; steps = s .loc p .count + 1; answer = scTruth (s .loc p .linkX); count = s .loc p .count + 1 };
+    moment = n;
+  }
 
   abbrev pub vlCall : ℕ → ℕ → State → Timed
-  vlCall n p s = record { call = record { process = p; kind = vl; start = s .sh .start p; end = n; steps = s .loc p .count + 1; answer = vlTruth (s .loc p .linkX); count = s .loc p .count + 1 }; moment = n }
+  vlCall n p s = record {
+    call = record { process = p; kind = vl; start = s .sh .start p; end = n; steps = s .loc p .count + 1; answer = vlTruth (s .loc p .linkX); count = s .loc p .count + 1 };
+    moment = n;
+  }
 
   -- what the step at a line answers
   abbrev pub callAt : Point → ℕ → ℕ → State → List Timed
@@ -78,10 +89,50 @@ module _ (N W : ℕ) where
 
   -- the set-up
   abbrev pub loc0 : ℕ → Local
-  loc0 p = record { point = idle; word = 0; count = 0; answered = false; mybuf = 2 * N + p; copyBuf = 0; copySeq = 0; b = 0; c = 0; d = 0; e = 0; linkX = false; linkBank = λ i. false; linkHelp = λ i. false; returned = λ i. 0; offered = λ i. 0; readVersion = 0; readAt = 0; checkedAt = 0; moment = 0; version = 0 }
+  loc0 p = record {
+    point = idle;
+    word = 0;
+    count = 0;
+    answered = false;
+    mybuf = 2 * N + p;
+    copyBuf = 0;
+    copySeq = 0;
+    b = 0;
+    c = 0;
+    d = 0;
+    e = 0;
+    linkX = false;
+    linkBank = λ i. false;
+    linkHelp = λ i. false;
+    returned = λ i. 0;
+    offered = λ i. 0;
+    readVersion = 0;
+    readAt = 0;
+    checkedAt = 0;
+    moment = 0;
+    version = 0;
+  }
 
   abbrev pub sh0 : (ℕ → ℕ) → Shared
-  sh0 v = record { xbuf = 0; xseq = 0; bank = λ j. j; flag = λ p. false; helpBuf = λ p. 0; buf = λ b. cond (eqb b 0) v (λ w. 0); successes = 0; values = λ i. v; buffers = λ i. 0; wonAt = λ i. 0; holders = λ j. j; asked = λ p. 0; start = λ p. 0; helpVersion = λ p. 0; helpMoment = λ p. 0; servedLink = λ p. false; lastMoment = λ p. 0 }
+  sh0 v = record {
+    xbuf = 0;
+    xseq = 0;
+    bank = λ j. j;
+    flag = λ p. false;
+    helpBuf = λ p. 0;
+    buf = λ b. cond (eqb b 0) v (λ w. 0);
+    successes = 0;
+    values = λ i. v;
+    buffers = λ i. 0;
+    wonAt = λ i. 0;
+    holders = λ j. j;
+    asked = λ p. 0;
+    start = λ p. 0;
+    helpVersion = λ p. 0;
+    helpMoment = λ p. 0;
+    servedLink = λ p. false;
+    lastMoment = λ p. 0;
+  }
 
   abbrev pub setup : (ℕ → ℕ) → State
   setup v = record { sh = sh0 v; loc = loc0 }

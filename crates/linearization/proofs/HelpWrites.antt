@@ -8,9 +8,15 @@ use Rattle.linearization.proofs.Residues.{hit}
 use native.Mathlib.Omega.{arith}
 use lib.Dec.{ltb, eqb, lit≤}
 use Rattle.linearization.proofs.Updates.{upd, upd-same, upd-other, Split, same, other, split, by-test, contra, is-false, is-true, swap, swap-l, swap-r, swap-o, swap-inj}
-use Rattle.linearization.proofs.GhostMachine.{Local, Shared, State, quiet, noisy, to, setWord, word, llX, setReturned, setLinkHelp, setMoment, setB, setC, setMybuf, setE, setLinkBank, setD, setCheckedAt, rest, wHelp, wAsked, wGive}
-use Rattle.model.specs.Points.{Point, idle, line1, line2, line3, line4, line5, line6, line7, line7copy, line8, line9, line10, line11, line12, line12valid, line13, line14, line14valid, line15, line17, line18, line19, line23}
-use Rattle.linearization.proofs.Invariants.{laterG, On, on-map, on-no, on-get, on-with, lines, wide, above, apart, ProcessClauses, SharedClauses, Invariant, Withdrawing, Asking, K2, K3, H6, H7, H8, H9, K4x, Both, SamePart, Within, Got, D6}
+use Rattle.linearization.proofs.GhostMachine.{Local, Shared, State, quiet, noisy, to, setWord, word, llX}
+use Rattle.linearization.proofs.GhostMachine.{setReturned, setLinkHelp, setMoment, setB, setC, setMybuf, setE}
+use Rattle.linearization.proofs.GhostMachine.{setLinkBank, setD, setCheckedAt, rest, wHelp, wAsked, wGive}
+use Rattle.model.specs.Points.{Point, idle, line1, line2, line3, line4, line5, line6, line7, line7copy, line8, line9}
+use Rattle.model.specs.Points.{line10, line11, line12, line12valid, line13, line14, line14valid, line15, line17, line18}
+use Rattle.model.specs.Points.{line19, line23}
+use Rattle.linearization.proofs.Invariants.{laterG, On, on-map, on-no, on-get, on-with, lines, wide, above}
+use Rattle.linearization.proofs.Invariants.{apart, ProcessClauses, SharedClauses, Invariant, Withdrawing, Asking}
+use Rattle.linearization.proofs.Invariants.{K2, K3, H6, H7, H8, H9, K4x, Both, SamePart, Within, Got, D6}
 use Rattle.linearization.proofs.QuietSteps.{pre-none}
 
 -- what a write of Help[i], which clears the links to it, leaves of the facts on the process t that q would help
@@ -108,7 +114,8 @@ module _ (N W n : ℕ) (h : Shared) (p t : ℕ) (pt : p ≡ t → ⊥) (v u w : 
   h15 = wGive (2 * N + p) (2 * N + t) t u w (wHelp t false v h)
 
   -- the helped process itself
-  pub t-s15 : (y : Point) (l : Local) → h .holders (2 * N + p) ≡ v → h .flag t ≡ true → w ≤ h .successes → u < n → Got (h .buf v) (h .values w) (h .wonAt) (h .successes) W w u (h .start t) → ProcessClauses N W n y h t l → ProcessClauses N W (suc n) y h15 t (setLinkHelp t false l)
+  pub t-s15 : (y : Point) (l : Local) → h .holders (2 * N + p) ≡ v → h .flag t ≡ true → w ≤ h .successes → u < n
+      → Got (h .buf v) (h .values w) (h .wonAt) (h .successes) W w u (h .start t) → ProcessClauses N W n y h t l → ProcessClauses N W (suc n) y h15 t (setLinkHelp t false l)
   t-s15 y l e f lw lu got m =
       let z = upd-same (h .flag) t false in
       let no : upd (h .flag) t false t ≡ true → ⊥ = λ x. contra x z in
@@ -143,7 +150,8 @@ module _ (N W n : ℕ) (h : Shared) (p t : ℕ) (pt : p ≡ t → ⊥) (v u w : 
       let e1 = upd-other (h .helpMoment) t q u nt in let a1 = m .help-past in let a2 = m .start-past in
       search (arith, upd-other, o)
 
-  pub own-s15 : (l : Local) → 0 < W → t ≡ l .copySeq % N → h .holders (2 * N + t) ≡ h .helpBuf t → l .d ≡ h .helpBuf t → ProcessClauses N W n line15 h p l → ProcessClauses N W (suc n) line17 h15 p (to line17 (setMybuf (l .d) (setLinkHelp t false l)))
+  pub own-s15 : (l : Local) → 0 < W → t ≡ l .copySeq % N → h .holders (2 * N + t) ≡ h .helpBuf t → l .d ≡ h .helpBuf t → ProcessClauses N W n line15 h p l
+      → ProcessClauses N W (suc n) line17 h15 p (to line17 (setMybuf (l .d) (setLinkHelp t false l)))
   own-s15 l hW et e d m =
       let o : swap (h .holders) (2 * N + p) (2 * N + t) (2 * N + p) ≡ l .d = swap-l _ _ _ ∙ e ∙ sym d in
       let f : SamePart (h .buf (l .d)) (l .offered) (l .word) = pre-none _ _ _ (m .no-run) in

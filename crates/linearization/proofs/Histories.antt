@@ -10,7 +10,9 @@ use lib.ListN.{length}
 use Rattle.model.specs.declared.Order.{Order}
 use Rattle.model.specs.declared.Order.the-variants.{StartLl, StartSc, StartVl, Step}
 use Rattle.model.specs.Sizes.{halves}
-use Rattle.model.specs.Points.{Point, idle, line1, line2, line3, line4, line5, line6, line7, line7copy, line8, line9, line10, line11, line12, line12valid, line13, line14, line14valid, line15, line17, line18, line19, line23}
+use Rattle.model.specs.Points.{Point, idle, line1, line2, line3, line4, line5, line6, line7, line7copy, line8, line9}
+use Rattle.model.specs.Points.{line10, line11, line12, line12valid, line13, line14, line14valid, line15, line17, line18}
+use Rattle.model.specs.Points.{line19, line23}
 use Rattle.model.specs.Machine.{Memory}
 use Rattle.model.specs.Command.{command}
 use Rattle.model.specs.Replies.{Said, accepted, refused, answered}
@@ -85,7 +87,10 @@ module _ (N W n : ℕ) (c : Command) (z : State) where
   step-call line8 = refl
   step-call line9 = refl
   step-call line10 = refl
-  step-call line11 = by-test₂ (λ (t : Said) (us : List Timed). callOf n c t (running ll (z .sh .start p) (z .loc p .count)) ≡ map (λ (t : Timed). t .call) us) (ltb (suc (z .loc p .word)) W) (λ _. refl) (λ _. refl)
+  step-call line11 =
+      by-test₂ (λ (t : Said) (us : List Timed). callOf n c t (running ll (z .sh .start p) (z .loc p .count)) ≡ map (λ (t : Timed). t .call) us) (ltb (suc (z .loc p .word)) W)
+      (λ _. refl)
+      (λ _. refl)
   step-call line12 = refl
   step-call line12valid = refl
   step-call line13 = refl

@@ -10,7 +10,9 @@ use Rattle.model.specs.Replies.{llWords}
 use Rattle.model.specs.Object.{ll, Object, feed}
 use Rattle.model.specs.Linearizable.{Timed, insert}
 use Rattle.linearization.proofs.Updates.{ifb-eq}
-use Rattle.linearization.proofs.Serving.{feeds, after, Served, Free, Alike, ll-alike, served-alike, after-alike, success, successes, successes-alike, link-after, after-append, served-parts, served-append, successes-append}
+use Rattle.linearization.proofs.Serving.{feeds, after, Served, Free, Alike, ll-alike, served-alike, after-alike}
+use Rattle.linearization.proofs.Serving.{success, successes, successes-alike, link-after, after-append}
+use Rattle.linearization.proofs.Serving.{served-parts, served-append, successes-append}
 use Rattle.linearization.proofs.Sorting.{all-map, upto, past, upto-past, insert-between, upto-low, upto-append, free-upto}
 
 -- what becomes of served calls when the call is inserted

@@ -64,7 +64,8 @@ module _ (N W : ℕ) where
       refused : Invariant N W (suc n) s
       refused = record { all = laterG N W n _ (i .all); each = λ q hq. later N W n _ _ _ _ (i .each q hq) }
 
-      own : (p : ℕ) (y : Point) (w : ℕ → ℕ) → First (s .loc p .offered) y w → ProcessClauses N W n idle (s .sh) p (s .loc p) → ProcessClauses N W (suc n) y (wStart p n (s .sh)) p (begin y w (s .loc p))
+      own : (p : ℕ) (y : Point) (w : ℕ → ℕ) → First (s .loc p .offered) y w → ProcessClauses N W n idle (s .sh) p (s .loc p)
+          → ProcessClauses N W (suc n) y (wStart p n (s .sh)) p (begin y w (s .loc p))
       own p y w ll m = own-ll N W n _ p (m .asks-not) _ m
       own p y w vl m = own-vl N W n _ p (m .asks-not) _ m
       own p y w (sc v) m = own-sc N W n _ p (m .asks-not) _ v m

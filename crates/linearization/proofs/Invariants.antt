@@ -9,7 +9,9 @@ use native.Mathlib.Omega.{arith}
 use Rattle.linearization.proofs.PointFacts.{busy, moving}
 use Rattle.linearization.proofs.Updates.{upd, upd-same, upd-other, Split, same, other, split, by-test, contra, is-true, is-false}
 use Rattle.linearization.proofs.GhostMachine.{Local, Shared, State, quiet, noisy, wEnd}
-use Rattle.model.specs.Points.{Point, idle, line1, line2, line3, line4, line5, line6, line7, line7copy, line8, line9, line10, line11, line12, line12valid, line13, line14, line14valid, line15, line17, line18, line19, line23}
+use Rattle.model.specs.Points.{Point, idle, line1, line2, line3, line4, line5, line6, line7, line7copy, line8, line9}
+use Rattle.model.specs.Points.{line10, line11, line12, line12valid, line13, line14, line14valid, line15, line17, line18}
+use Rattle.model.specs.Points.{line19, line23}
 
 -- a fact that is claimed at some lines only
 abbrev pub On : Bool → Type 0 → Type 0
@@ -301,7 +303,8 @@ module _ (N W : ℕ) where
 
   -- FRAME 2: a step that writes owes the shared facts, p's own, and that the others' facts last
   pub noisy-inv : (n : ℕ) (s : State) (p : ℕ) (h : Shared) (g : Local → Local) (l : Local) → Invariant n s → SharedClauses (suc n) h → ProcessClauses (suc n) (l .point) h p l
-      → ((q : ℕ) → q < N → (q ≡ p → ⊥) → ProcessClauses n (s .loc q .point) (s .sh) q (s .loc q) → ProcessClauses (suc n) (g (s .loc q) .point) h q (g (s .loc q))) → Invariant (suc n) (noisy s p h g l)
+      → ((q : ℕ) → q < N → (q ≡ p → ⊥) → ProcessClauses n (s .loc q .point) (s .sh) q (s .loc q) → ProcessClauses (suc n) (g (s .loc q) .point) h q (g (s .loc q)))
+      → Invariant (suc n) (noisy s p h g l)
   noisy-inv n s p h g l i all me rest = record { all = all; each = λ q hq. go q hq (split q p) }
     where
       go : (q : ℕ) → q < N → Split q p → ProcessClauses (suc n) (upd (λ r. g (s .loc r)) p l q .point) h q (upd (λ r. g (s .loc r)) p l q)

@@ -112,7 +112,8 @@ module _ (M : ℕ) where
       sort-served o (suc i) ts (insert t us) (insert (retimed i t) rs) (insert-like i t (omega arith) (omega arith) a) (w .1) (omega arith) v
 
 -- THE MOMENTS
-pub moments : (value : List ℕ) (ts : List Timed) → Served (fresh value) (sortInto ts []) → All Within ts → (places : ℕ) → length ts ≤ places → Linearization places value (map (λ (t : Timed). t .call) ts)
+pub moments : (value : List ℕ) (ts : List Timed) → Served (fresh value) (sortInto ts []) → All Within ts → (places : ℕ) → length ts ≤ places
+    → Linearization places value (map (λ (t : Timed). t .call) ts)
 moments value ts v w places h = record {
   timed = retime places 0 ts;
   same-calls = retime-calls places 0 ts;

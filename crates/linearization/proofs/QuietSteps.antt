@@ -8,8 +8,12 @@ use Rattle.linearization.proofs.Residues.{hit}
 use native.Mathlib.Omega.{arith}
 use lib.Dec.{ltb, eqb}
 use Rattle.linearization.proofs.Updates.{upd, upd-same, upd-other, Split, same, other, split, by-test, contra, is-false, is-true}
-use Rattle.linearization.proofs.GhostMachine.{Local, Shared, State, quiet, noisy, to, setWord, word, llX, setReturned, setLinkHelp, setMoment, setB, setC, setMybuf, setE, setLinkBank, setD, setCheckedAt, rest, wEnd}
-use Rattle.model.specs.Points.{Point, idle, line1, line2, line3, line4, line5, line6, line7, line7copy, line8, line9, line10, line11, line12, line12valid, line13, line14, line14valid, line15, line17, line18, line19, line23}
+use Rattle.linearization.proofs.GhostMachine.{Local, Shared, State, quiet, noisy, to, setWord, word, llX}
+use Rattle.linearization.proofs.GhostMachine.{setReturned, setLinkHelp, setMoment, setB, setC, setMybuf, setE}
+use Rattle.linearization.proofs.GhostMachine.{setLinkBank, setD, setCheckedAt, rest, wEnd}
+use Rattle.model.specs.Points.{Point, idle, line1, line2, line3, line4, line5, line6, line7, line7copy, line8, line9}
+use Rattle.model.specs.Points.{line10, line11, line12, line12valid, line13, line14, line14valid, line15, line17, line18}
+use Rattle.model.specs.Points.{line19, line23}
 use Rattle.linearization.proofs.Invariants.{On, on-map, ProcessClauses, SharedClauses, Invariant, Withdrawing, Asking, K2, K3, H6, H7, H8, H9, K4x, Both, SamePart, Within, Got, D6}
 
 -- one word more
@@ -52,7 +56,8 @@ module _ (N W n : ℕ) (h : Shared) (p : ℕ) (l : Local) (hp : p < N) (hW : 0 <
       let f : h .flag p ≡ true → SamePart (l .returned) (h .values (h .successes)) (l .word) = λ _. pre-none _ _ _ (m .no-run) in
       let k : l .word < W = let z = m .no-run in omega arith in search arith
 
-  pub own-l3 : suc (l .word) < W → ProcessClauses N W n line3 h p l → ProcessClauses N W (suc n) line3 h p (setWord (suc (l .word)) (to line3 (setReturned (l .word) (h .buf (l .copyBuf) (l .word)) l)))
+  pub own-l3 : suc (l .word) < W → ProcessClauses N W n line3 h p l
+      → ProcessClauses N W (suc n) line3 h p (setWord (suc (l .word)) (to line3 (setReturned (l .word) (h .buf (l .copyBuf) (l .word)) l)))
   own-l3 hk m =
       let f : h .flag p ≡ true → SamePart (upd (l .returned) (l .word) (h .buf (l .copyBuf) (l .word))) (h .values (l .readVersion)) (suc (l .word)) =
       λ x. pre-put _ _ _ _ (m .read-part x) (readF line3 m (m .not-passed) (m .read-since-asked) x (l .word) (m .in-run)) in search arith
@@ -74,7 +79,8 @@ module _ (N W n : ℕ) (h : Shared) (p : ℕ) (l : Local) (hp : p < N) (hW : 0 <
       let f : true ≡ true → SamePart (l .returned) (h .values (h .successes)) (l .word) = λ _. pre-none _ _ _ (m .no-run) in
       let k : l .word < W = let z = m .no-run in omega arith in search arith
 
-  pub own-l6 : suc (l .word) < W → ProcessClauses N W n line6 h p l → ProcessClauses N W (suc n) line6 h p (setWord (suc (l .word)) (to line6 (setReturned (l .word) (h .buf (l .copyBuf) (l .word)) l)))
+  pub own-l6 : suc (l .word) < W → ProcessClauses N W n line6 h p l
+      → ProcessClauses N W (suc n) line6 h p (setWord (suc (l .word)) (to line6 (setReturned (l .word) (h .buf (l .copyBuf) (l .word)) l)))
   own-l6 hk m =
       let f : l .linkX ≡ true → SamePart (upd (l .returned) (l .word) (h .buf (l .copyBuf) (l .word))) (h .values (l .readVersion)) (suc (l .word)) =
       λ x. pre-put _ _ _ _ (m .reread-part x) (readL line6 m x (l .word) (m .in-run)) in search arith
@@ -95,7 +101,8 @@ module _ (N W n : ℕ) (h : Shared) (p : ℕ) (l : Local) (hp : p < N) (hW : 0 <
       let x : l .linkX ≡ true → h .helpVersion p ≡ h .successes = λ z. absurd (contra z e) in
       let y : h .helpVersion p ≡ h .successes → l .linkX ≡ true = λ z. m .current-linked (omega (arith, m .handed-before-reread)) in search arith
 
-  pub own-l7c : suc (l .word) < W → ProcessClauses N W n line7copy h p l → ProcessClauses N W (suc n) line7copy h p (setWord (suc (l .word)) (to line7copy (setReturned (l .word) (h .buf (l .b) (l .word)) l)))
+  pub own-l7c : suc (l .word) < W → ProcessClauses N W n line7copy h p l
+      → ProcessClauses N W (suc n) line7copy h p (setWord (suc (l .word)) (to line7copy (setReturned (l .word) (h .buf (l .b) (l .word)) l)))
   own-l7c hk m =
       let f : SamePart (upd (l .returned) (l .word) (h .buf (l .b) (l .word))) (h .values (l .version)) (suc (l .word)) =
       pre-put _ _ _ _ (m .copied-part) (let z = m .handed-value (m .handed .one) .words (l .word) (m .in-run) in cc (m .handed .two, m .copied-version)) in search arith
@@ -134,7 +141,8 @@ module _ (N W n : ℕ) (h : Shared) (p : ℕ) (l : Local) (hp : p < N) (hW : 0 <
   pub own-s13′ : l .linkBank (l .copySeq) ≡ false → ProcessClauses N W n line13 h p l → ProcessClauses N W (suc n) line14 h p (to line14 l)
   own-s13′ e m = let f : K2 N h (l .linkX) = λ x. m .bank-or-link x e in search arith
 
-  pub own-s14 : h .flag (l .copySeq % N) ≡ true → ProcessClauses N W n line14 h p l → ProcessClauses N W (suc n) line14valid h p (to line14valid (setD (h .helpBuf (l .copySeq % N)) (setLinkHelp (l .copySeq % N) true l)))
+  pub own-s14 : h .flag (l .copySeq % N) ≡ true → ProcessClauses N W n line14 h p l
+      → ProcessClauses N W (suc n) line14valid h p (to line14valid (setD (h .helpBuf (l .copySeq % N)) (setLinkHelp (l .copySeq % N) true l)))
   own-s14 e m = let z = upd-same (l .linkHelp) (l .copySeq % N) true in search arith
 
   pub own-s14′ : h .flag (l .copySeq % N) ≡ false → ProcessClauses N W n line14 h p l → ProcessClauses N W (suc n) line17 h p (to line17 (setLinkHelp (l .copySeq % N) true l))

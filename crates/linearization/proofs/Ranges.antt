@@ -7,8 +7,13 @@ use native.Mathlib.Omega.{arith}
 use lib.Dec.{ltb, eqb}
 use borrow.Author.Tests.{ltb-true, ltb-false, eqb-true, eqb-false}
 use Rattle.linearization.proofs.Updates.{upd, upd-same, upd-other, Split, same, other, split, by-test, contra}
-use Rattle.linearization.proofs.GhostMachine.{Local, Shared, State, quiet, noisy, step, stepAt, to, setLinkHelp, setLinkBank, setLinkX, setMoment, setCheckedAt, setB, setC, setD, setE, setMybuf, setWord, setReturned, llX, rest, begin, wHelp, wAsked, wGive, wBuf, wBank, wX, wEnd, wStart}
-use Rattle.model.specs.Points.{Point, idle, line1, line2, line3, line4, line5, line6, line7, line7copy, line8, line9, line10, line11, line12, line12valid, line13, line14, line14valid, line15, line17, line18, line19, line23}
+use Rattle.linearization.proofs.GhostMachine.{Local, Shared, State, quiet, noisy, step, stepAt, to, setLinkHelp}
+use Rattle.linearization.proofs.GhostMachine.{setLinkBank, setLinkX, setMoment, setCheckedAt, setB, setC, setD}
+use Rattle.linearization.proofs.GhostMachine.{setE, setMybuf, setWord, setReturned, llX, rest, begin, wHelp}
+use Rattle.linearization.proofs.GhostMachine.{wAsked, wGive, wBuf, wBank, wX, wEnd, wStart}
+use Rattle.model.specs.Points.{Point, idle, line1, line2, line3, line4, line5, line6, line7, line7copy, line8, line9}
+use Rattle.model.specs.Points.{line10, line11, line12, line12valid, line13, line14, line14valid, line15, line17, line18}
+use Rattle.model.specs.Points.{line19, line23}
 
 module _ (N W : ℕ) where
   pub record ProcessRanges (l : Local) : Type 0 where
@@ -79,16 +84,34 @@ module _ (N W : ℕ) where
     range-step line7 = by-test InRanges (l .linkX) (λ e. q! _ (let a = m in search)) (λ e. q! _ (let a = m in search))
     range-step line7copy = r! line7copy line8 (setReturned (l .word) (h .buf (l .b) (l .word)) l) (let a = m in search)
     range-step line8 = by-test InRanges (h .flag p) (λ e. q! _ (let a = m in let b = i .all .helpBuf p hp in search)) (λ e. q! _ (let a = m in search))
-    range-step line9 = by-test InRanges (l .linkHelp p) (λ e. n! _ (setLinkHelp p false) _ (let a = i .all in let b = below N (3 * N) (h .helpBuf) p (l .c) (m .c) (i .all .helpBuf) in search) (let a = m in search) (λ q hq x. search)) (λ e. q! _ (let a = m in search))
+    range-step line9 =
+        by-test InRanges (l .linkHelp p)
+        (λ e. n! _ (setLinkHelp p false) _ (let a = i .all in let b = below N (3 * N) (h .helpBuf) p (l .c) (m .c) (i .all .helpBuf) in search) (let a = m in search) (λ q hq x. search))
+        (λ e. q! _ (let a = m in search))
     range-step line10 = q! _ (let a = m in let b = i .all .helpBuf p hp in search)
-    range-step line11 = by-test InRanges (ltb (suc (l .word)) W) (λ e. n! _ (λ l. l) _ (let a = i .all in search) (let a = m in let z = ltb-true (suc (l .word)) W e in search) (λ q hq x. x)) (λ e. n! _ (λ l. l) _ (let a = i .all in search) (let a = m in search) (λ q hq x. x))
+    range-step line11 =
+        by-test InRanges (ltb (suc (l .word)) W)
+        (λ e. n! _ (λ l. l) _ (let a = i .all in search) (let a = m in let z = ltb-true (suc (l .word)) W e in search) (λ q hq x. x))
+        (λ e. n! _ (λ l. l) _ (let a = i .all in search) (let a = m in search) (λ q hq x. x))
     range-step line12 = by-test InRanges (eqb (h .bank (l .copySeq)) (l .copyBuf)) (λ e. q! _ (let a = m in search)) (λ e. q! _ (let a = m in search))
     range-step line12valid = by-test InRanges (l .linkX) (λ e. q! _ (let a = m in search)) (λ e. q! _ (let a = m in search))
-    range-step line13 = by-test InRanges (l .linkBank (l .copySeq)) (λ e. n! _ (setLinkBank (l .copySeq) false) _ (let a = i .all in let b = below (2 * N) (3 * N) (h .bank) (l .copySeq) (l .copyBuf) (m .copyBuf) (i .all .bank) in search) (let a = m in search) (λ q hq x. search)) (λ e. q! _ (let a = m in search))
+    range-step line13 =
+        by-test InRanges (l .linkBank (l .copySeq))
+        (λ e. n! _ (setLinkBank (l .copySeq) false) _ (let a = i .all in let b = below (2 * N) (3 * N) (h .bank) (l .copySeq) (l .copyBuf) (m .copyBuf) (i .all .bank) in search) (let a = m in search) (λ q hq x. search))
+        (λ e. q! _ (let a = m in search))
     range-step line14 = by-test InRanges (h .flag (l .copySeq % N)) (λ e. q! _ (let a = m in let b = i .all .helpBuf _ hu in search)) (λ e. q! _ (let a = m in search))
     range-step line14valid = by-test InRanges (l .linkX) (λ e. q! _ (let a = m in search)) (λ e. q! _ (let a = m in search))
-    range-step line15 = by-test InRanges (l .linkHelp (l .copySeq % N)) (λ e. n! _ (setLinkHelp (l .copySeq % N) false) _ (let a = i .all in let b = below N (3 * N) (h .helpBuf) (l .copySeq % N) (l .mybuf) (m .my) (i .all .helpBuf) in search) (let a = m in search) (λ q hq x. search)) (λ e. q! _ (let a = m in search))
-    range-step line17 = by-test (λ x. InRanges (noisy s p (wBuf (l .mybuf) (l .word) (l .offered (l .word)) h) (λ l. l) x)) (ltb (suc (l .word)) W) (λ e. n! _ (λ l. l) _ (let a = i .all in search) (let a = m in let z = ltb-true (suc (l .word)) W e in search) (λ q hq x. x)) (λ e. n! _ (λ l. l) _ (let a = i .all in search) (let a = m in search) (λ q hq x. x))
+    range-step line15 =
+        by-test InRanges (l .linkHelp (l .copySeq % N))
+        (λ e. n! _ (setLinkHelp (l .copySeq % N) false) _ (let a = i .all in let b = below N (3 * N) (h .helpBuf) (l .copySeq % N) (l .mybuf) (m .my) (i .all .helpBuf) in search) (let a = m in search) (λ q hq x. search))
+        (λ e. q! _ (let a = m in search))
+    range-step line17 =
+        by-test (λ x. InRanges (noisy s p (wBuf (l .mybuf) (l .word) (l .offered (l .word)) h) (λ l. l) x)) (ltb (suc (l .word)) W)
+        (λ e. n! _ (λ l. l) _ (let a = i .all in search) (let a = m in let z = ltb-true (suc (l .word)) W e in search) (λ q hq x. x))
+        (λ e. n! _ (λ l. l) _ (let a = i .all in search) (let a = m in search) (λ q hq x. x))
     range-step line18 = q! _ (let a = m in let b = i .all .bank _ hv in search)
-    range-step line19 = by-test InRanges (l .linkX) (λ e. n! _ (setLinkX false) _ (let a = i .all in let b = m .my in let c = hv in search) (let a = m in search) (λ q hq x. search)) (λ e. n! _ (λ l. l) _ (let a = i .all in search) (let a = m in search) (λ q hq x. x))
+    range-step line19 =
+        by-test InRanges (l .linkX)
+        (λ e. n! _ (setLinkX false) _ (let a = i .all in let b = m .my in let c = hv in search) (let a = m in search) (λ q hq x. search))
+        (λ e. n! _ (λ l. l) _ (let a = i .all in search) (let a = m in search) (λ q hq x. x))
     range-step line23 = n! _ (λ l. l) _ (let a = i .all in search) (let a = m in search) (λ q hq x. x)

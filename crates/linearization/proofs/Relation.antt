@@ -30,7 +30,18 @@ use Rattle.linearization.proofs.ListFacts.{sets-out, sets-in}
 
 -- the process record of a process of the ghost machine
 abbrev pub recordOf : Local → Process
-recordOf f = record { mybuf = record { 0 = f .mybuf }; x = record { buf = record { 0 = f .copyBuf }; seq = record { 0 = f .copySeq } }; line = lineNumber (f .point); word = f .word; count = f .count; answered = f .answered; b = record { 0 = f .b }; c = record { 0 = f .c }; d = record { 0 = f .d }; e = record { 0 = f .e } }
+recordOf f = record {
+  mybuf = record { 0 = f .mybuf };
+  x = record { buf = record { 0 = f .copyBuf }; seq = record { 0 = f .copySeq } };
+  line = lineNumber (f .point);
+  word = f .word;
+  count = f .count;
+  answered = f .answered;
+  b = record { 0 = f .b };
+  c = record { 0 = f .c };
+  d = record { 0 = f .d };
+  e = record { 0 = f .e };
+}
 
 -- the links of one place; f q is the link of process q
 pub record LinksLike (N : ℕ) (links : ℕ) (f : ℕ → Bool) : Type 0 where
@@ -110,7 +121,8 @@ module _ (N : ℕ) where
   help-same h u d l r = record { flag = r .flag ∙ sym (ap (λ y. cond y 1 0) u); buf = r .buf ∙ sym d; links = links-same N l (r .links) }
 
 -- a table with another place i: what holds of the new place, and of the others as before
-pub put-place : {A : Type 0} (P : ℕ → A → Type 0) (n : ℕ) (xs : List A) (d a : A) (i : ℕ) → i < n → n ≤ length xs → P i a → ((j : ℕ) → j < n → (j ≡ i → ⊥) → P j (getD xs j d)) → (j : ℕ) → j < n → P j (getD (set xs i a) j d)
+pub put-place : {A : Type 0} (P : ℕ → A → Type 0) (n : ℕ) (xs : List A) (d a : A) (i : ℕ) → i < n → n ≤ length xs → P i a → ((j : ℕ) → j < n → (j ≡ i → ⊥) → P j (getD xs j d))
+    → (j : ℕ) → j < n → P j (getD (set xs i a) j d)
 put-place P n xs d a i hi hn here there j hj = go (split j i)
   where
     go : Split j i → P j (getD (set xs i a) j d)
@@ -147,7 +159,8 @@ module _ (N W : ℕ) (ws : List ℕ) (len : 5 * N * W ≤ length ws) (r k u : �
   half-other q j hj ne = ap (half j) (getD-set-other ws (r * W + wordOf k) (q * W + wordOf j) _ 0 (λ z. let y = addr W q (wordOf j) r (wordOf k) (omega arith) (omega arith) z in ne (y .0) (y .1)))
 
   -- the row r against a function, with half k set
-  row-set : (f : ℕ → ℕ) (v : ℕ) → r < 5 * N → half k u ≡ v → ((j : ℕ) → j < halves W → half j (getD ws (r * W + wordOf j) 0) ≡ f j) → (j : ℕ) → j < halves W → half j (getD put (r * W + wordOf j) 0) ≡ upd f k v j
+  row-set : (f : ℕ → ℕ) (v : ℕ) → r < 5 * N → half k u ≡ v → ((j : ℕ) → j < halves W → half j (getD ws (r * W + wordOf j) 0) ≡ f j) → (j : ℕ) → j < halves W
+      → half j (getD put (r * W + wordOf j) 0) ≡ upd f k v j
   row-set f v hr e o j hj = go (split j k) (split (wordOf j) (wordOf k))
     where
       go : Split j k → Split (wordOf j) (wordOf k) → half j (getD put (r * W + wordOf j) 0) ≡ upd f k v j
@@ -201,7 +214,8 @@ module _ (N W : ℕ) (ws : List ℕ) (buf ret off : ℕ → ℕ → ℕ) (r : Wo
       go q j hq hj (other ne) = far q j hj (λ y _. ne y) ∙ r .buf q j hq hj ∙ sym (ap (λ f. f j) (upd-other buf i q (upd (buf i) k v) ne))
 
   -- W words are written to p's offer area
-  pub words-offer : (ret′ off′ : ℕ → ℕ → ℕ) (p : ℕ) (v : List ℕ) → p < N → length v ≡ W → ((q : ℕ) → ret′ q ≡ ret q) → off′ p ≡ cells v → ((q : ℕ) → (q ≡ p → ⊥) → off′ q ≡ off q) → WordsLike N W (sets ws ((4 * N + p) * W + 0) v) buf ret′ off′
+  pub words-offer : (ret′ off′ : ℕ → ℕ → ℕ) (p : ℕ) (v : List ℕ) → p < N → length v ≡ W → ((q : ℕ) → ret′ q ≡ ret q) → off′ p ≡ cells v
+      → ((q : ℕ) → (q ≡ p → ⊥) → off′ q ≡ off q) → WordsLike N W (sets ws ((4 * N + p) * W + 0) v) buf ret′ off′
   words-offer ret′ off′ p v hp hv a b c = record {
     len = let z = length-sets ws ((4 * N + p) * W + 0) v in let y = r .len in omega arith;
     buf = λ i j hi hj. far i j hj (λ y. omega arith) ∙ r .buf i j hi hj;
@@ -215,7 +229,8 @@ module _ (N W : ℕ) (ws : List ℕ) (buf ret off : ℕ → ℕ → ℕ) (r : Wo
       near : (j : ℕ) → j < halves W → half j (getD (sets ws ((4 * N + p) * W + 0) v) ((4 * N + p) * W + wordOf j) 0) ≡ cells v j
       near j hj =
           let z : suc (4 * N + p) * W ≤ 5 * N * W = mul-le-mul-right W (omega arith) in let y = r .len in
-          ap (λ i. half j (getD (sets ws ((4 * N + p) * W + 0) v) i 0)) (let e : (4 * N + p) * W + wordOf j ≡ (4 * N + p) * W + 0 + wordOf j = omega arith in e) ∙ ap (half j) (sets-in v ws ((4 * N + p) * W + 0) (wordOf j) 0 (omega arith) (omega arith))
+          ap (λ i. half j (getD (sets ws ((4 * N + p) * W + 0) v) i 0)) (let e : (4 * N + p) * W + wordOf j ≡ (4 * N + p) * W + 0 + wordOf j = omega arith in e)
+          ∙ ap (half j) (sets-in v ws ((4 * N + p) * W + 0) (wordOf j) 0 (omega arith) (omega arith))
 
       go : (q j : ℕ) → q < N → j < halves W → Split q p → half j (getD (sets ws ((4 * N + p) * W + 0) v) ((4 * N + q) * W + wordOf j) 0) ≡ off′ q j
       go q j hq hj (same e) = rw e (near j hj ∙ sym (ap (λ f. f j) b))

@@ -12,7 +12,9 @@ use Rattle.model.specs.declared.XPlace.{XPlace}
 use Rattle.model.specs.declared.BankPlace.{BankPlace}
 use Rattle.model.specs.declared.HelpPlace.{HelpPlace}
 use Rattle.model.specs.declared.Reply.the-variants.{Accepted, LlAnswered}
-use Rattle.model.specs.Points.{Point, idle, line1, line2, line3, line4, line5, line6, line7, line7copy, line8, line9, line10, line11, line12, line12valid, line13, line14, line14valid, line15, line17, line18, line19, line23}
+use Rattle.model.specs.Points.{Point, idle, line1, line2, line3, line4, line5, line6, line7, line7copy, line8, line9}
+use Rattle.model.specs.Points.{line10, line11, line12, line12valid, line13, line14, line14valid, line15, line17, line18}
+use Rattle.model.specs.Points.{line19, line23}
 use Rattle.model.specs.Sizes.{halves}
 use Rattle.model.specs.Words.{returnArea, wordOf, half}
 use Rattle.model.specs.Machine
@@ -61,7 +63,10 @@ return-area N W m z p hp r =
 -- line 11 leaves the return area as it was
 pub return-stays : (N W t p : ℕ) (z : State) → GhostMachine.stepAt N W line11 t p z .loc p .returned ≡ z .loc p .returned
 unfolding GhostMachine.stepAt
-return-stays N W t p z = by-test (λ (s : State). s .loc p .returned ≡ z .loc p .returned) (ltb (suc (z .loc p .word)) W) (λ _. ap (λ (l : Local). l .returned) (upd-same (z .loc) p _)) (λ _. ap (λ (l : Local). l .returned) (upd-same (z .loc) p _))
+return-stays N W t p z =
+    by-test (λ (s : State). s .loc p .returned ≡ z .loc p .returned) (ltb (suc (z .loc p .word)) W)
+    (λ _. ap (λ (l : Local). l .returned) (upd-same (z .loc) p _))
+    (λ _. ap (λ (l : Local). l .returned) (upd-same (z .loc) p _))
 
 module _ (N W : ℕ) (x : XPlace) (ks : List BankPlace) (hs : List HelpPlace) (ws : List ℕ) (p : ℕ) (z : State) (hp : p < N) (r : PlacesLike N W x ks hs ws (z .sh) (z .loc)) (m : Memory) where
   abbrev f : Local

@@ -39,7 +39,17 @@ set-up-admits m n w value e =
     let a = inside 1 16 n (r 0) in
     let b = inside 1 64 w (r 1) in
     let c = or-false _ _ (r 2) in
-    record { sizes = record { n-low = a .0; n-high = a .1; w-low = b .0; w-high = b .1 }; words = ltb-false _ _ (c .0); records = ltb-false _ _ (c .1); value-length = eqb-true _ _ (not-false _ (r 3)) }
+    record {
+      sizes = record {
+        n-low = a .0;
+        n-high = a .1;
+        w-low = b .0;
+        w-high = b .1;
+      };
+      words = ltb-false _ _ (c .0);
+      records = ltb-false _ _ (c .1);
+      value-length = eqb-true _ _ (not-false _ (r 3));
+    }
 
 pub set-up-memory : (m : Memory) (n w : ℕ) (value : List ℕ) → setUp m n w value .0 ≡ 0 → setUp m n w value .1 ≡ atSetUp m n w value
 unfolding setUp
@@ -54,14 +64,18 @@ module _ (m : Memory) (N W : ℕ) (value : List ℕ) (shaped : Shaped m) (a : Ad
   enough = let z = a .sizes .n-low in let y : 1 * W ≤ 5 * N * W = mul-le-mul-right W (omega arith) in omega arith
 
   given-length : length given ≡ 5 * N * W
-  given-length = length-append value (replicate (5 * N * W - W) 0) ∙ ap₂ _+_ (a .value-length) (length-replicate (5 * N * W - W) 0) ∙ (let x = enough in let z : W + (5 * N * W - W) ≡ 5 * N * W = omega arith in z)
+  given-length =
+      length-append value (replicate (5 * N * W - W) 0) ∙ ap₂ _+_ (a .value-length) (length-replicate (5 * N * W - W) 0)
+      ∙ (let x = enough in let z : W + (5 * N * W - W) ≡ 5 * N * W = omega arith in z)
 
   row0 : (k : ℕ) → k < W → getD given (0 * W + k) 0 ≡ getD value k 0
   row0 k hk = ap (λ i. getD given i 0) (let z : 0 * W + k ≡ k = omega arith in z) ∙ List·getD-append value (replicate (5 * N * W - W) 0) 0 k (let z = a .value-length in omega arith)
 
   rowS : (r k : ℕ) → 0 < r → getD given (r * W + k) 0 ≡ 0
   rowS zero k h = absurd (omega arith)
-  rowS (suc r) k h = ap (λ i. getD given i 0) (let y = a .value-length in let z : suc r * W + k ≡ length value + (r * W + k) = omega arith in z) ∙ getD-append-add value (replicate (5 * N * W - W) 0) (r * W + k) 0 ∙ zeros (5 * N * W - W) (r * W + k)
+  rowS (suc r) k h =
+      ap (λ i. getD given i 0) (let y = a .value-length in let z : suc r * W + k ≡ length value + (r * W + k) = omega arith in z)
+      ∙ getD-append-add value (replicate (5 * N * W - W) 0) (r * W + k) 0 ∙ zeros (5 * N * W - W) (r * W + k)
 
   rows : (r k : ℕ) → k < halves W → half k (getD given (r * W + wordOf k) 0) ≡ cond {A = ℕ → ℕ} (eqb r 0) (cells value) (λ w. 0) k
   rows zero k hk = ap (half k) (row0 (wordOf k) (omega arith))

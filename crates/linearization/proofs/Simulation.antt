@@ -21,7 +21,7 @@ use Rattle.model.specs.declared.Order.{Order}
 use Rattle.model.specs.declared.Order.the-variants.{StartLl, StartSc, StartVl, Step}
 use Rattle.model.specs.declared.Reply.the-variants.{Accepted, LlAnswered, ScAnswered, VlAnswered}
 use Rattle.model.specs.declared.Moved.{Moved}
-use Rattle.model.specs.Places.{linked, noLinks, writeHelp, llHelp, llBank}
+use Rattle.model.specs.Places.{linked, link, noLinks, writeHelp, llHelp, llBank}
 use Rattle.model.specs.Sizes.{halves}
 use Rattle.model.specs.Words.{wordOf, half, withHalf}
 use Rattle.model.specs.Tables.{noBank, noHelp}
@@ -29,13 +29,17 @@ use Rattle.model.specs.Records
 use Rattle.model.specs.Machine
 use Rattle.model.specs.Refusals.{bringsValue, isStart}
 use Rattle.model.specs.Lines.{doLine2, doWord}
-use Rattle.model.specs.Points.{Point, lineNumber, idle, line1, line2, line3, line4, line5, line6, line7, line7copy, line8, line9, line10, line11, line12, line12valid, line13, line14, line14valid, line15, line17, line18, line19, line23}
+use Rattle.model.specs.Points.{Point, lineNumber, idle, line1, line2, line3, line4, line5, line6, line7, line7copy}
+use Rattle.model.specs.Points.{line8, line9, line10, line11, line12, line12valid, line13, line14, line14valid, line15}
+use Rattle.model.specs.Points.{line17, line18, line19, line23}
 use Rattle.linearization.proofs.Updates.{upd, upd-same, upd-other, Split, same, other, split, by-test, contra}
 use Rattle.linearization.proofs.GhostMachine
 use Rattle.linearization.proofs.GhostMachine.{Local, Shared, State, quiet, noisy}
 use Rattle.linearization.proofs.WordLists.{cells}
 use Rattle.linearization.proofs.Ranges.{ProcessRanges}
-use Rattle.linearization.proofs.Relation.{recordOf, XLike, BankLike, HelpLike, WordsLike, PlacesLike, links-set, links-none, x-same, bank-same, help-same, put-place, words-same, words-return, words-buffer, words-offer}
+use Rattle.linearization.proofs.Relation.{recordOf, LinksLike, XLike, BankLike, HelpLike, WordsLike, PlacesLike, links-set}
+use Rattle.linearization.proofs.Relation.{links-none, x-same, bank-same, help-same, put-place, words-same}
+use Rattle.linearization.proofs.Relation.{words-return, words-buffer, words-offer}
 
 -- a flag, 0 or 1, against the Bool
 flag-0 : (n : ℕ) (b : Bool) → n ≡ cond b 1 0 → eqb n 0 ≡ not b
@@ -138,6 +142,13 @@ module _ (N W : ℕ) (x : XPlace) (ks : List BankPlace) (hs : List HelpPlace) (w
     kept = λ q ne. ap recordOf (upd-other (λ q. u (z .loc q)) p q l ne) ∙ k (z .loc q);
   }
 
+  -- the links of a place, F being the link to it: p's is set, or all are cleared
+  link-set : (F : Local → Bool) (links : ℕ) (l : Local) → F l ≡ true → LinksLike N links (λ q. F (z .loc q)) → LinksLike N (link links me) (λ q. F (locs z p (λ m. m) l q))
+  link-set F links l e = links-set N links (λ q. F (z .loc q)) _ p hp (ap F (upd-same (z .loc) p l) ∙ e) (λ q ne. ap F (upd-other (z .loc) p q l ne))
+
+  links-cleared : (F : Local → Bool) (u : Local → Local) (l : Local) → F l ≡ false → ((m : Local) → F (u m) ≡ false) → LinksLike N noLinks (λ q. F (locs z p u l q))
+  links-cleared F u l e o = links-none N _ (field z p u l F (λ q. false) e (λ q _. o (z .loc q)))
+
   -- a step on X
   on-x : (x′ : XPlace) (q′ : Process) (a : Reply) (h′ : Shared) (u : Local → Local) (l : Local) → XLike N x′ (h′ .xbuf) (h′ .xseq) (λ q. locs z p u l q .linkX) → q′ ≡ recordOf l
       → notX h′ ≡ notX h → ofX l ≡ ofX f → ((m : Local) → ofX (u m) ≡ ofX m) → ((m : Local) → recordOf (u m) ≡ recordOf m)
@@ -166,9 +177,11 @@ module _ (N W : ℕ) (x : XPlace) (ks : List BankPlace) (hs : List HelpPlace) (w
   }) e k
 
   -- a step on Help[i]
-  on-help : (i : ℕ) → i < N → (k′ : HelpPlace) (q′ : Process) (h′ : Shared) (u : Local → Local) (l : Local) → HelpLike N k′ (h′ .flag i) (h′ .helpBuf i) (λ q. locs z p u l q .linkHelp i) → q′ ≡ recordOf l
+  on-help : (i : ℕ) → i < N → (k′ : HelpPlace) (q′ : Process) (h′ : Shared) (u : Local → Local) (l : Local)
+      → HelpLike N k′ (h′ .flag i) (h′ .helpBuf i) (λ q. locs z p u l q .linkHelp i) → q′ ≡ recordOf l
       → notHelp h′ ≡ notHelp h → ofHelp l ≡ ofHelp f → ((m : Local) → ofHelp (u m) ≡ ofHelp m) → ((m : Local) → recordOf (u m) ≡ recordOf m)
-      → ((j : ℕ) → (j ≡ i → ⊥) → (h′ .flag j ≡ h .flag j) × (h′ .helpBuf j ≡ h .helpBuf j)) → ((j : ℕ) → (j ≡ i → ⊥) → l .linkHelp j ≡ f .linkHelp j) → ((j : ℕ) → (j ≡ i → ⊥) → (m : Local) → u m .linkHelp j ≡ m .linkHelp j)
+      → ((j : ℕ) → (j ≡ i → ⊥) → (h′ .flag j ≡ h .flag j) × (h′ .helpBuf j ≡ h .helpBuf j)) → ((j : ℕ) → (j ≡ i → ⊥) → l .linkHelp j ≡ f .linkHelp j)
+      → ((j : ℕ) → (j ≡ i → ⊥) → (m : Local) → u m .linkHelp j ≡ m .linkHelp j)
       → Made N W p z (record { bench = bench x ks (set hs i k′); process = q′; reply = Accepted }, ws) (noisy z p h′ u l)
   on-help i hi k′ q′ h′ u l new e sh own oth k bs ls us = made _ ws q′ Accepted h′ u l refl refl (record {
     x = x-same N x (ap (λ c. c .0) sh) (ap (λ c. c .1) sh) (λ q. ap (λ c. c .0) (keeps z p u l ofHelp own oth q)) (r .x);
@@ -180,7 +193,8 @@ module _ (N W : ℕ) (x : XPlace) (ks : List BankPlace) (hs : List HelpPlace) (w
   }) e k
 
   -- a step on a word
-  on-words : (ws′ : List ℕ) (q′ : Process) (a : Reply) (h′ : Shared) (l : Local) → WordsLike N W ws′ (h′ .buf) (λ q. locs z p (λ m. m) l q .returned) (λ q. locs z p (λ m. m) l q .offered) → q′ ≡ recordOf l
+  on-words : (ws′ : List ℕ) (q′ : Process) (a : Reply) (h′ : Shared) (l : Local)
+      → WordsLike N W ws′ (h′ .buf) (λ q. locs z p (λ m. m) l q .returned) (λ q. locs z p (λ m. m) l q .offered) → q′ ≡ recordOf l
       → notWords h′ ≡ notWords h → ofWords l ≡ ofWords f → Made N W p z (record { bench = bench x ks hs; process = q′; reply = a }, ws′) (noisy z p h′ (λ m. m) l)
   on-words ws′ q′ a h′ l new e sh own = made _ ws′ q′ a h′ (λ m. m) l refl refl (record {
     x = x-same N x (ap (λ c. c .0) sh) (ap (λ c. c .1) sh) (λ q. ap (λ c. c .0) (keeps z p (λ m. m) l ofWords own (λ _. refl) q)) (r .x);
@@ -199,17 +213,21 @@ module _ (N W : ℕ) (x : XPlace) (ks : List BankPlace) (hs : List HelpPlace) (w
   ll-x y =
       let l : Local = GhostMachine.to y (GhostMachine.llX h t f) in
       on-x _ _ Accepted h (λ m. m) l
-      (record { buf = r .x .buf; seq = r .x .seq; links = links-set N (x .links) (λ q. z .loc q .linkX) _ p hp (ap (λ m. m .linkX) (upd-same (z .loc) p l)) (λ q ne. ap (λ m. m .linkX) (upd-other (z .loc) p q l ne)) (r .x .links) })
-      (ap (λ c. Records.to y (Records.withX c (recordOf f))) (content (x .content) (h .xbuf) (h .xseq) (r .x .buf) (r .x .seq)) ∙ to-record y (GhostMachine.llX h t f)) refl refl (λ _. refl) (λ _. refl)
+      (record { buf = r .x .buf; seq = r .x .seq; links = link-set (λ m. m .linkX) (x .links) l refl (r .x .links) })
+      (ap (λ c. Records.to y (Records.withX c (recordOf f))) (content (x .content) (h .xbuf) (h .xseq) (r .x .buf) (r .x .seq)) ∙ to-record y (GhostMachine.llX h t f))
+      refl refl (λ _. refl) (λ _. refl)
 
-  stay-x : (q′ : Process) (a : Reply) (h′ : Shared) (l : Local) → q′ ≡ recordOf l → h′ .xbuf ≡ h .xbuf → h′ .xseq ≡ h .xseq → notX h′ ≡ notX h → l .linkX ≡ f .linkX → ofX l ≡ ofX f
+  stay-x : (q′ : Process) (a : Reply) (h′ : Shared) (l : Local) → q′ ≡ recordOf l → h′ .xbuf ≡ h .xbuf → h′ .xseq ≡ h .xseq
+      → notX h′ ≡ notX h → l .linkX ≡ f .linkX → ofX l ≡ ofX f
       → Made N W p z (record { bench = bench x ks hs; process = q′; reply = a }, ws) (noisy z p h′ (λ m. m) l)
   stay-x q′ a h′ l e xb xs sh lx own = on-x x q′ a h′ (λ m. m) l (x-same N x xb xs (keeps z p (λ m. m) l (λ m. m .linkX) lx (λ _. refl)) (r .x)) e sh own (λ _. refl) (λ _. refl)
 
-  write-x : (v : XContent) (q′ : Process) (a : Reply) (h′ : Shared) (l : Local) → q′ ≡ recordOf l → v .buf .0 ≡ h′ .xbuf → v .seq .0 ≡ h′ .xseq → notX h′ ≡ notX h → l .linkX ≡ false → ofX l ≡ ofX f
+  write-x : (v : XContent) (q′ : Process) (a : Reply) (h′ : Shared) (l : Local) → q′ ≡ recordOf l → v .buf .0 ≡ h′ .xbuf → v .seq .0 ≡ h′ .xseq
+      → notX h′ ≡ notX h → l .linkX ≡ false → ofX l ≡ ofX f
       → Made N W p z (record { bench = bench (record { content = v; links = noLinks }) ks hs; process = q′; reply = a }, ws) (noisy z p h′ (GhostMachine.setLinkX false) l)
   write-x v q′ a h′ l e xb xs sh lx own =
-      on-x _ q′ a h′ (GhostMachine.setLinkX false) l (record { buf = xb; seq = xs; links = links-none N _ (field z p (GhostMachine.setLinkX false) l (λ m. m .linkX) (λ q. false) lx (λ _ _. refl)) }) e sh own (λ _. refl) (λ _. refl)
+      let clear = GhostMachine.setLinkX false in
+      on-x _ q′ a h′ clear l (record { buf = xb; seq = xs; links = links-cleared (λ m. m .linkX) clear l lx (λ _. refl) }) e sh own (λ _. refl) (λ _. refl)
 
   -- Bank[i]: LL, left alone, written
   module _ (i : ℕ) (hi : i < 2 * N) where
@@ -217,7 +235,7 @@ module _ (N W : ℕ) (x : XPlace) (ks : List BankPlace) (hs : List HelpPlace) (w
         → Made N W p z (record { bench = bench x (set ks i (llBank (getD ks i noBank) me)) hs; process = q′; reply = Accepted }, ws) (quiet z p l)
     ll-bank q′ l e lb own =
         on-bank i hi _ q′ h (λ m. m) l
-        (record { buf = r .bank i hi .buf; links = links-set N _ (λ q. z .loc q .linkBank i) _ p hp (ap (λ m. m .linkBank i) (upd-same (z .loc) p l) ∙ ap (λ c. c i) lb ∙ upd-same (f .linkBank) i true) (λ q ne. ap (λ m. m .linkBank i) (upd-other (z .loc) p q l ne)) (r .bank i hi .links) })
+        (record { buf = r .bank i hi .buf; links = link-set (λ m. m .linkBank i) _ l (ap (λ c. c i) lb ∙ upd-same (f .linkBank) i true) (r .bank i hi .links) })
         e refl own (λ _. refl) (λ _. refl) (λ j ne. refl) (λ j ne. ap (λ c. c j) lb ∙ upd-other (f .linkBank) i j true ne) (λ j ne m. refl)
 
     stay-bank : (q′ : Process) (l : Local) → q′ ≡ recordOf l → l .linkBank ≡ f .linkBank → ofBank l ≡ ofBank f
@@ -227,11 +245,14 @@ module _ (N W : ℕ) (x : XPlace) (ks : List BankPlace) (hs : List HelpPlace) (w
         e refl own (λ _. refl) (λ _. refl) (λ j ne. refl) (λ j ne. ap (λ c. c j) lb) (λ j ne m. refl)
 
     write-bank : (v : ℕ) (q′ : Process) (l : Local) → q′ ≡ recordOf l → l .linkBank ≡ upd (f .linkBank) i false → ofBank l ≡ ofBank f
-        → Made N W p z (record { bench = bench x (set ks i (record { content = record { 0 = v }; links = noLinks })) hs; process = q′; reply = Accepted }, ws) (noisy z p (GhostMachine.wBank i v h) (GhostMachine.setLinkBank i false) l)
+        → Made N W p z (record { bench = bench x (set ks i (record { content = record { 0 = v }; links = noLinks })) hs; process = q′; reply = Accepted }, ws)
+        (noisy z p (GhostMachine.wBank i v h) (GhostMachine.setLinkBank i false) l)
     write-bank v q′ l e lb own =
-        on-bank i hi _ q′ (GhostMachine.wBank i v h) (GhostMachine.setLinkBank i false) l
-        (record { buf = sym (upd-same (h .bank) i v); links = links-none N _ (field z p (GhostMachine.setLinkBank i false) l (λ m. m .linkBank i) (λ q. false) (ap (λ c. c i) lb ∙ upd-same (f .linkBank) i false) (λ q _. upd-same (z .loc q .linkBank) i false)) })
-        e refl own (λ _. refl) (λ _. refl) (λ j ne. upd-other (h .bank) i j v ne) (λ j ne. ap (λ c. c j) lb ∙ upd-other (f .linkBank) i j false ne) (λ j ne m. upd-other (m .linkBank) i j false ne)
+        let clear = GhostMachine.setLinkBank i false in
+        let cleared = links-cleared (λ m. m .linkBank i) clear l (ap (λ c. c i) lb ∙ upd-same (f .linkBank) i false) (λ m. upd-same (m .linkBank) i false) in
+        on-bank i hi _ q′ (GhostMachine.wBank i v h) clear l (record { buf = sym (upd-same (h .bank) i v); links = cleared })
+        e refl own (λ _. refl) (λ _. refl)
+        (λ j ne. upd-other (h .bank) i j v ne) (λ j ne. ap (λ c. c j) lb ∙ upd-other (f .linkBank) i j false ne) (λ j ne m. upd-other (m .linkBank) i j false ne)
 
   -- Help[i]: LL, left alone, written
   module _ (i : ℕ) (hi : i < N) where
@@ -239,7 +260,7 @@ module _ (N W : ℕ) (x : XPlace) (ks : List BankPlace) (hs : List HelpPlace) (w
         → Made N W p z (record { bench = bench x ks (set hs i (llHelp (getD hs i noHelp) me)); process = q′; reply = Accepted }, ws) (quiet z p l)
     ll-help q′ l e lh own =
         on-help i hi _ q′ h (λ m. m) l
-        (record { flag = r .help i hi .flag; buf = r .help i hi .buf; links = links-set N _ (λ q. z .loc q .linkHelp i) _ p hp (ap (λ m. m .linkHelp i) (upd-same (z .loc) p l) ∙ ap (λ c. c i) lh ∙ upd-same (f .linkHelp) i true) (λ q ne. ap (λ m. m .linkHelp i) (upd-other (z .loc) p q l ne)) (r .help i hi .links) })
+        (record { flag = r .help i hi .flag; buf = r .help i hi .buf; links = link-set (λ m. m .linkHelp i) _ l (ap (λ c. c i) lh ∙ upd-same (f .linkHelp) i true) (r .help i hi .links) })
         e refl own (λ _. refl) (λ _. refl) (λ j ne. (refl, refl)) (λ j ne. ap (λ c. c j) lh ∙ upd-other (f .linkHelp) i j true ne) (λ j ne m. refl)
 
     stay-help : (q′ : Process) (l : Local) → q′ ≡ recordOf l → l .linkHelp ≡ f .linkHelp → ofHelp l ≡ ofHelp f
@@ -248,48 +269,79 @@ module _ (N W : ℕ) (x : XPlace) (ks : List BankPlace) (hs : List HelpPlace) (w
         on-help i hi _ q′ h (λ m. m) l (help-same N _ refl refl (keeps z p (λ m. m) l (λ m. m .linkHelp i) (ap (λ c. c i) lh) (λ _. refl)) (r .help i hi))
         e refl own (λ _. refl) (λ _. refl) (λ j ne. (refl, refl)) (λ j ne. ap (λ c. c j) lh) (λ j ne m. refl)
 
-    write-help : (up : Bool) (v : ℕ) (q′ : Process) (h′ : Shared) (l : Local) → q′ ≡ recordOf l → h′ .flag ≡ upd (h .flag) i up → h′ .helpBuf ≡ upd (h .helpBuf) i v → notHelp h′ ≡ notHelp h → l .linkHelp ≡ upd (f .linkHelp) i false → ofHelp l ≡ ofHelp f
-        → Made N W p z (record { bench = bench x ks (set hs i (writeHelp (record { flag = cond up 1 0; buf = record { 0 = v } }))); process = q′; reply = Accepted }, ws) (noisy z p h′ (GhostMachine.setLinkHelp i false) l)
+    write-help : (up : Bool) (v : ℕ) (q′ : Process) (h′ : Shared) (l : Local) → q′ ≡ recordOf l → h′ .flag ≡ upd (h .flag) i up → h′ .helpBuf ≡ upd (h .helpBuf) i v
+        → notHelp h′ ≡ notHelp h → l .linkHelp ≡ upd (f .linkHelp) i false → ofHelp l ≡ ofHelp f
+        → Made N W p z (record { bench = bench x ks (set hs i (writeHelp (record { flag = cond up 1 0; buf = record { 0 = v } }))); process = q′; reply = Accepted }, ws)
+        (noisy z p h′ (GhostMachine.setLinkHelp i false) l)
     write-help up v q′ h′ l e hf hb sh lh own =
-        on-help i hi _ q′ h′ (GhostMachine.setLinkHelp i false) l
-        (record { flag = ap (λ b. cond b 1 0) (sym (ap (λ c. c i) hf ∙ upd-same (h .flag) i up)); buf = sym (ap (λ c. c i) hb ∙ upd-same (h .helpBuf) i v); links = links-none N _ (field z p (GhostMachine.setLinkHelp i false) l (λ m. m .linkHelp i) (λ q. false) (ap (λ c. c i) lh ∙ upd-same (f .linkHelp) i false) (λ q _. upd-same (z .loc q .linkHelp) i false)) })
-        e sh own (λ _. refl) (λ _. refl) (λ j ne. (ap (λ c. c j) hf ∙ upd-other (h .flag) i j up ne, ap (λ c. c j) hb ∙ upd-other (h .helpBuf) i j v ne)) (λ j ne. ap (λ c. c j) lh ∙ upd-other (f .linkHelp) i j false ne) (λ j ne m. upd-other (m .linkHelp) i j false ne)
+        let clear = GhostMachine.setLinkHelp i false in
+        let cleared = links-cleared (λ m. m .linkHelp i) clear l (ap (λ c. c i) lh ∙ upd-same (f .linkHelp) i false) (λ m. upd-same (m .linkHelp) i false) in
+        let flag-at : h′ .flag i ≡ up = ap (λ c. c i) hf ∙ upd-same (h .flag) i up in
+        on-help i hi _ q′ h′ clear l (record { flag = ap (λ b. cond b 1 0) (sym flag-at); buf = sym (ap (λ c. c i) hb ∙ upd-same (h .helpBuf) i v); links = cleared })
+        e sh own (λ _. refl) (λ _. refl)
+        (λ j ne. (ap (λ c. c j) hf ∙ upd-other (h .flag) i j up ne, ap (λ c. c j) hb ∙ upd-other (h .helpBuf) i j v ne))
+        (λ j ne. ap (λ c. c j) lh ∙ upd-other (f .linkHelp) i j false ne) (λ j ne m. upd-other (m .linkHelp) i j false ne)
 
   -- a half word of BUF[b] into the return area; a half of the word u into BUF[mybuf]
-  read : (b : ℕ) → b < 3 * N → (q′ : Process) (a : Reply) (l : Local) → q′ ≡ recordOf l → l .returned ≡ upd (f .returned) (f .word) (h .buf b (f .word)) → l .offered ≡ f .offered → ofWords l ≡ ofWords f
-      → Made N W p z (record { bench = bench x ks hs; process = q′; reply = a }, set ws ((3 * N + p) * W + wordOf (f .word)) (withHalf (f .word) (getD ws (b * W + wordOf (f .word)) 0) (getD ws ((3 * N + p) * W + wordOf (f .word)) 0))) (quiet z p l)
+  abbrev moved : ℕ → ℕ → List ℕ
+  moved u row = set ws (row * W + wordOf (f .word)) (withHalf (f .word) u (getD ws (row * W + wordOf (f .word)) 0))
+
+  read : (b : ℕ) → b < 3 * N → (q′ : Process) (a : Reply) (l : Local) → q′ ≡ recordOf l → l .returned ≡ upd (f .returned) (f .word) (h .buf b (f .word))
+      → l .offered ≡ f .offered → ofWords l ≡ ofWords f
+      → Made N W p z (record { bench = bench x ks hs; process = q′; reply = a }, moved (getD ws (b * W + wordOf (f .word)) 0) (3 * N + p)) (quiet z p l)
   read b hb q′ a l e ret off own =
       on-words _ q′ a h l
-      (words-return N W ws _ _ _ (r .words) _ _ p (f .word) _ (h .buf b (f .word)) hp (g .word) (r .words .buf b (f .word) hb (g .word)) (ap (λ m. m .returned) (upd-same (z .loc) p l) ∙ ret) (λ q ne. ap (λ m. m .returned) (upd-other (z .loc) p q l ne)) (keeps z p (λ m. m) l (λ m. m .offered) off (λ _. refl)))
+      (words-return N W ws _ _ _ (r .words) _ _ p (f .word) _ (h .buf b (f .word)) hp (g .word) (r .words .buf b (f .word) hb (g .word))
+      (ap (λ m. m .returned) (upd-same (z .loc) p l) ∙ ret) (λ q ne. ap (λ m. m .returned) (upd-other (z .loc) p q l ne)) (keeps z p (λ m. m) l (λ m. m .offered) off (λ _. refl)))
       e refl own
 
-  write : (u v : ℕ) → half (f .word) u ≡ v → (q′ : Process) (a : Reply) (h′ : Shared) (l : Local) → q′ ≡ recordOf l → h′ .buf ≡ upd (h .buf) (f .mybuf) (upd (h .buf (f .mybuf)) (f .word) v) → notWords h′ ≡ notWords h → l .returned ≡ f .returned → l .offered ≡ f .offered → ofWords l ≡ ofWords f
-      → Made N W p z (record { bench = bench x ks hs; process = q′; reply = a }, set ws (f .mybuf * W + wordOf (f .word)) (withHalf (f .word) u (getD ws (f .mybuf * W + wordOf (f .word)) 0))) (noisy z p h′ (λ m. m) l)
+  write : (u v : ℕ) → half (f .word) u ≡ v → (q′ : Process) (a : Reply) (h′ : Shared) (l : Local) → q′ ≡ recordOf l
+      → h′ .buf ≡ upd (h .buf) (f .mybuf) (upd (h .buf (f .mybuf)) (f .word) v) → notWords h′ ≡ notWords h
+      → l .returned ≡ f .returned → l .offered ≡ f .offered → ofWords l ≡ ofWords f
+      → Made N W p z (record { bench = bench x ks hs; process = q′; reply = a }, moved u (f .mybuf)) (noisy z p h′ (λ m. m) l)
   write u v ev q′ a h′ l e buf sh ret off own =
       on-words _ q′ a h′ l
-      (words-buffer N W ws _ _ _ (r .words) _ _ _ (f .mybuf) (f .word) u v (g .my) (g .word) ev buf (keeps z p (λ m. m) l (λ m. m .returned) ret (λ _. refl)) (keeps z p (λ m. m) l (λ m. m .offered) off (λ _. refl)))
+      (words-buffer N W ws _ _ _ (r .words) _ _ _ (f .mybuf) (f .word) u v (g .my) (g .word) ev buf
+      (keeps z p (λ m. m) l (λ m. m .returned) ret (λ _. refl)) (keeps z p (λ m. m) l (λ m. m .offered) off (λ _. refl)))
       e sh own
 
   -- the next word of a run, or on to the line y′
   k+1 : ltb (f .word + 1) (halves W) ≡ ltb (suc (f .word)) (halves W)
   k+1 = ap (λ j. ltb j (halves W)) (add-one (f .word))
 
-  reads : (y y′ : Point) → f .point ≡ y → (b : ℕ) → b < 3 * N
-      → Made N W p z (Machine.onRead me (record { 0 = b }) (doWord (halves W) y′ (recordOf f)) (bench x ks hs) (recordOf f) ws) (quiet z p (GhostMachine.word (halves W) y y′ (GhostMachine.setReturned (f .word) (h .buf b (f .word)) f)))
-  reads y y′ e b hb =
-      by-test (λ l. Made N W p z (Machine.onRead me (record { 0 = b }) (doWord (halves W) y′ (recordOf f)) (bench x ks hs) (recordOf f) ws) (quiet z p l)) (ltb (suc (f .word)) (halves W))
-      (λ t. rw (k+1 ∙ t) (read b hb _ Accepted (GhostMachine.setWord (suc (f .word)) (GhostMachine.to y (GhostMachine.setReturned (f .word) (h .buf b (f .word)) f))) (next-word y f e) refl refl refl))
-      (λ t. rw (k+1 ∙ t) (read b hb _ Accepted (GhostMachine.setWord 0 (GhostMachine.to y′ (GhostMachine.setReturned (f .word) (h .buf b (f .word)) f))) (to-record y′ (GhostMachine.setWord 0 f)) refl refl refl))
+  abbrev withRead : ℕ → Local
+  withRead b = GhostMachine.setReturned (f .word) (h .buf b (f .word)) f
 
-  hu : f .copySeq % N < N
+  abbrev AfterRead : ℕ → Point → Local → Type 0
+  AfterRead b y′ l = Made N W p z (Machine.onRead me (record { 0 = b }) (doWord (halves W) y′ (recordOf f)) (bench x ks hs) (recordOf f) ws) (quiet z p l)
+
+  reads : (y y′ : Point) → f .point ≡ y → (b : ℕ) → b < 3 * N → AfterRead b y′ (GhostMachine.word (halves W) y y′ (withRead b))
+  reads y y′ e b hb =
+      by-test (AfterRead b y′) (ltb (suc (f .word)) (halves W))
+      (λ t. rw (k+1 ∙ t) (read b hb _ Accepted (GhostMachine.setWord (suc (f .word)) (GhostMachine.to y (withRead b))) (next-word y f e) refl refl refl))
+      (λ t. rw (k+1 ∙ t) (read b hb _ Accepted (GhostMachine.setWord 0 (GhostMachine.to y′ (withRead b))) (to-record y′ (GhostMachine.setWord 0 f)) refl refl refl))
+
+  -- the process that is helped, and the next sequence number
+  abbrev asker : ℕ
+  asker = f .copySeq % N
+
+  abbrev nextSeq : ℕ
+  nextSeq = suc (f .copySeq) % (2 * N)
+
+  hu : asker < N
   hu = mod-lt (f .copySeq) (omega arith)
 
-  hv : suc (f .copySeq) % (2 * N) < 2 * N
+  hv : nextSeq < 2 * N
   hv = mod-lt (suc (f .copySeq)) (omega arith)
 
   -- the buffer number that Help[i] and Bank[i] hold
   helpBuffer : (i : ℕ) (hi : i < N) → getD hs i noHelp .content .buf ≡ record { 0 = h .helpBuf i }
   helpBuffer i hi = buffer _ _ (r .help i hi .buf)
+
+  -- a process that takes the buffer number of Help[i] into one of its own numbers
+  takes : (y : Point) (i : ℕ) → i < N → (put : BufferNumber → Process → Process) (l : Local) → put (record { 0 = h .helpBuf i }) (recordOf f) ≡ recordOf l
+      → Records.to y (put (getD hs i noHelp .content .buf) (recordOf f)) ≡ recordOf (GhostMachine.to y l)
+  takes y i hi put l e = ap (λ c. Records.to y (put c (recordOf f))) (helpBuffer i hi) ∙ ap (Records.to y) e ∙ to-record y l
 
   is-0 : (i : ℕ) (hi : i < N) → eqb (getD hs i noHelp .content .flag) 0 ≡ not (h .flag i)
   is-0 i hi = flag-0 _ (h .flag i) (r .help i hi .flag)
@@ -304,13 +356,15 @@ module _ (N W : ℕ) (x : XPlace) (ks : List BankPlace) (hs : List HelpPlace) (w
   pub follow : (y : Point) → f .point ≡ y → After y (GhostMachine.stepAt N (halves W) y t p z)
   unfolding GhostMachine.stepAt Machine.stepAt
   follow idle e = record { n = refl; w = refl; places = r; process = refl; kept = λ q ne. refl }
-  follow line1 e = write-help p hp true (f .mybuf) _ (GhostMachine.wAsked p (h .successes) (GhostMachine.wHelp p true (f .mybuf) h)) (GhostMachine.to line2 (GhostMachine.setLinkHelp p false f)) (to-record line2 f) refl refl refl refl refl
+  follow line1 e =
+      write-help p hp true (f .mybuf) _ (GhostMachine.wAsked p (h .successes) (GhostMachine.wHelp p true (f .mybuf) h)) (GhostMachine.to line2 (GhostMachine.setLinkHelp p false f))
+      (to-record line2 f) refl refl refl refl refl
   follow line2 e = ll-x line3
   follow line3 e = reads line3 line4 e (f .copyBuf) (g .copyBuf)
   follow line4 e =
       by-test (After line4) (h .flag p)
       (λ t′. rw (is-0 p hp ∙ ap not t′) (ll-help p hp _ (GhostMachine.to line8 (GhostMachine.setMoment (f .readAt) (f .readVersion) (GhostMachine.setLinkHelp p true f))) (to-record line8 f) refl refl))
-      (λ t′. rw (is-0 p hp ∙ ap not t′) (ll-help p hp _ (GhostMachine.to line5 (GhostMachine.setB (h .helpBuf p) (GhostMachine.setLinkHelp p true f))) (ap (λ c. Records.to line5 (Records.withB c (recordOf f))) (helpBuffer p hp) ∙ to-record line5 (GhostMachine.setB (h .helpBuf p) f)) refl refl))
+      (λ t′. rw (is-0 p hp ∙ ap not t′) (ll-help p hp _ (GhostMachine.to line5 (GhostMachine.setB (h .helpBuf p) (GhostMachine.setLinkHelp p true f))) (takes line5 p hp Records.withB (GhostMachine.setB (h .helpBuf p) f) refl) refl refl))
   follow line5 e = ll-x line6
   follow line6 e = reads line6 line7 e (f .copyBuf) (g .copyBuf)
   follow line7 e =
@@ -320,72 +374,89 @@ module _ (N W : ℕ) (x : XPlace) (ks : List BankPlace) (hs : List HelpPlace) (w
   follow line7copy e = reads line7copy line8 e (f .b) (g .b)
   follow line8 e =
       by-test (After line8) (h .flag p)
-      (λ t′. rw (is-1 p hp ∙ t′) (ll-help p hp _ (GhostMachine.to line9 (GhostMachine.setC (h .helpBuf p) (GhostMachine.setLinkHelp p true f))) (ap (λ c. Records.to line9 (Records.withC c (recordOf f))) (helpBuffer p hp) ∙ to-record line9 (GhostMachine.setC (h .helpBuf p) f)) refl refl))
+      (λ t′. rw (is-1 p hp ∙ t′) (ll-help p hp _ (GhostMachine.to line9 (GhostMachine.setC (h .helpBuf p) (GhostMachine.setLinkHelp p true f))) (takes line9 p hp Records.withC (GhostMachine.setC (h .helpBuf p) f) refl) refl refl))
       (λ t′. rw (is-1 p hp ∙ t′) (ll-help p hp _ (GhostMachine.to line10 (GhostMachine.setLinkHelp p true f)) (to-record line10 f) refl refl))
   follow line9 e =
       by-test (After line9) (f .linkHelp p)
       (λ t′. rw (r .help p hp .links .at p hp ∙ t′) (write-help p hp false (f .c) _ (GhostMachine.wHelp p false (f .c) h) (GhostMachine.to line10 (GhostMachine.setLinkHelp p false f)) (to-record line10 f) refl refl refl refl refl))
       (λ t′. rw (r .help p hp .links .at p hp ∙ t′) (stay-help p hp _ (GhostMachine.to line10 f) (to-record line10 f) refl refl))
-  follow line10 e = stay-help p hp _ (GhostMachine.to line11 (GhostMachine.setMybuf (h .helpBuf p) f)) (ap (λ c. Records.to line11 (Records.withMybuf c (recordOf f))) (helpBuffer p hp) ∙ to-record line11 (GhostMachine.setMybuf (h .helpBuf p) f)) refl refl
+  follow line10 e = stay-help p hp _ (GhostMachine.to line11 (GhostMachine.setMybuf (h .helpBuf p) f)) (takes line11 p hp Records.withMybuf (GhostMachine.setMybuf (h .helpBuf p) f) refl) refl refl
   follow line11 e =
+      let v : ℕ = f .returned (f .word) in let from = r .words .returned p (f .word) hp (g .word) in
+      let h′ : Shared = GhostMachine.wBuf (f .mybuf) (f .word) v h in
       by-test (After line11) (ltb (suc (f .word)) (halves W))
-      (λ t′. rw (k+1 ∙ t′) (write _ (f .returned (f .word)) (r .words .returned p (f .word) hp (g .word)) _ Accepted (GhostMachine.wBuf (f .mybuf) (f .word) (f .returned (f .word)) h) (GhostMachine.setWord (suc (f .word)) (GhostMachine.to line11 f)) (next-word line11 f e) refl refl refl refl refl))
-      (λ t′. rw (k+1 ∙ t′) (write _ (f .returned (f .word)) (r .words .returned p (f .word) hp (g .word)) _ (LlAnswered (f .count + 1)) (GhostMachine.wEnd p (f .linkX) (f .moment) (GhostMachine.wBuf (f .mybuf) (f .word) (f .returned (f .word)) h)) (GhostMachine.rest true (GhostMachine.setWord 0 f)) refl refl refl refl refl refl))
+      (λ t′. rw (k+1 ∙ t′) (write _ v from _ Accepted h′ (GhostMachine.setWord (suc (f .word)) (GhostMachine.to line11 f)) (next-word line11 f e) refl refl refl refl refl))
+      (λ t′. rw (k+1 ∙ t′) (write _ v from _ (LlAnswered (f .count + 1)) (GhostMachine.wEnd p (f .linkX) (f .moment) h′) (GhostMachine.rest true (GhostMachine.setWord 0 f)) refl refl refl refl refl refl))
   follow line12 e =
+      let same = ap (λ a. eqb a (f .copyBuf)) (r .bank (f .copySeq) (g .copySeq) .buf) in
       by-test (After line12) (eqb (h .bank (f .copySeq)) (f .copyBuf))
-      (λ t′. rw (ap (λ a. eqb a (f .copyBuf)) (r .bank (f .copySeq) (g .copySeq) .buf) ∙ t′) (ll-bank (f .copySeq) (g .copySeq) _ (GhostMachine.to line14 (GhostMachine.setLinkBank (f .copySeq) true f)) (to-record line14 f) refl refl))
-      (λ t′. rw (ap (λ a. eqb a (f .copyBuf)) (r .bank (f .copySeq) (g .copySeq) .buf) ∙ t′) (ll-bank (f .copySeq) (g .copySeq) _ (GhostMachine.to line12valid (GhostMachine.setLinkBank (f .copySeq) true f)) (to-record line12valid f) refl refl))
+      (λ t′. rw (same ∙ t′) (ll-bank (f .copySeq) (g .copySeq) _ (GhostMachine.to line14 (GhostMachine.setLinkBank (f .copySeq) true f)) (to-record line14 f) refl refl))
+      (λ t′. rw (same ∙ t′) (ll-bank (f .copySeq) (g .copySeq) _ (GhostMachine.to line12valid (GhostMachine.setLinkBank (f .copySeq) true f)) (to-record line12valid f) refl refl))
   follow line12valid e =
       by-test (After line12valid) (f .linkX)
       (λ t′. rw (x-linked ∙ t′) (stay-x _ Accepted h (GhostMachine.to line13 f) (to-record line13 f) refl refl refl refl refl))
       (λ t′. rw (x-linked ∙ t′) (stay-x _ Accepted h (GhostMachine.to line14 f) (to-record line14 f) refl refl refl refl refl))
   follow line13 e =
+      let linked = r .bank (f .copySeq) (g .copySeq) .links .at p hp in
       by-test (After line13) (f .linkBank (f .copySeq))
-      (λ t′. rw (r .bank (f .copySeq) (g .copySeq) .links .at p hp ∙ t′) (write-bank (f .copySeq) (g .copySeq) (f .copyBuf) _ (GhostMachine.to line14 (GhostMachine.setLinkBank (f .copySeq) false f)) (to-record line14 f) refl refl))
-      (λ t′. rw (r .bank (f .copySeq) (g .copySeq) .links .at p hp ∙ t′) (stay-bank (f .copySeq) (g .copySeq) _ (GhostMachine.to line14 f) (to-record line14 f) refl refl))
+      (λ t′. rw (linked ∙ t′) (write-bank (f .copySeq) (g .copySeq) (f .copyBuf) _ (GhostMachine.to line14 (GhostMachine.setLinkBank (f .copySeq) false f)) (to-record line14 f) refl refl))
+      (λ t′. rw (linked ∙ t′) (stay-bank (f .copySeq) (g .copySeq) _ (GhostMachine.to line14 f) (to-record line14 f) refl refl))
   follow line14 e =
-      by-test (After line14) (h .flag (f .copySeq % N))
-      (λ t′. rw (is-1 (f .copySeq % N) hu ∙ t′) (ll-help (f .copySeq % N) hu _ (GhostMachine.to line14valid (GhostMachine.setD (h .helpBuf (f .copySeq % N)) (GhostMachine.setLinkHelp (f .copySeq % N) true f))) (ap (λ c. Records.to line14valid (Records.withD c (recordOf f))) (helpBuffer (f .copySeq % N) hu) ∙ to-record line14valid (GhostMachine.setD (h .helpBuf (f .copySeq % N)) f)) refl refl))
-      (λ t′. rw (is-1 (f .copySeq % N) hu ∙ t′) (ll-help (f .copySeq % N) hu _ (GhostMachine.to line17 (GhostMachine.setLinkHelp (f .copySeq % N) true f)) (to-record line17 f) refl refl))
+      by-test (After line14) (h .flag asker)
+      (λ t′. rw (is-1 asker hu ∙ t′) (ll-help asker hu _ (GhostMachine.to line14valid (GhostMachine.setD (h .helpBuf asker) (GhostMachine.setLinkHelp asker true f))) (takes line14valid asker hu Records.withD (GhostMachine.setD (h .helpBuf asker) f) refl) refl refl))
+      (λ t′. rw (is-1 asker hu ∙ t′) (ll-help asker hu _ (GhostMachine.to line17 (GhostMachine.setLinkHelp asker true f)) (to-record line17 f) refl refl))
   follow line14valid e =
       by-test (After line14valid) (f .linkX)
       (λ t′. rw (x-linked ∙ t′) (stay-x _ Accepted h (GhostMachine.to line15 (GhostMachine.setCheckedAt t f)) (to-record line15 f) refl refl refl refl refl))
       (λ t′. rw (x-linked ∙ t′) (stay-x _ Accepted h (GhostMachine.to line17 f) (to-record line17 f) refl refl refl refl refl))
   follow line15 e =
-      by-test (After line15) (f .linkHelp (f .copySeq % N))
-      (λ t′. rw (r .help (f .copySeq % N) hu .links .at p hp ∙ t′) (write-help (f .copySeq % N) hu false (f .mybuf) _
-      (GhostMachine.wGive (2 * N + p) (2 * N + f .copySeq % N) (f .copySeq % N) (f .checkedAt) (f .readVersion) (GhostMachine.wHelp (f .copySeq % N) false (f .mybuf) h)) (GhostMachine.to line17 (GhostMachine.setMybuf (f .d) (GhostMachine.setLinkHelp (f .copySeq % N) false f))) (to-record line17 (GhostMachine.setMybuf (f .d) f)) refl refl refl refl refl))
-      (λ t′. rw (r .help (f .copySeq % N) hu .links .at p hp ∙ t′) (stay-help (f .copySeq % N) hu _ (GhostMachine.to line17 f) (to-record line17 f) refl refl))
+      by-test (After line15) (f .linkHelp asker)
+      (λ t′. rw (r .help asker hu .links .at p hp ∙ t′) (write-help asker hu false (f .mybuf) _
+      (GhostMachine.wGive (2 * N + p) (2 * N + asker) asker (f .checkedAt) (f .readVersion) (GhostMachine.wHelp asker false (f .mybuf) h))
+      (GhostMachine.to line17 (GhostMachine.setMybuf (f .d) (GhostMachine.setLinkHelp asker false f))) (to-record line17 (GhostMachine.setMybuf (f .d) f)) refl refl refl refl refl))
+      (λ t′. rw (r .help asker hu .links .at p hp ∙ t′) (stay-help asker hu _ (GhostMachine.to line17 f) (to-record line17 f) refl refl))
   follow line17 e =
-      by-test (λ l. After line17 (noisy z p (GhostMachine.wBuf (f .mybuf) (f .word) (f .offered (f .word)) h) (λ m. m) l)) (ltb (suc (f .word)) (halves W))
-      (λ t′. rw (k+1 ∙ t′) (write _ (f .offered (f .word)) (r .words .offered p (f .word) hp (g .word)) _ Accepted (GhostMachine.wBuf (f .mybuf) (f .word) (f .offered (f .word)) h) (GhostMachine.setWord (suc (f .word)) (GhostMachine.to line17 f)) (next-word line17 f e) refl refl refl refl refl))
-      (λ t′. rw (k+1 ∙ t′) (write _ (f .offered (f .word)) (r .words .offered p (f .word) hp (g .word)) _ Accepted (GhostMachine.wBuf (f .mybuf) (f .word) (f .offered (f .word)) h) (GhostMachine.setWord 0 (GhostMachine.to line18 f)) (to-record line18 (GhostMachine.setWord 0 f)) refl refl refl refl refl))
+      let v : ℕ = f .offered (f .word) in let from = r .words .offered p (f .word) hp (g .word) in
+      let h′ : Shared = GhostMachine.wBuf (f .mybuf) (f .word) v h in
+      by-test (λ l. After line17 (noisy z p h′ (λ m. m) l)) (ltb (suc (f .word)) (halves W))
+      (λ t′. rw (k+1 ∙ t′) (write _ v from _ Accepted h′ (GhostMachine.setWord (suc (f .word)) (GhostMachine.to line17 f)) (next-word line17 f e) refl refl refl refl refl))
+      (λ t′. rw (k+1 ∙ t′) (write _ v from _ Accepted h′ (GhostMachine.setWord 0 (GhostMachine.to line18 f)) (to-record line18 (GhostMachine.setWord 0 f)) refl refl refl refl refl))
   follow line18 e =
-      let i : ℕ = suc (f .copySeq) % (2 * N) in
-      rw (add-one (f .copySeq)) (stay-bank i hv _ (GhostMachine.to line19 (GhostMachine.setE (h .bank i) f)) (ap (λ c. Records.to line19 (Records.withE c (recordOf f))) (buffer _ _ (r .bank i hv .buf)) ∙ to-record line19 (GhostMachine.setE (h .bank i) f)) refl refl)
+      let l : Local = GhostMachine.setE (h .bank nextSeq) f in
+      rw (add-one (f .copySeq)) (stay-bank nextSeq hv _ (GhostMachine.to line19 l)
+      (ap (λ c. Records.to line19 (Records.withE c (recordOf f))) (buffer _ _ (r .bank nextSeq hv .buf)) ∙ to-record line19 l) refl refl)
   follow line19 e =
       by-test (After line19) (f .linkX)
       (λ t′. rw (add-one (f .copySeq), x-linked ∙ t′) (write-x _ _ (ScAnswered true (f .count + 1))
-      (GhostMachine.wEnd p false t (GhostMachine.wX (f .mybuf) (suc (f .copySeq) % (2 * N)) (f .offered) t (suc (f .copySeq) % (2 * N)) (2 * N + p) h)) (GhostMachine.rest (f .answered) (GhostMachine.setMybuf (f .e) (GhostMachine.setLinkX false f))) refl refl refl refl refl refl))
+      (GhostMachine.wEnd p false t (GhostMachine.wX (f .mybuf) nextSeq (f .offered) t nextSeq (2 * N + p) h))
+      (GhostMachine.rest (f .answered) (GhostMachine.setMybuf (f .e) (GhostMachine.setLinkX false f))) refl refl refl refl refl refl))
       (λ t′. rw (add-one (f .copySeq), x-linked ∙ t′) (stay-x _ (ScAnswered false (f .count + 1)) (GhostMachine.wEnd p (f .linkX) t h) (GhostMachine.rest (f .answered) f) refl refl refl refl refl refl))
   follow line23 e = stay-x _ (VlAnswered (linked (x .links) me) (f .count + 1)) (GhostMachine.wEnd p (f .linkX) t h) (GhostMachine.rest (f .answered) f) refl refl refl refl refl refl
 
   -- a start: p's record, and for SC its offer area; n is the number of the command
   -- (its word place is 0, as the ghost machine sets it)
   begins : (y : Point) (w : ℕ → ℕ) → f .word ≡ 0 → Records.begin y (recordOf f) ≡ recordOf (GhostMachine.begin y w f)
-  begins y w e = ap (λ k. record { mybuf = record { 0 = f .mybuf }; x = record { buf = record { 0 = f .copyBuf }; seq = record { 0 = f .copySeq } }; line = lineNumber y; word = k; count = 0; answered = f .answered; b = record { 0 = f .b }; c = record { 0 = f .c }; d = record { 0 = f .d }; e = record { 0 = f .e } }) e
+  begins y w e = ap (λ k. recordOf (GhostMachine.setWord k (GhostMachine.begin y w f))) e
 
-  start : (y : Point) (n : ℕ) → f .word ≡ 0 → Made N W p z (record { bench = bench x ks hs; process = Records.begin y (recordOf f); reply = Accepted }, ws) (noisy z p (GhostMachine.wStart p n h) (λ m. m) (GhostMachine.begin y (f .offered) f))
+  abbrev Started : ℕ → Moved × List ℕ → Local → Type 0
+  Started n o l = Made N W p z o (noisy z p (GhostMachine.wStart p n h) (λ m. m) l)
+
+  start : (y : Point) (n : ℕ) → f .word ≡ 0
+      → Started n (record { bench = bench x ks hs; process = Records.begin y (recordOf f); reply = Accepted }, ws) (GhostMachine.begin y (f .offered) f)
   start y n zero =
       let l : Local = GhostMachine.begin y (f .offered) f in
-      on-words ws _ Accepted (GhostMachine.wStart p n h) l (words-same N W ws _ _ _ (r .words) _ _ _ refl (keeps z p (λ m. m) l (λ m. m .returned) refl (λ _. refl)) (keeps z p (λ m. m) l (λ m. m .offered) refl (λ _. refl))) (begins y (f .offered) zero) refl refl
+      let words = words-same N W ws _ _ _ (r .words) _ _ _ refl (keeps z p (λ m. m) l (λ m. m .returned) refl (λ _. refl)) (keeps z p (λ m. m) l (λ m. m .offered) refl (λ _. refl)) in
+      on-words ws _ Accepted (GhostMachine.wStart p n h) l words (begins y (f .offered) zero) refl refl
 
-  pub follow-start : (o : Order) (v : List ℕ) (n : ℕ) → f .word ≡ 0 → isStart o ≡ true → (bringsValue o ≡ true → length v ≡ W) → Made N W p z (Machine.obey o me v (bench x ks hs) (recordOf f) ws) (noisy z p (GhostMachine.wStart p n h) (λ m. m) (begun o v f))
+  pub follow-start : (o : Order) (v : List ℕ) (n : ℕ) → f .word ≡ 0 → isStart o ≡ true → (bringsValue o ≡ true → length v ≡ W)
+      → Started n (Machine.obey o me v (bench x ks hs) (recordOf f) ws) (begun o v f)
   unfolding Machine.obey
   follow-start StartLl v n zero s e = start line1 n zero
   follow-start StartVl v n zero s e = start line23 n zero
   follow-start StartSc v n zero s e =
       let l : Local = GhostMachine.begin line12 (cells v) f in
       on-words _ _ Accepted (GhostMachine.wStart p n h) l
-      (words-offer N W ws _ _ _ (r .words) _ _ p v hp (e refl) (keeps z p (λ m. m) l (λ m. m .returned) refl (λ _. refl)) (ap (λ m. m .offered) (upd-same (z .loc) p l)) (λ q ne. ap (λ m. m .offered) (upd-other (z .loc) p q l ne))) (begins line12 (cells v) zero) refl refl
+      (words-offer N W ws _ _ _ (r .words) _ _ p v hp (e refl) (keeps z p (λ m. m) l (λ m. m .returned) refl (λ _. refl))
+      (ap (λ m. m .offered) (upd-same (z .loc) p l)) (λ q ne. ap (λ m. m .offered) (upd-other (z .loc) p q l ne)))
+      (begins line12 (cells v) zero) refl refl
   follow-start Step v n zero s e = absurd (contra s refl)

@@ -9,7 +9,9 @@ use Rattle.linearization.proofs.Updates.{upd, upd-same, upd-other, by-t
 use Rattle.linearization.proofs.GhostMachine
 use Rattle.linearization.proofs.GhostMachine.{Local, Shared, State, quiet, noisy}
 use Rattle.linearization.proofs.WordLists.{wordsOf}
-use Rattle.model.specs.Points.{Point, idle, line1, line2, line3, line4, line5, line6, line7, line7copy, line8, line9, line10, line11, line12, line12valid, line13, line14, line14valid, line15, line17, line18, line19, line23}
+use Rattle.model.specs.Points.{Point, idle, line1, line2, line3, line4, line5, line6, line7, line7copy, line8, line9}
+use Rattle.model.specs.Points.{line10, line11, line12, line12valid, line13, line14, line14valid, line15, line17, line18}
+use Rattle.model.specs.Points.{line19, line23}
 use Rattle.model.specs.Object.{Kind, ll, sc, vl}
 use Rattle.model.specs.History.{Slot, none, running, stepped}
 
@@ -75,15 +77,21 @@ pub record SlotStep (W p : ℕ) (slot : Slot) (s s′ : State) : Type 0 where
 
 module _ (N W p t : ℕ) (s : State) where
   -- g changes links only
-  on-write : (h : Shared) (g : Local → Local) (k : Local) (own : Slot) → h .start ≡ s .sh .start → ((l : Local) → g l .point ≡ l .point) → ((l : Local) → g l .count ≡ l .count) → ((l : Local) → g l .offered ≡ l .offered)
+  on-write : (h : Shared) (g : Local → Local) (k : Local) (own : Slot) → h .start ≡ s .sh .start → ((l : Local) → g l .point ≡ l .point)
+      → ((l : Local) → g l .count ≡ l .count) → ((l : Local) → g l .offered ≡ l .offered)
       → slotOf (k .point) (s .sh .start p) (k .count) (wordsOf W (k .offered)) ≡ own → SlotStep W p own s (noisy s p h g k)
   on-write h g k own e a b c o = record {
     others = λ q ne. rw (upd-other (λ q. g (s .loc q)) p q k ne, e, a (s .loc q), b (s .loc q), c (s .loc q));
     own = rw (upd-same (λ q. g (s .loc q)) p k, e) o;
   }
 
+  -- a write that leaves the others' records
+  on-shared : (h : Shared) (k : Local) (own : Slot) → h .start ≡ s .sh .start → slotOf (k .point) (s .sh .start p) (k .count) (wordsOf W (k .offered)) ≡ own
+      → SlotStep W p own s (noisy s p h (λ l. l) k)
+  on-shared h k own e o = on-write h (λ l. l) k own e (λ _. refl) (λ _. refl) (λ _. refl) o
+
   on-quiet : (k : Local) (own : Slot) → slotOf (k .point) (s .sh .start p) (k .count) (wordsOf W (k .offered)) ≡ own → SlotStep W p own s (quiet s p k)
-  on-quiet k own o = on-write (s .sh) (λ l. l) k own refl (λ _. refl) (λ _. refl) (λ _. refl) o
+  on-quiet k own o = on-shared (s .sh) k own refl o
 
   abbrev l : Local
   l = s .loc p
@@ -101,7 +109,8 @@ module _ (N W p t : ℕ) (s : State) where
   after y = slotAfterStep W y (l .word) (slotOf y (s .sh .start p) (l .count) (wordsOf W (l .offered)))
 
   -- a run of words, read
-  on-words : (y z : Point) (k : Local) (own : Slot) → slotOf y (s .sh .start p) (suc (k .count)) (wordsOf W (k .offered)) ≡ own → slotOf z (s .sh .start p) (suc (k .count)) (wordsOf W (k .offered)) ≡ own → SlotStep W p own s (quiet s p (GhostMachine.word W y z k))
+  on-words : (y z : Point) (k : Local) (own : Slot) → slotOf y (s .sh .start p) (suc (k .count)) (wordsOf W (k .offered)) ≡ own
+      → slotOf z (s .sh .start p) (suc (k .count)) (wordsOf W (k .offered)) ≡ own → SlotStep W p own s (quiet s p (GhostMachine.word W y z k))
   on-words y z k own a b = by-test (λ j. SlotStep W p own s (quiet s p j)) (ltb (suc (k .word)) W) (λ _. on-quiet _ own a) (λ _. on-quiet _ own b)
 
   slot-at : (y : Point) → l .point ≡ y → SlotStep W p (after y) s (GhostMachine.stepAt N W y t p s)
@@ -116,26 +125,38 @@ module _ (N W p t : ℕ) (s : State) where
   slot-at line7 e = by-test (SlotStep W p (after line7) s) (l .linkX) (λ _. on-quiet _ _ more-ll) (λ _. on-quiet _ _ more-ll)
   slot-at line7copy e = on-words line7copy line8 (GhostMachine.setReturned (l .word) (s .sh .buf (l .b) (l .word)) l) _ more-ll more-ll
   slot-at line8 e = by-test (SlotStep W p (after line8) s) (s .sh .flag p) (λ _. on-quiet _ _ more-ll) (λ _. on-quiet _ _ more-ll)
-  slot-at line9 e = by-test (SlotStep W p (after line9) s) (l .linkHelp p) (λ _. on-write _ (GhostMachine.setLinkHelp p false) _ _ refl (λ _. refl) (λ _. refl) (λ _. refl) more-ll) (λ _. on-quiet _ _ more-ll)
+  slot-at line9 e =
+      by-test (SlotStep W p (after line9) s) (l .linkHelp p)
+      (λ _. on-write _ (GhostMachine.setLinkHelp p false) _ _ refl (λ _. refl) (λ _. refl) (λ _. refl) more-ll)
+      (λ _. on-quiet _ _ more-ll)
   slot-at line10 e = on-quiet _ _ more-ll
-  slot-at line11 e = by-test₂ (λ (z : Slot) (u : State). SlotStep W p z s u) (ltb (suc (l .word)) W) (λ _. on-write _ (λ l. l) _ _ refl (λ _. refl) (λ _. refl) (λ _. refl) more-ll) (λ _. on-write _ (λ l. l) _ _ refl (λ _. refl) (λ _. refl) (λ _. refl) refl)
+  slot-at line11 e = by-test₂ (λ (z : Slot) (u : State). SlotStep W p z s u) (ltb (suc (l .word)) W) (λ _. on-shared _ _ _ refl more-ll) (λ _. on-shared _ _ _ refl refl)
   slot-at line12 e = by-test (SlotStep W p (after line12) s) (eqb (s .sh .bank (l .copySeq)) (l .copyBuf)) (λ _. on-quiet _ _ more-sc) (λ _. on-quiet _ _ more-sc)
   slot-at line12valid e = by-test (SlotStep W p (after line12valid) s) (l .linkX) (λ _. on-quiet _ _ more-sc) (λ _. on-quiet _ _ more-sc)
-  slot-at line13 e = by-test (SlotStep W p (after line13) s) (l .linkBank (l .copySeq)) (λ _. on-write _ (GhostMachine.setLinkBank (l .copySeq) false) _ _ refl (λ _. refl) (λ _. refl) (λ _. refl) more-sc) (λ _. on-quiet _ _ more-sc)
+  slot-at line13 e =
+      by-test (SlotStep W p (after line13) s) (l .linkBank (l .copySeq))
+      (λ _. on-write _ (GhostMachine.setLinkBank (l .copySeq) false) _ _ refl (λ _. refl) (λ _. refl) (λ _. refl) more-sc)
+      (λ _. on-quiet _ _ more-sc)
   slot-at line14 e = by-test (SlotStep W p (after line14) s) (s .sh .flag (l .copySeq % N)) (λ _. on-quiet _ _ more-sc) (λ _. on-quiet _ _ more-sc)
   slot-at line14valid e = by-test (SlotStep W p (after line14valid) s) (l .linkX) (λ _. on-quiet _ _ more-sc) (λ _. on-quiet _ _ more-sc)
-  slot-at line15 e = by-test (SlotStep W p (after line15) s) (l .linkHelp (l .copySeq % N)) (λ _. on-write _ (GhostMachine.setLinkHelp (l .copySeq % N) false) _ _ refl (λ _. refl) (λ _. refl) (λ _. refl) more-sc) (λ _. on-quiet _ _ more-sc)
-  slot-at line17 e = by-test (λ k. SlotStep W p (after line17) s (noisy s p (GhostMachine.wBuf (l .mybuf) (l .word) (l .offered (l .word)) (s .sh)) (λ l. l) k)) (ltb (suc (l .word)) W) (λ _. on-write _ (λ l. l) _ _ refl (λ _. refl) (λ _. refl) (λ _. refl) more-sc) (λ _. on-write _ (λ l. l) _ _ refl (λ _. refl) (λ _. refl) (λ _. refl) more-sc)
+  slot-at line15 e =
+      by-test (SlotStep W p (after line15) s) (l .linkHelp (l .copySeq % N))
+      (λ _. on-write _ (GhostMachine.setLinkHelp (l .copySeq % N) false) _ _ refl (λ _. refl) (λ _. refl) (λ _. refl) more-sc)
+      (λ _. on-quiet _ _ more-sc)
+  slot-at line17 e =
+      by-test (λ k. SlotStep W p (after line17) s (noisy s p (GhostMachine.wBuf (l .mybuf) (l .word) (l .offered (l .word)) (s .sh)) (λ l. l) k)) (ltb (suc (l .word)) W)
+      (λ _. on-shared _ _ _ refl more-sc) (λ _. on-shared _ _ _ refl more-sc)
   slot-at line18 e = on-quiet _ _ more-sc
-  slot-at line19 e = by-test (SlotStep W p none s) (l .linkX) (λ _. on-write _ (GhostMachine.setLinkX false) _ _ refl (λ _. refl) (λ _. refl) (λ _. refl) refl) (λ _. on-write _ (λ l. l) _ _ refl (λ _. refl) (λ _. refl) (λ _. refl) refl)
-  slot-at line23 e = on-write _ (λ l. l) _ _ refl (λ _. refl) (λ _. refl) (λ _. refl) refl
+  slot-at line19 e = by-test (SlotStep W p none s) (l .linkX) (λ _. on-write _ (GhostMachine.setLinkX false) _ _ refl (λ _. refl) (λ _. refl) (λ _. refl) refl) (λ _. on-shared _ _ _ refl refl)
+  slot-at line23 e = on-shared _ _ _ refl refl
 
   pub slot-step : SlotStep W p (slotAfterStep W (l .point) (l .word) (slotIn W s p)) s (GhostMachine.step N W t p s)
   unfolding GhostMachine.step
   slot-step = slot-at (l .point) refl
 
 -- a start opens p's call, at command n and with no step, and leaves the others'
-pub slot-start : (W p n : ℕ) (y : Point) (w : ℕ → ℕ) (s : State) → SlotStep W p (slotOf y n 0 (wordsOf W w)) s (noisy s p (GhostMachine.wStart p n (s .sh)) (λ l. l) (GhostMachine.begin y w (s .loc p)))
+pub slot-start : (W p n : ℕ) (y : Point) (w : ℕ → ℕ) (s : State)
+    → SlotStep W p (slotOf y n 0 (wordsOf W w)) s (noisy s p (GhostMachine.wStart p n (s .sh)) (λ l. l) (GhostMachine.begin y w (s .loc p)))
 slot-start W p n y w s = record {
   others = λ q ne. rw (upd-other (λ q. s .loc q) p q (GhostMachine.begin y w (s .loc p)) ne, upd-other (s .sh .start) p q n ne);
   own = rw (upd-same (λ q. s .loc q) p (GhostMachine.begin y w (s .loc p)), upd-same (s .sh .start) p n);

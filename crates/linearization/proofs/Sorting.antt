@@ -60,7 +60,8 @@ pub insert-between : (t : Timed) (us : List Timed) → insert t us ≡ upto (t .
 insert-between t [] = refl
 insert-between t (u ∷ us) = go (leb (u .moment) (t .moment)) (insert-between t us)
   where
-    go : (b : Bool) → insert t us ≡ upto (t .moment) us ++ t ∷ past (t .moment) us → cond b (u ∷ insert t us) (t ∷ u ∷ us) ≡ cond b (u ∷ upto (t .moment) us) [] ++ t ∷ cond b (past (t .moment) us) (u ∷ us)
+    go : (b : Bool) → insert t us ≡ upto (t .moment) us ++ t ∷ past (t .moment) us
+        → cond b (u ∷ insert t us) (t ∷ u ∷ us) ≡ cond b (u ∷ upto (t .moment) us) [] ++ t ∷ cond b (past (t .moment) us) (u ∷ us)
     go true e = ap (u ∷_) e
     go false e = refl
 

@@ -6,7 +6,9 @@ use Prim.Native.Nat.{ℕ, suc, _+_, _*_, _%_}
 use native.Mathlib.Nat.{zero-add}
 use native.Mathlib.Omega.{arith}
 use lib.Dec.{ltb, eqb}
-use Rattle.model.specs.Points.{Point, idle, line1, line2, line3, line4, line5, line6, line7, line7copy, line8, line9, line10, line11, line12, line12valid, line13, line14, line14valid, line15, line17, line18, line19, line23}
+use Rattle.model.specs.Points.{Point, idle, line1, line2, line3, line4, line5, line6, line7, line7copy, line8, line9}
+use Rattle.model.specs.Points.{line10, line11, line12, line12valid, line13, line14, line14valid, line15, line17, line18}
+use Rattle.model.specs.Points.{line19, line23}
 use Rattle.model.specs.Replies.{scTruth}
 use Rattle.model.specs.Object.{sc}
 use Rattle.model.specs.History.{Call}
@@ -46,18 +48,30 @@ module _ (N W n p : ℕ) (s : State) where
   abbrev l : Local
   l = s .loc p
 
-  -- an SC's last step
-  success : (b : Bool) → l .linkX ≡ b → Wrote W s (scCall N W n p s ∷ []) (cond b
-      (GhostMachine.noisy s p (GhostMachine.wEnd p false n (GhostMachine.wX (l .mybuf) (suc (l .copySeq) % (2 * N)) (l .offered) n (suc (l .copySeq) % (2 * N)) (2 * N + p) (s .sh))) (GhostMachine.setLinkX false) (GhostMachine.rest (l .answered) (GhostMachine.setMybuf (l .e) (GhostMachine.setLinkX false l))))
-      (GhostMachine.noisy s p (GhostMachine.wEnd p (l .linkX) n (s .sh)) (λ l. l) (GhostMachine.rest (l .answered) l)))
+  -- an SC's last step: what it leaves where it succeeds, and where it fails
+  abbrev nextSeq : ℕ
+  nextSeq = suc (l .copySeq) % (2 * N)
+
+  abbrev done : State
+  done = GhostMachine.noisy s p (GhostMachine.wEnd p false n (GhostMachine.wX (l .mybuf) nextSeq (l .offered) n nextSeq (2 * N + p) (s .sh))) (GhostMachine.setLinkX false)
+      (GhostMachine.rest (l .answered) (GhostMachine.setMybuf (l .e) (GhostMachine.setLinkX false l)))
+
+  abbrev failed : State
+  failed = GhostMachine.noisy s p (GhostMachine.wEnd p (l .linkX) n (s .sh)) (λ l. l) (GhostMachine.rest (l .answered) l)
+
+  -- the number of successes and the words after it, by its truth
+  abbrev numberBy : Bool → ℕ
+  numberBy t = succeeds (scTruth t) + 0 + s .sh .successes
+
+  abbrev wordsBy : Bool → List ℕ
+  wordsBy t = written (sc (wordsOf W (l .offered))) (scTruth t) (wordsOf W (s .sh .values (s .sh .successes)))
+
+  success : (b : Bool) → l .linkX ≡ b → Wrote W s (scCall N W n p s ∷ []) (cond b done failed)
   success true e = record {
-    number = ap (λ t. succeeds (scTruth t) + 0 + s .sh .successes) e ∙ (let z : 1 + 0 + s .sh .successes ≡ suc (s .sh .successes) = omega arith in z);
-    words = ap (λ t. written (sc (wordsOf W (l .offered))) (scTruth t) (wordsOf W (s .sh .values (s .sh .successes)))) e ∙ ap (wordsOf W) (sym (upd-same (s .sh .values) (suc (s .sh .successes)) (l .offered)));
+    number = ap numberBy e ∙ (let z : 1 + 0 + s .sh .successes ≡ suc (s .sh .successes) = omega arith in z);
+    words = ap wordsBy e ∙ ap (wordsOf W) (sym (upd-same (s .sh .values) (suc (s .sh .successes)) (l .offered)));
   }
-  success false e = record {
-    number = ap (λ t. succeeds (scTruth t) + 0 + s .sh .successes) e ∙ (let z : 0 + 0 + s .sh .successes ≡ s .sh .successes = omega arith in z);
-    words = ap (λ t. written (sc (wordsOf W (l .offered))) (scTruth t) (wordsOf W (s .sh .values (s .sh .successes)))) e;
-  }
+  success false e = record { number = ap numberBy e ∙ (let z : 0 + 0 + s .sh .successes ≡ s .sh .successes = omega arith in z); words = ap wordsBy e }
 
   at-point : (y : Point) → Wrote W s (callAt N W y n p s) (GhostMachine.stepAt N W y n p s)
   unfolding GhostMachine.stepAt
@@ -73,7 +87,10 @@ module _ (N W n p : ℕ) (s : State) where
   at-point line8 = by-test (Wrote W s []) (s .sh .flag p) (λ _. quiet-call W s _ refl refl) (λ _. quiet-call W s _ refl refl)
   at-point line9 = by-test (Wrote W s []) (l .linkHelp p) (λ _. quiet-call W s _ refl refl) (λ _. quiet-call W s _ refl refl)
   at-point line10 = quiet-call W s _ refl refl
-  at-point line11 = by-test₂ (λ (ts : List Timed) (u : State). Wrote W s ts u) (ltb (suc (l .word)) W) (λ _. quiet-call W s _ refl refl) (λ _. record { number = zero-add (s .sh .successes); words = refl })
+  at-point line11 =
+      by-test₂ (λ (ts : List Timed) (u : State). Wrote W s ts u) (ltb (suc (l .word)) W)
+      (λ _. quiet-call W s _ refl refl)
+      (λ _. record { number = zero-add (s .sh .successes); words = refl })
   at-point line12 = by-test (Wrote W s []) (eqb (s .sh .bank (l .copySeq)) (l .copyBuf)) (λ _. quiet-call W s _ refl refl) (λ _. quiet-call W s _ refl refl)
   at-point line12valid = by-test (Wrote W s []) (l .linkX) (λ _. quiet-call W s _ refl refl) (λ _. quiet-call W s _ refl refl)
   at-point line13 = by-test (Wrote W s []) (l .linkBank (l .copySeq)) (λ _. quiet-call W s _ refl refl) (λ _. quiet-call W s _ refl refl)
@@ -102,9 +119,12 @@ module _ (N W : ℕ) where
   -- one after the other
   then : (s t u : State) (now rest : List Timed) → Wrote W s now t → Wrote W t rest u → Wrote W s (now ++ rest) u
   then s t u now rest a b = record {
-    number = ap (λ cs. successes cs + s .sh .successes) (map-append (λ (t : Timed). t .call) now rest) ∙ ap (λ k. k + s .sh .successes) (successes-append (callsOf now) (callsOf rest)) ∙ (let x = a .number in let y = b .number in omega arith);
-    words = ap (lastWritten (wordsOf W (s .sh .values (s .sh .successes)))) (map-append (λ (t : Timed). t .call) now rest) ∙ lastWritten-append _ (callsOf now) (callsOf rest) ∙ ap (λ v. lastWritten v (callsOf rest)) (a .words) ∙ b .words;
+    number = ap (λ cs. successes cs + s .sh .successes) both ∙ ap (λ k. k + s .sh .successes) (successes-append (callsOf now) (callsOf rest)) ∙ (let x = a .number in let y = b .number in omega arith);
+    words = ap (lastWritten _) both ∙ lastWritten-append _ (callsOf now) (callsOf rest) ∙ ap (λ v. lastWritten v (callsOf rest)) (a .words) ∙ b .words;
   }
+    where
+      both : callsOf (now ++ rest) ≡ callsOf now ++ callsOf rest
+      both = map-append (λ (t : Timed). t .call) now rest
 
   -- over every list of commands
   pub all-wrote : (n : ℕ) (cs : List Cmd) (s : State) → Wrote W s (callsF N W n cs s) (execs N W n cs s)

@@ -7,7 +7,9 @@ use Rattle.linearization.proofs.Updates.{upd, upd-same, upd-other, Spli
 use Rattle.linearization.proofs.GhostMachine.{Local, Shared, State, quiet, noisy, step, stepAt, setLinkHelp, setLinkBank, setLinkX, wBuf, wStart, begin}
 use Rattle.linearization.proofs.GhostRuns.{Cmd, exec, setup}
 use Rattle.linearization.proofs.InvariantRuns.{First, ll, vl, sc, by-command}
-use Rattle.model.specs.Points.{Point, idle, line1, line2, line3, line4, line5, line6, line7, line7copy, line8, line9, line10, line11, line12, line12valid, line13, line14, line14valid, line15, line17, line18, line19, line23}
+use Rattle.model.specs.Points.{Point, idle, line1, line2, line3, line4, line5, line6, line7, line7copy, line8, line9}
+use Rattle.model.specs.Points.{line10, line11, line12, line12valid, line13, line14, line14valid, line15, line17, line18}
+use Rattle.model.specs.Points.{line19, line23}
 
 abbrev pub AtFirst : Point → ℕ → Type 0
 AtFirst idle k = k ≡ 0
@@ -45,7 +47,8 @@ module _ (N W : ℕ) where
     abbrev l : Local
     l = s .loc p
 
-    pub place-noisy : (h′ : Shared) (g : Local → Local) (k : Local) → ((m : Local) → g m .point ≡ m .point) → ((m : Local) → g m .word ≡ m .word) → AtFirst (k .point) (k .word) → PInv (noisy s p h′ g k)
+    pub place-noisy : (h′ : Shared) (g : Local → Local) (k : Local) → ((m : Local) → g m .point ≡ m .point) → ((m : Local) → g m .word ≡ m .word)
+        → AtFirst (k .point) (k .word) → PInv (noisy s p h′ g k)
     place-noisy h′ g k a b me = record { each = λ q hq. go q hq (split q p) }
       where
         go : (q : ℕ) → q < N → Split q p → AtFirst (upd (λ r. g (s .loc r)) p k q .point) (upd (λ r. g (s .loc r)) p k q .word)
@@ -76,7 +79,10 @@ module _ (N W : ℕ) where
     place-step line14 m = by-test PInv (s .sh .flag (l .copySeq % N)) (λ _. q! _ m) (λ _. q! _ tt)
     place-step line14valid m = by-test PInv (l .linkX) (λ _. q! _ m) (λ _. q! _ tt)
     place-step line15 m = by-test PInv (l .linkHelp (l .copySeq % N)) (λ _. place-noisy _ (setLinkHelp (l .copySeq % N) false) _ (λ _. refl) (λ _. refl) tt) (λ _. q! _ tt)
-    place-step line17 m = by-test (λ x. PInv (noisy s p (wBuf (l .mybuf) (l .word) (l .offered (l .word)) (s .sh)) (λ m. m) x)) (ltb (suc (l .word)) W) (λ _. place-noisy _ (λ m. m) _ (λ _. refl) (λ _. refl) tt) (λ _. place-noisy _ (λ m. m) _ (λ _. refl) (λ _. refl) refl)
+    place-step line17 m =
+        by-test (λ x. PInv (noisy s p (wBuf (l .mybuf) (l .word) (l .offered (l .word)) (s .sh)) (λ m. m) x)) (ltb (suc (l .word)) W)
+        (λ _. place-noisy _ (λ m. m) _ (λ _. refl) (λ _. refl) tt)
+        (λ _. place-noisy _ (λ m. m) _ (λ _. refl) (λ _. refl) refl)
     place-step line18 m = q! _ m
     place-step line19 m = by-test PInv (l .linkX) (λ _. place-noisy _ (setLinkX false) _ (λ _. refl) (λ _. refl) m) (λ _. place-noisy _ (λ m. m) _ (λ _. refl) (λ _. refl) m)
     place-step line23 m = place-noisy _ (λ m. m) _ (λ _. refl) (λ _. refl) m

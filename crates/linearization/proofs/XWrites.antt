@@ -8,9 +8,16 @@ use Rattle.linearization.proofs.Residues.{hit, mod-ne, suc-mod-ne, mod-
 use native.Mathlib.Omega.{arith}
 use lib.Dec.{ltb, eqb, lit≤}
 use Rattle.linearization.proofs.Updates.{upd, upd-same, upd-other, Split, same, other, split, by-test, contra, is-false, is-true, swap, swap-l, swap-r, swap-o, swap-inj, ifb-eq, ifb-ne}
-use Rattle.linearization.proofs.GhostMachine.{Local, Shared, State, quiet, noisy, to, setWord, word, llX, setReturned, setLinkHelp, setMoment, setB, setC, setMybuf, setE, setLinkBank, setD, setCheckedAt, rest, wBank, wBuf, wX, wEnd, wStart, begin, setLinkX}
-use Rattle.model.specs.Points.{Point, idle, line1, line2, line3, line4, line5, line6, line7, line7copy, line8, line9, line10, line11, line12, line12valid, line13, line14, line14valid, line15, line17, line18, line19, line23}
-use Rattle.linearization.proofs.Invariants.{laterG, On, on-map, on-no, on-get, on-with, lines, wide, above, apart, ProcessClauses, SharedClauses, Invariant, Withdrawing, Asking, K2, K3, H6, H7, H8, H9, K4x, Both, SamePart, Within, Got, D6}
+use Rattle.linearization.proofs.GhostMachine.{Local, Shared, State, quiet, noisy, to, setWord, word, llX}
+use Rattle.linearization.proofs.GhostMachine.{setReturned, setLinkHelp, setMoment, setB, setC, setMybuf, setE}
+use Rattle.linearization.proofs.GhostMachine.{setLinkBank, setD, setCheckedAt, rest, wBank, wBuf, wX, wEnd}
+use Rattle.linearization.proofs.GhostMachine.{wStart, begin, setLinkX}
+use Rattle.model.specs.Points.{Point, idle, line1, line2, line3, line4, line5, line6, line7, line7copy, line8, line9}
+use Rattle.model.specs.Points.{line10, line11, line12, line12valid, line13, line14, line14valid, line15, line17, line18}
+use Rattle.model.specs.Points.{line19, line23}
+use Rattle.linearization.proofs.Invariants.{laterG, On, on-map, on-no, on-get, on-with, lines, wide, above}
+use Rattle.linearization.proofs.Invariants.{apart, ProcessClauses, SharedClauses, Invariant, Withdrawing, Asking}
+use Rattle.linearization.proofs.Invariants.{K2, K3, H6, H7, H8, H9, K4x, Both, SamePart, Within, Got, D6}
 use Rattle.linearization.proofs.QuietSteps.{pre-none, pre-all, pre-put}
 use Rattle.linearization.proofs.HelpWrites.{kept-link}
 
@@ -58,13 +65,15 @@ module _ (N W n : ℕ) (h : Shared) (p : ℕ) (l : Local) (hp : p < N) (lx : l .
       kp j hj (same e) = rw e (swap-l _ _ _ ∙ m .owns-mybuf ∙ sym (ifb-eq (suc (l .copySeq) % (2 * N)) _ (l .mybuf) (h .bank (suc (l .copySeq) % (2 * N))) refl))
       kp j hj (other ne) = swap-o _ _ _ _ ne (λ z. omega arith) ∙ g .kept j hj ∙ bk j (split j (h .xseq)) ∙ sym (ifb-ne j _ _ _ ne)
 
-      wn : (i : ℕ) → i ≤ suc (h .successes) → suc (h .successes) < i + 2 * N → Split i (suc (h .successes)) → upd (h .buffers) (suc (h .successes)) (l .mybuf) i ≡ swap (h .holders) (suc (l .copySeq) % (2 * N)) (2 * N + p) (i % (2 * N))
+      wn : (i : ℕ) → i ≤ suc (h .successes) → suc (h .successes) < i + 2 * N → Split i (suc (h .successes))
+          → upd (h .buffers) (suc (h .successes)) (l .mybuf) i ≡ swap (h .holders) (suc (l .copySeq) % (2 * N)) (2 * N + p) (i % (2 * N))
       wn i a b (same e) = rw e (upd-same _ _ _ ∙ sym (m .owns-mybuf) ∙ sym (swap-l _ _ _) ∙ ap (swap (h .holders) (suc (l .copySeq) % (2 * N)) (2 * N + p)) next)
       wn i a b (other ne) =
           upd-other (h .buffers) _ i _ ne ∙ g .recent-held i (omega arith) (omega arith)
           ∙ sym (swap-o (h .holders) _ _ _ (λ z. mod-ne (2 * N) i (suc (h .successes)) (omega arith) b (z ∙ next)) (λ z. let y = mod-lt i {m = 2 * N} (omega arith) in omega arith))
 
-      dd : (i : ℕ) → i ≤ suc (h .successes) → suc (h .successes) < i + 2 * N → Split i (suc (h .successes)) → SamePart (h .buf (upd (h .buffers) (suc (h .successes)) (l .mybuf) i)) (upd (h .values) (suc (h .successes)) (l .offered) i) W
+      dd : (i : ℕ) → i ≤ suc (h .successes) → suc (h .successes) < i + 2 * N → Split i (suc (h .successes))
+          → SamePart (h .buf (upd (h .buffers) (suc (h .successes)) (l .mybuf) i)) (upd (h .values) (suc (h .successes)) (l .offered) i) W
       dd i a b (same e) = rw e (rw (upd-same (h .buffers) (suc (h .successes)) (l .mybuf), upd-same (h .values) (suc (h .successes)) (l .offered)) (m .offered-whole))
       dd i a b (other ne) = rw (upd-other (h .buffers) (suc (h .successes)) i (l .mybuf) ne, upd-other (h .values) (suc (h .successes)) i (l .offered) ne) (g .recent-values i (omega arith) (omega arith))
 

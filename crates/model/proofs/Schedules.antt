@@ -41,10 +41,27 @@ shown (e ∷ es) = shownBy (e .command .process) (e .said) ++ shown es
 
 -- Memory lent for N to 2 and W to 2, full of dirt that a set-up must not read.
 abbrev dirtyBench : Bench
-dirtyBench = record { n = 77; w = 0; x = record { content = record { buf = record { 0 = 9 }; seq = record { 0 = 9 } }; links = 65535 }; bank = replicate 32 (record { content = record { 0 = 200 }; links = 65535 }); help = replicate 16 (record { content = record { flag = 3; buf = record { 0 = 201 } }; links = 65535 }) }
+dirtyBench = record {
+  n = 77;
+  w = 0;
+  x = record { content = record { buf = record { 0 = 9 }; seq = record { 0 = 9 } }; links = 65535 };
+  bank = replicate 32 (record { content = record { 0 = 200 }; links = 65535 });
+  help = replicate 16 (record { content = record { flag = 3; buf = record { 0 = 201 } }; links = 65535 });
+}
 
 abbrev dirtyProcess : Process
-dirtyProcess = record { mybuf = record { 0 = 99 }; x = record { buf = record { 0 = 98 }; seq = record { 0 = 97 } }; line = 16; word = 95; count = 94; answered = true; b = record { 0 = 93 }; c = record { 0 = 92 }; d = record { 0 = 91 }; e = record { 0 = 90 } }
+dirtyProcess = record {
+  mybuf = record { 0 = 99 };
+  x = record { buf = record { 0 = 98 }; seq = record { 0 = 97 } };
+  line = 16;
+  word = 95;
+  count = 94;
+  answered = true;
+  b = record { 0 = 93 };
+  c = record { 0 = 92 };
+  d = record { 0 = 91 };
+  e = record { 0 = 90 };
+}
 
 abbrev pub dirty : Memory
 dirty = record { bench = dirtyBench; records = replicate 3 dirtyProcess; words = replicate 21 1234 }

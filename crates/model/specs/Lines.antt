@@ -17,7 +17,9 @@ use Rattle.model.specs.declared.HelpStep.{HelpStep}
 use Rattle.model.specs.declared.WordStep.{WordStep}
 use Rattle.model.specs.Places.{linked, llX, scX, llBank, scBank, llHelp, scHelp, writeHelp}
 use Rattle.model.specs.Tables.{next}
-use Rattle.model.specs.Points.{Point, lineNumber, line2, line3, line4, line5, line6, line7, line7copy, line8, line9, line10, line11, line12valid, line13, line14, line14valid, line15, line17, line18, line19}
+use Rattle.model.specs.Points.{Point, lineNumber, line2, line3, line4, line5, line6, line7, line7copy, line8}
+use Rattle.model.specs.Points.{line9, line10, line11, line12valid, line13, line14, line14valid, line15, line17}
+use Rattle.model.specs.Points.{line18, line19}
 use Rattle.model.specs.Records.{toLine, to, rest, nextWord, firstWord, marked, withX, withMybuf, withB, withC, withD, withE}
 
 -- Line 1, on Help[p]: Help[p] = (1, mybuf).

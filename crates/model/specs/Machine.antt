@@ -23,9 +23,13 @@ use Rattle.model.specs.declared.Moved.{Moved}
 use Rattle.model.specs.Tables.{bankAt, helpAt, putX, putBank, putHelp, next, helped}
 use Rattle.model.specs.Sizes.{halves}
 use Rattle.model.specs.Words.{bufferWord, returnWord, offerWord, wordOf, copiedHalf}
-use Rattle.model.specs.Points.{Point, pointOf, idle, line1, line2, line3, line4, line5, line6, line7, line7copy, line8, line9, line10, line11, line12, line12valid, line13, line14, line14valid, line15, line17, line18, line19, line23}
+use Rattle.model.specs.Points.{Point, pointOf, idle, line1, line2, line3, line4, line5, line6, line7, line7copy}
+use Rattle.model.specs.Points.{line8, line9, line10, line11, line12, line12valid, line13, line14, line14valid}
+use Rattle.model.specs.Points.{line15, line17, line18, line19, line23}
 use Rattle.model.specs.Records.{begin}
-use Rattle.model.specs.Lines.{doLine1, doLine2, doLine4, doLine7, doLine8, doLine9, doLine10, doLine12, doLine12Valid, doLine13, doLine14, doLine14Valid, doLine15, doLine18, doLine19, doLine23, doWord, doLine11}
+use Rattle.model.specs.Lines.{doLine1, doLine2, doLine4, doLine7, doLine8, doLine9, doLine10, doLine12}
+use Rattle.model.specs.Lines.{doLine12Valid, doLine13, doLine14, doLine14Valid, doLine15, doLine18, doLine19}
+use Rattle.model.specs.Lines.{doLine23, doWord, doLine11}
 
 -- All lent memory: the bench record, the process records, the words.
 pub record Memory : Type 0 where

@@ -11,7 +11,18 @@ use Rattle.model.specs.Points.{Point, lineNumber, idle}
 
 -- what stands past the end of the records
 abbrev pub noProcess : Process
-noProcess = record { mybuf = record { 0 = 0 }; x = record { buf = record { 0 = 0 }; seq = record { 0 = 0 } }; line = 0; word = 0; count = 0; answered = false; b = record { 0 = 0 }; c = record { 0 = 0 }; d = record { 0 = 0 }; e = record { 0 = 0 } }
+noProcess = record {
+  mybuf = record { 0 = 0 };
+  x = record { buf = record { 0 = 0 }; seq = record { 0 = 0 } };
+  line = 0;
+  word = 0;
+  count = 0;
+  answered = false;
+  b = record { 0 = 0 };
+  c = record { 0 = 0 };
+  d = record { 0 = 0 };
+  e = record { 0 = 0 };
+}
 
 -- the record of process p
 abbrev pub recordAt : List Process → ProcessNumber → Process

@@ -36,7 +36,18 @@ helpAtSetUp = record { content = record { flag = 0; buf = record { 0 = 0 } }; li
 
 -- "all processes idle; every x is (0, 0), other private numbers 0"; m is mybuf
 abbrev pub processAtSetUp : ℕ → Process
-processAtSetUp m = record { mybuf = record { 0 = m }; x = record { buf = record { 0 = 0 }; seq = record { 0 = 0 } }; line = lineNumber idle; word = 0; count = 0; answered = false; b = record { 0 = 0 }; c = record { 0 = 0 }; d = record { 0 = 0 }; e = record { 0 = 0 } }
+processAtSetUp m = record {
+  mybuf = record { 0 = m };
+  x = record { buf = record { 0 = 0 }; seq = record { 0 = 0 } };
+  line = lineNumber idle;
+  word = 0;
+  count = 0;
+  answered = false;
+  b = record { 0 = 0 };
+  c = record { 0 = 0 };
+  d = record { 0 = 0 };
+  e = record { 0 = 0 };
+}
 
 -- a bench record before any set-up, for a program to lend
 abbrev pub emptyBench : Bench

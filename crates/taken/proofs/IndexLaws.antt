@@ -11,9 +11,9 @@ use Rattle.model.specs.declared.SequenceNumber.{SequenceNumber}
 use Rattle.model.specs.declared.ProcessNumber.{ProcessNumber}
 use Rattle.model.specs.declared.Process.{Process}
 use Rattle.model.specs.Tables.{next, helped}
-use Rattle.model.specs.Points.{Point, lineNumber, find, busyPoints, pointOf, idle, line1, line2, line3, line4, line5, line6, line7}
-use Rattle.model.specs.Points.{line7copy, line8, line9, line10, line11, line12, line12valid, line13, line14, line14valid, line15, line17}
-use Rattle.model.specs.Points.{line18, line19, line23}
+use Rattle.model.specs.Points.{Point, lineNumber, find, busyPoints, pointOf, idle, line1, line2, line3, line4, line5}
+use Rattle.model.specs.Points.{line6, line7, line7copy, line8, line9, line10, line11, line12, line12valid, line13}
+use Rattle.model.specs.Points.{line14, line14valid, line15, line17, line18, line19, line23}
 use Rattle.taken.specs.Ranges.{Ready}
 use Rattle.taken.specs.Taken.{bankIndex, helpIndex}
 
