@@ -9,7 +9,9 @@ use Rattle.notation.specs.declared.Entry.{Entry}
 use Rattle.notation.specs.declared.Entry.the-variants.{StartSc}
 use Rattle.notation.specs.Bytes.{space, lineFeed, kindOf, entryOf, isDigit}
 use Rattle.notation.specs.Grammar as G
-use Rattle.notation.specs.Grammar.{Byte, Number, Gaps, Item, Items, Lead, Schedule, FirstLine, Text, Said, countOk, times, itemBytes, itemsBytes, leadBytes, scheduleBytes, firstBytes, bytes, itemSays, itemsSay, leadSays, scheduleSays, says}
+use Rattle.notation.specs.Grammar.{Byte, Number, Gaps, Item, Items, Lead, Schedule, FirstLine, Text, Said}
+use Rattle.notation.specs.Grammar.{countOk, times, itemBytes, itemsBytes, leadBytes, scheduleBytes, firstBytes}
+use Rattle.notation.specs.Grammar.{bytes, itemSays, itemsSay, leadSays, scheduleSays, says}
 use Rattle.notation.specs.Scan.{Mode, between, num, offer, offerNum, done, to, leave, move, said, Frame, end, atEnd, go, scan}
 use Rattle.notation.specs.FirstLine.{Place, beforeN, inN, beforeW, inW, beforeInitial, inInitial, Next, goes, begins, step, right, whole, proceed, readFrom, past}
 use Rattle.notation.proofs.KindLaws.{offer-move}
@@ -18,7 +20,8 @@ use Rattle.notation.proofs.ItemLaws.{at-end-offer}
 use Rattle.notation.proofs.HeaderLaws.{Field, field-n, field-w, field-initial, starts, goes-on, stops-at}
 
 -- a byte of a known kind
-byte : {c : ℕ} {k : Kind} (m m′ : Mode) (es : List Entry) (l : List ℕ) (stack : List Frame) (os : List Entry) (d : ℕ) → Byte c k → move m k ≡ to m′ → said m k ≡ es → scan (c ∷ l) m stack os d ≡ scan l m′ stack (os ++ es) d
+byte : {c : ℕ} {k : Kind} (m m′ : Mode) (es : List Entry) (l : List ℕ) (stack : List Frame) (os : List Entry) (d : ℕ) → Byte c k → move m k ≡ to m′ → said m k ≡ es
+    → scan (c ∷ l) m stack os d ≡ scan l m′ stack (os ++ es) d
 unfolding scan go
 byte m m′ es l stack os d e p q = simp (e .is, p, q)
 
@@ -29,7 +32,8 @@ digits-read : {ds : List ℕ} {v : ℕ} (f : ℕ → Mode) (g : Gathers f) (m : 
     → Number ds v → (l : List ℕ) (stack : List Frame) (os : List Entry) (r : ℕ) → scan (ds ++ l) m stack os r ≡ scan l (f v) stack os r
 digits-read f g m p (G.digit {d = d} e) l stack os r = quiet m (f d) l stack os r e (p .moves d) (p .says d)
 digits-read f g m p (G.more {ds = ds} {v = v} {c = c} {d = d} n e fits) l stack os r =
-    ap (λ (x : List ℕ). scan x m stack os r) (append-assoc ds (c ∷ []) l) ∙ digits-read f g m p n (c ∷ l) stack os r ∙ quiet (f v) (f (v * 10 + d)) l stack os r e (g .moves v d ∙ more-fits f v d fits) (g .says v d)
+    ap (λ (x : List ℕ). scan x m stack os r) (append-assoc ds (c ∷ []) l) ∙ digits-read f g m p n (c ∷ l) stack os r
+    ∙ quiet (f v) (f (v * 10 + d)) l stack os r e (g .moves v d ∙ more-fits f v d fits) (g .says v d)
 
 number-read : {ds : List ℕ} {v : ℕ} (e : Bool) → Number ds v → (l : List ℕ) (stack : List Frame) (os : List Entry) (r : ℕ) → scan (ds ++ l) (between e) stack os r ≡ scan l (num v) stack os r
 number-read e n = digits-read num gathers-num (between e) (leads-num e) n
@@ -61,21 +65,26 @@ gaps-end G.none = tt
 gaps-end (G.gap e t) = ap isDigit (e .is)
 
 -- after items: gaps, and the end of the group or of the text
-shuts : {z : ℕ} (m : Mode) (f : Frame) (l : List ℕ) (stack : List Frame) (os : List Entry) (r : ℕ) → Byte z Close → move m Close ≡ leave → said m Close ≡ [] → scan (z ∷ l) m (f ∷ stack) os r ≡ scan l done stack (f .before ++ times (f .count) os) (f .room)
+shuts : {z : ℕ} (m : Mode) (f : Frame) (l : List ℕ) (stack : List Frame) (os : List Entry) (r : ℕ) → Byte z Close → move m Close ≡ leave → said m Close ≡ []
+    → scan (z ∷ l) m (f ∷ stack) os r ≡ scan l done stack (f .before ++ times (f .count) os) (f .room)
 unfolding scan go
 shuts m f l stack os r e p q = simp (e .is, p, q, append-nil)
 
-close-read : {g : List ℕ} {z : ℕ} → Gaps g → Byte z Close → (f : Frame) (l : List ℕ) (stack : List Frame) (os : List Entry) (r : ℕ) → scan (g ++ z ∷ l) done (f ∷ stack) os r ≡ scan l done stack (f .before ++ times (f .count) os) (f .room)
+close-read : {g : List ℕ} {z : ℕ} → Gaps g → Byte z Close → (f : Frame) (l : List ℕ) (stack : List Frame) (os : List Entry) (r : ℕ)
+    → scan (g ++ z ∷ l) done (f ∷ stack) os r ≡ scan l done stack (f .before ++ times (f .count) os) (f .room)
 unfolding move said
 close-read G.none e f l stack os r = shuts done f l stack os r e refl refl
-close-read {z = z} (G.gap {g = g} h t) e f l stack os r = quiet (done) (between true) (g ++ z ∷ l) (f ∷ stack) os r h refl refl ∙ gaps-read true t (z ∷ l) (f ∷ stack) os r ∙ shuts (between true) f l stack os r e refl refl
+close-read {z = z} (G.gap {g = g} h t) e f l stack os r =
+    quiet (done) (between true) (g ++ z ∷ l) (f ∷ stack) os r h refl refl ∙ gaps-read true t (z ∷ l) (f ∷ stack) os r
+    ∙ shuts (between true) f l stack os r e refl refl
 
 end-read : {g : List ℕ} → Gaps g → (os : List Entry) (r : ℕ) → scan g done [] os r ≡ end os
 unfolding scan atEnd move said
 end-read G.none os r = refl
 end-read (G.gap {g = g} h t) os r = quiet (done) (between true) g [] os r h refl refl ∙ ap (λ (x : List ℕ). scan x (between true) [] os r) (sym (append-nil g)) ∙ gaps-read true t [] [] os r
 
-opens : {a : ℕ} (n : ℕ) (l : List ℕ) (stack : List Frame) (os : List Entry) (d : ℕ) → Byte a Open → countOk n ≡ true → scan (a ∷ l) (num n) stack os (suc d) ≡ scan l (between false) (record { count = n; before = os; room = suc d } ∷ stack) [] d
+opens : {a : ℕ} (n : ℕ) (l : List ℕ) (stack : List Frame) (os : List Entry) (d : ℕ) → Byte a Open → countOk n ≡ true
+    → scan (a ∷ l) (num n) stack os (suc d) ≡ scan l (between false) (record { count = n; before = os; room = suc d } ∷ stack) [] d
 unfolding scan go move said
 opens n l stack os d e c = simp (e .is, c, append-nil)
 
@@ -86,11 +95,13 @@ record Led (d : ℕ) (l : List ℕ) (es : List Entry) (rest : List ℕ) : Type 0
 mutual
   unfolding move said itemBytes itemSays
 
-  item-read : {d : ℕ} (i : Item d) → (l : List ℕ) → NoDigit l → (e : Bool) (stack : List Frame) (os : List Entry) → scan (itemBytes i ++ l) (between e) stack os d ≡ scan l done stack (os ++ itemSays i) d
+  item-read : {d : ℕ} (i : Item d) → (l : List ℕ) → NoDigit l → (e : Bool) (stack : List Frame) (os : List Entry)
+      → scan (itemBytes i ++ l) (between e) stack os d ≡ scan l done stack (os ++ itemSays i) d
   item-read {d} (G.marked ds p c m n h) l o e stack os =
       ap (λ (x : List ℕ). scan x (between e) stack os d) (append-assoc ds (c ∷ []) l) ∙ number-read e n (c ∷ l) stack os d ∙ byte (num p) done (entryOf m p ∷ []) l stack os d h refl refl
   item-read {d} (G.offer ds p c ws v n h w) l o e stack os =
-      ap (λ (x : List ℕ). scan x (between e) stack os d) (append-assoc ds (c ∷ ws) l) ∙ number-read e n (c ∷ (ws ++ l)) stack os d ∙ quiet (num p) (offer p) (ws ++ l) stack os d h refl refl ∙ offer-read p w l stack os d ∙ offer-over p v l o stack os d
+      ap (λ (x : List ℕ). scan x (between e) stack os d) (append-assoc ds (c ∷ ws) l) ∙ number-read e n (c ∷ (ws ++ l)) stack os d
+      ∙ quiet (num p) (offer p) (ws ++ l) stack os d h refl refl ∙ offer-read p w l stack os d ∙ offer-over p v l o stack os d
   item-read (G.group {d = d} ds n a k c h i g z t u) l o e stack os =
       ap (λ (x : List ℕ). scan x (between e) stack os (suc d)) (append-assoc ds (a ∷ (itemsBytes i ++ (g ++ z ∷ []))) l)
       ∙ number-read e k (a ∷ ((itemsBytes i ++ (g ++ z ∷ [])) ++ l)) stack os (suc d)
@@ -102,14 +113,16 @@ mutual
   items-read : {d : ℕ} (i : Items d) → (l : List ℕ) → NoDigit l → (stack : List Frame) (os : List Entry) → scan (itemsBytes i ++ l) (between false) stack os d ≡ scan l done stack (os ++ itemsSay i) d
   items-read {d} (G.item p i) l o stack os =
       let q = lead-read p (itemBytes i ++ l) in
-      ap (λ (x : List ℕ). scan x (between false) stack os d) (append-assoc (leadBytes p) (itemBytes i) l) ∙ q .same stack os ∙ item-read i l o (q .e) stack (os ++ leadSays p) ∙ ap (λ (x : List Entry). scan l done stack x d) (append-assoc os (leadSays p) (itemSays i))
+      ap (λ (x : List ℕ). scan x (between false) stack os d) (append-assoc (leadBytes p) (itemBytes i) l) ∙ q .same stack os ∙ item-read i l o (q .e) stack (os ++ leadSays p)
+      ∙ ap (λ (x : List Entry). scan l done stack x d) (append-assoc os (leadSays p) (itemSays i))
 
   lead-read : {d : ℕ} (p : Lead d) → (rest : List ℕ) → Led d (leadBytes p) (leadSays p) rest
   lead-read {d} (G.fresh g t) rest = record { e = false; same = λ stack os. gaps-read false t rest stack os d ∙ ap (λ (x : List Entry). scan rest (between false) stack x d) (sym (append-nil os)) }
   lead-read {d} (G.apart i c g h t) rest = record {
     e = true;
     same = λ stack os.
-        ap (λ (x : List ℕ). scan x (between false) stack os d) (append-assoc (itemsBytes i) (c ∷ g) rest) ∙ items-read i (c ∷ (g ++ rest)) (ap isDigit (h .is)) stack os ∙ quiet done (between true) (g ++ rest) stack (os ++ itemsSay i) d h refl refl ∙ gaps-read true t rest stack (os ++ itemsSay i) d;
+        ap (λ (x : List ℕ). scan x (between false) stack os d) (append-assoc (itemsBytes i) (c ∷ g) rest) ∙ items-read i (c ∷ (g ++ rest)) (ap isDigit (h .is)) stack os
+        ∙ quiet done (between true) (g ++ rest) stack (os ++ itemsSay i) d h refl refl ∙ gaps-read true t rest stack (os ++ itemsSay i) d;
   }
 
 -- the items of a text

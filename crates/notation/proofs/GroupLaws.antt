@@ -135,7 +135,11 @@ module _ {s : List ℕ} {at d next : ℕ} {es : List Entry} (f : Sofar s at d ne
     items-stray e = record { within = e .within; same = one-more ∙ e .same [] (es ++ es′) d }
 
     pub items-on : {place : ℕ} → Onward s next′ place → Sofar s at d place (es ++ es′)
-    items-on {place} e = record { on = omega (arith, f .on, i .on, e .on); item = e .item; same = one-more ∙ e .goes .same [] (es ++ es′) d ∙ ap (λ (x : List Entry). scan (drop place s) (between false) [] x d) (append-nil (es ++ es′)) }
+    items-on {place} e = record {
+      on = omega (arith, f .on, i .on, e .on);
+      item = e .item;
+      same = one-more ∙ e .goes .same [] (es ++ es′) d ∙ ap (λ (x : List Entry). scan (drop place s) (between false) [] x d) (append-nil (es ++ es′));
+    }
 
 -- the whole text: its first line and the items behind it
 pub not-headed : {s : List ℕ} {place : ℕ} → NotHeaded s place → read s ≡ wrong 10 (length s - place)

@@ -106,7 +106,12 @@ module _ {s : List ℕ} where
 
       marked-once : (m : Mark) → kindOf (getD s place 0) ≡ Marked m → Once s at (between false) (entryOf m v) (place + 1)
       unfolding move said
-      marked-once m e = record { on = omega (arith, w .numbered .on); small = marked-small m v (w .numbered .small); goes = then (first w) (byte (num v) done (Marked m) (entryOf m v ∷ []) place h e refl refl); places = places-marked w h m e }
+      marked-once m e = record {
+        on = omega (arith, w .numbered .on);
+        small = marked-small m v (w .numbered .small);
+        goes = then (first w) (byte (num v) done (Marked m) (entryOf m v ∷ []) place h e refl refl);
+        places = places-marked w h m e;
+      }
 
       -- the `s`
       to-offer : kindOf (getD s place 0) ≡ Offer → Goes s at (between false) (place + 1) (offer v) []
@@ -114,7 +119,12 @@ module _ {s : List ℕ} where
       to-offer e = then (first w) (byte (num v) (offer v) Offer [] place h e refl refl)
 
       offer-once : {k next : ℕ} → kindOf (getD s place 0) ≡ Offer → Whole s (place + 1) k next → Once s at (between false) (StartSc v k) next
-      offer-once {k} {next} e x = record { on = omega (arith, w .numbered .on, x .numbered .on); small = (w .numbered .small, x .numbered .small); goes = then (to-offer e) (then (numbered (leads-offer v) (gathers-offer v) x) (offer-ends v k next (x .numbered .within) (x .numbered .stops))); places = places-offer w h e x }
+      offer-once {k} {next} e x = record {
+        on = omega (arith, w .numbered .on, x .numbered .on);
+        small = (w .numbered .small, x .numbered .small);
+        goes = then (to-offer e) (then (numbered (leads-offer v) (gathers-offer v) x) (offer-ends v k next (x .numbered .within) (x .numbered .stops)));
+        places = places-offer w h e x;
+      }
 
       -- the `(`
       opened : kindOf (getD s place 0) ≡ Open → (stack : List Frame) (os : List Entry) (d : ℕ) → scan (drop at s) (between false) stack os d ≡ opening (drop (place + 1) s) v stack os d (countOk v)
@@ -185,7 +195,12 @@ module _ {s : List ℕ} where
 
     gap-shut : next < length s → kindOf (getD s next 0) ≡ Close → Shuts s at (next + 1)
     unfolding move said go
-    gap-shut l c = record { on = omega (arith, k .on); within = omega arith; same = λ os d. gapped .same [] os d ∙ scan-at s next (between true) [] (os ++ []) d l ∙ simp (c, append-nil); places = places-gap-shut h e k l c }
+    gap-shut l c = record {
+      on = omega (arith, k .on);
+      within = omega arith;
+      same = λ os d. gapped .same [] os d ∙ scan-at s next (between true) [] (os ++ []) d l ∙ simp (c, append-nil);
+      places = places-gap-shut h e k l c;
+    }
 
     gap-item : (d : ℕ) → next < length s → kindOf (getD s next 0) ≡ Digit d → Onward s at next
     unfolding move said go

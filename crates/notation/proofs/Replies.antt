@@ -19,7 +19,9 @@ use Rattle.notation.specs.declared.Header.the-variants.{First, NoFirst}
 use Rattle.notation.specs.Bytes.{space, lineFeed, kindOf, isDigit, isGap}
 use Rattle.notation.specs.Grammar.{largest}
 use Rattle.notation.specs.Readers as D
-use Rattle.notation.specs.Readers.{Counts, Numbered, Exceeds, NumberSays, Whole, NoneAt, NumberAtSays, Ended, NotEnded, FieldSays, Headed, NotHeaded, HeaderSays, Gapped, Skipped, offerOf, Signed, Begins, Behind, After, Follows}
+use Rattle.notation.specs.Readers.{Counts, Numbered, Exceeds, NumberSays, Whole, NoneAt, NumberAtSays, Ended}
+use Rattle.notation.specs.Readers.{NotEnded, FieldSays, Headed, NotHeaded, HeaderSays, Gapped, Skipped, offerOf}
+use Rattle.notation.specs.Readers.{Signed, Begins, Behind, After, Follows}
 
 -- below, or the same
 below-or : (P : Type 0) (i n : ℕ) → i < n + 1 → (i < n → P) → (i ≡ n → P) → P
@@ -194,7 +196,8 @@ module _ (s : List ℕ) where
   signed-one v place Close r r′ p q = p ∙ sym q
   signed-one v place Other r r′ p q = p ∙ sym q
 
-  sign-one : (v place v′ place′ : ℕ) (k k′ : Kind) (r r′ : Start) → v ≡ v′ → place ≡ place′ → kindOf (getD s place 0) ≡ k → kindOf (getD s place′ 0) ≡ k′ → Signed s v place k r → Signed s v′ place′ k′ r′ → r ≡ r′
+  sign-one : (v place v′ place′ : ℕ) (k k′ : Kind) (r r′ : Start) → v ≡ v′ → place ≡ place′ → kindOf (getD s place 0) ≡ k → kindOf (getD s place′ 0) ≡ k′
+      → Signed s v place k r → Signed s v′ place′ k′ r′ → r ≡ r′
   sign-one v place v′ place′ k k′ r r′ e f g h p q = signed-one v place k r r′ p (subst (λ (x : Kind). Signed s v place x r′) (sym h ∙ ap (λ (x : ℕ). kindOf (getD s x 0)) (sym f) ∙ g) (subst (λ (x : ℕ). Signed s x place k′ r′) (sym e) (subst (λ (x : ℕ). Signed s v′ x k′ r′) (sym f) q)))
 
   pub begin-one : {at : ℕ} {r r′ : Start} → Begins s at r → Begins s at r′ → r ≡ r′

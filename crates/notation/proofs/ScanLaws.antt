@@ -86,7 +86,11 @@ module _ {s : List ℕ} where
   stay at m h = record { on = omega arith; within = h; same = λ stack os d. ap (λ (x : List Entry). scan (drop at s) m stack x d) (sym (append-nil os)) }
 
   pub then : {a b c : ℕ} {m m′ m″ : Mode} {es es′ : List Entry} → Goes s a m b m′ es → Goes s b m′ c m″ es′ → Goes s a m c m″ (es ++ es′)
-  then {c = c} {m″ = m″} {es = es} {es′ = es′} p q = record { on = omega (arith, p .on, q .on); within = q .within; same = λ stack os d. p .same stack os d ∙ q .same stack (os ++ es) d ∙ ap (λ (x : List Entry). scan (drop c s) m″ stack x d) (append-assoc os es es′) }
+  then {c = c} {m″ = m″} {es = es} {es′ = es′} p q = record {
+    on = omega (arith, p .on, q .on);
+    within = q .within;
+    same = λ stack os d. p .same stack os d ∙ q .same stack (os ++ es) d ∙ ap (λ (x : List Entry). scan (drop c s) m″ stack x d) (append-assoc os es es′);
+  }
 
   pub then-fault : {a b k place : ℕ} {m m′ : Mode} {es : List Entry} → Goes s a m b m′ es → Faults s b m′ k place → Faults s a m k place
   then-fault {es = es} p q = record { within = q .within; same = λ stack os d. p .same stack os d ∙ q .same stack (os ++ es) d }

@@ -64,7 +64,8 @@ ScanHopeless p m stack = (t : List ℕ) (stack′ : List Frame) (os : List Entry
 pub data ScanWhy (s : List ℕ) (at : ℕ) (m : Mode) (stack : List Frame) (os : List Entry) (d k : ℕ) : Type 0 where
   ended : k ≡ 10 → at ≡ length s → ScanWhy s at m stack os d k
   broken : k ≡ 10 → at < length s → ScanHopeless (take (suc at) s) m stack → ScanWhy s at m stack os d k
-  deep : k ≡ 11 → at < length s → kindOf (getD s at 0) ≡ Open → ((t : List ℕ) → isEnd (scan (take (suc at) s ++ t) m stack os d) ≡ false) → ScanHope (take (suc at) s) m (map lift stack) os (suc d) → ScanWhy s at m stack os d k
+  deep : k ≡ 11 → at < length s → kindOf (getD s at 0) ≡ Open → ((t : List ℕ) → isEnd (scan (take (suc at) s ++ t) m stack os d) ≡ false)
+      → ScanHope (take (suc at) s) m (map lift stack) os (suc d) → ScanWhy s at m stack os d k
 
 pub record ScanPlaced (s : List ℕ) (m : Mode) (stack : List Frame) (os : List Entry) (d k left : ℕ) : Type 0 where
   pub at : ℕ
@@ -73,7 +74,8 @@ pub record ScanPlaced (s : List ℕ) (m : Mode) (stack : List Frame) (os : List 
   pub why : ScanWhy s at m stack os d k
 
 -- the first byte of a reading
-first : (b : ℕ) (l : List ℕ) (m : Mode) (stack : List Frame) (os : List Entry) (d : ℕ) (mv : Move) → move m (kindOf b) ≡ mv → scan (b ∷ l) m stack os d ≡ go (scan l) l mv stack (os ++ said m (kindOf b)) d
+first : (b : ℕ) (l : List ℕ) (m : Mode) (stack : List Frame) (os : List Entry) (d : ℕ) (mv : Move) → move m (kindOf b) ≡ mv
+    → scan (b ∷ l) m stack os d ≡ go (scan l) l mv stack (os ++ said m (kindOf b)) d
 unfolding scan
 first b l m stack os d mv e = ap (λ (x : Move). go (scan l) l x stack (os ++ said m (kindOf b)) d) e
 
@@ -237,7 +239,8 @@ module _ (b : ℕ) (m : Mode) (n : ℕ) (e : move m (kindOf b) ≡ enter n) wher
         }
 
 module _ (b : ℕ) (m : Mode) (e : move m (kindOf b) ≡ leave) where
-  leaving : (x : List ℕ) (f : Frame) (stack : List Frame) (os : List Entry) (d : ℕ) → scan (b ∷ x) m (f ∷ stack) os d ≡ scan x done stack (f .before ++ times (f .count) (os ++ said m (kindOf b))) (f .room)
+  leaving : (x : List ℕ) (f : Frame) (stack : List Frame) (os : List Entry) (d : ℕ)
+      → scan (b ∷ x) m (f ∷ stack) os d ≡ scan x done stack (f .before ++ times (f .count) (os ++ said m (kindOf b))) (f .room)
   unfolding go
   leaving x f stack os d = first b x m (f ∷ stack) os d leave e
 

@@ -102,7 +102,14 @@ next (inN n) b c s = inside-then inN space (λ x. goes (beforeW x)) n b c (kindO
 next (beforeW n) b c s = start-then (inW n) b c (kindOf c) (record { is = refl }) (λ d e. record { p = b; past = s; ws = c ∷ []; is = G.digit e; text = refl })
 next (inW n w) b c s = inside-then (inW n) space (λ x. goes (beforeInitial n x)) w b c (kindOf c) (record { is = refl })
     (λ d e fits. record { p = s .p; past = s .past; ws = s .ws ++ c ∷ []; is = G.more (s .is) e fits; text = snoc (s .p) (s .ws) c (s .text) })
-    (λ q. record { ds = s .past .ds; is = s .past .is; ws = s .ws; wis = s .is; text = snoc (s .p) (s .ws) c (s .text) ∙ ap (λ (x : List ℕ). x ++ (s .ws ++ c ∷ [])) (s .past .text) ∙ append-assoc (s .past .ds) (space ∷ []) (s .ws ++ c ∷ []) ∙ ap (λ (x : ℕ). s .past .ds ++ space ∷ (s .ws ++ x ∷ [])) q })
+    (λ q. record {
+      ds = s .past .ds;
+      is = s .past .is;
+      ws = s .ws;
+      wis = s .is;
+      text = snoc (s .p) (s .ws) c (s .text) ∙ ap (λ (x : List ℕ). x ++ (s .ws ++ c ∷ [])) (s .past .text) ∙ append-assoc (s .past .ds) (space ∷ []) (s .ws ++ c ∷ [])
+          ∙ ap (λ (x : ℕ). s .past .ds ++ space ∷ (s .ws ++ x ∷ [])) q;
+    })
 next (beforeInitial n w) b c s = start-then (inInitial n w) b c (kindOf c) (record { is = refl }) (λ d e. record { p = b; past = s; vs = c ∷ []; is = G.digit e; text = refl })
 next (inInitial n w v) b c s = inside-then (inInitial n w) lineFeed (begins n w) v b c (kindOf c) (record { is = refl })
     (λ d e fits. record { p = s .p; past = s .past; vs = s .vs ++ c ∷ []; is = G.more (s .is) e fits; text = snoc (s .p) (s .vs) c (s .text) })
@@ -112,7 +119,8 @@ next (inInitial n w v) b c s = inside-then (inInitial n w) lineFeed (begins n w)
       sameW = refl;
       sameInitial = refl;
       text = sym (snoc (s .p) (s .vs) c (s .text) ∙ ap (λ (x : List ℕ). x ++ (s .vs ++ c ∷ [])) (s .past .text) ∙ append-assoc (s .past .ds) (space ∷ (s .past .ws ++ space ∷ [])) (s .vs ++ c ∷ [])
-          ∙ ap (λ (x : List ℕ). s .past .ds ++ space ∷ x) (append-assoc (s .past .ws) (space ∷ []) (s .vs ++ c ∷ [])) ∙ ap (λ (x : ℕ). s .past .ds ++ space ∷ (s .past .ws ++ space ∷ (s .vs ++ x ∷ []))) q);
+          ∙ ap (λ (x : List ℕ). s .past .ds ++ space ∷ x) (append-assoc (s .past .ws) (space ∷ []) (s .vs ++ c ∷ []))
+          ∙ ap (λ (x : ℕ). s .past .ds ++ space ∷ (s .past .ws ++ space ∷ (s .vs ++ x ∷ []))) q);
     })
 
 pub right-same : {a b : Said} → right a ≡ right b → a ≡ b

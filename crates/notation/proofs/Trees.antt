@@ -13,7 +13,9 @@ use Rattle.notation.specs.declared.Entry.{Entry}
 use Rattle.notation.specs.declared.Entry.the-variants.{StartSc}
 use Rattle.notation.specs.Bytes.{kindOf, entryOf}
 use Rattle.notation.specs.Grammar as G
-use Rattle.notation.specs.Grammar.{Byte, Number, Gaps, Item, Items, Lead, Schedule, largest, countOk, times, itemBytes, itemsBytes, leadBytes, scheduleBytes, itemSays, itemsSay, leadSays, scheduleSays}
+use Rattle.notation.specs.Grammar.{Byte, Number, Gaps, Item, Items, Lead, Schedule, largest, countOk, times}
+use Rattle.notation.specs.Grammar.{itemBytes, itemsBytes, leadBytes, scheduleBytes, itemSays, itemsSay, leadSays}
+use Rattle.notation.specs.Grammar.{scheduleSays}
 use Rattle.notation.specs.Scan.{onDigit, Mode, between, num, offer, offerNum, done, Move, to, enter, leave, bad, more, move, said, Frame, Verdict, end, shut, fault, atEnd, entered, go, scan}
 use Rattle.notation.proofs.KindLaws.{either}
 
@@ -102,6 +104,10 @@ gaps-snoc (G.gap e t) k = G.gap e (gaps-snoc t k)
 pub snoc : {b : List ℕ} (x y : List ℕ) (c : ℕ) → b ≡ x ++ y → b ++ c ∷ [] ≡ x ++ (y ++ c ∷ [])
 snoc x y c e = ap (λ (z : List ℕ). z ++ c ∷ []) e ∙ append-assoc x y (c ∷ [])
 
+-- the same in three parts
+snoc₃ : {b : List ℕ} (x y z : List ℕ) (c : ℕ) → b ≡ x ++ (y ++ z) → b ++ c ∷ [] ≡ x ++ (y ++ (z ++ c ∷ []))
+snoc₃ x y z c e = snoc x (y ++ z) c e ∙ ap (λ (r : List ℕ). x ++ r) (append-assoc y z (c ∷ []))
+
 none-said : {os es : List Entry} → os ≡ es → os ++ [] ≡ es
 none-said {os} e = append-nil os ∙ e
 
@@ -119,8 +125,22 @@ next d b c os (between false) Offer k s = tt
 next d b c os (between false) Open k s = tt
 next d b c os (between false) Close k s = tt
 next d b c os (between false) Other k s = tt
-next d b c os (between true) (Digit x) k s = record { l = G.apart (s .i) (s .c) (s .g) (s .k) (s .t); ds = c ∷ []; n = G.digit k; text = ap (λ (z : List ℕ). z ++ c ∷ []) (s .text); saying = none-said (s .saying) }
-next d b c os (between true) Gap k s = record { i = s .i; c = s .c; g = s .g ++ c ∷ []; k = s .k; t = gaps-snoc (s .t) k; text = snoc (itemsBytes (s .i)) (s .c ∷ s .g) c (s .text); saying = none-said (s .saying) }
+next d b c os (between true) (Digit x) k s = record {
+  l = G.apart (s .i) (s .c) (s .g) (s .k) (s .t);
+  ds = c ∷ [];
+  n = G.digit k;
+  text = ap (λ (z : List ℕ). z ++ c ∷ []) (s .text);
+  saying = none-said (s .saying);
+}
+next d b c os (between true) Gap k s = record {
+  i = s .i;
+  c = s .c;
+  g = s .g ++ c ∷ [];
+  k = s .k;
+  t = gaps-snoc (s .t) k;
+  text = snoc (itemsBytes (s .i)) (s .c ∷ s .g) c (s .text);
+  saying = none-said (s .saying);
+}
 next d b c os (between true) (Marked x) k s = tt
 next d b c os (between true) Offer k s = tt
 next d b c os (between true) Open k s = tt
@@ -128,24 +148,63 @@ next d b c os (between true) Close k s = record { i = s .i; g = s .c ∷ s .g; t
 next d b c os (between true) Other k s = tt
 next d b c os (num v) (Digit x) k s = more-then d b c (os ++ []) num v x (λ fits. record { l = s .l; ds = s .ds ++ c ∷ []; n = G.more (s .n) k fits; text = snoc (leadBytes (s .l)) (s .ds) c (s .text); saying = none-said (s .saying) })
 next d b c os (num v) Gap k s = tt
-next d b c os (num v) (Marked x) k s = record { i = G.item (s .l) (G.marked (s .ds) v c x (s .n) k); text = snoc (leadBytes (s .l)) (s .ds) c (s .text); saying = ap (λ (z : List Entry). z ++ entryOf x v ∷ []) (s .saying) }
+next d b c os (num v) (Marked x) k s = record {
+  i = G.item (s .l) (G.marked (s .ds) v c x (s .n) k);
+  text = snoc (leadBytes (s .l)) (s .ds) c (s .text);
+  saying = ap (λ (z : List Entry). z ++ entryOf x v ∷ []) (s .saying);
+}
 next d b c os (num v) Offer k s = record { l = s .l; ds = s .ds; n = s .n; c = c; k = k; text = snoc (leadBytes (s .l)) (s .ds) c (s .text); saying = none-said (s .saying) }
 next d b c os (num v) Open k s = record { l = s .l; ds = s .ds; n′ = s .n; k = k; text = snoc (leadBytes (s .l)) (s .ds) c (s .text); saying = none-said (s .saying) }
 next d b c os (num v) Close k s = tt
 next d b c os (num v) Other k s = tt
-next d b c os (offer p) (Digit x) k s = record { l = s .l; ds = s .ds; n = s .n; c = s .c; k = s .k; ws = c ∷ []; w = G.digit k; text = snoc (leadBytes (s .l)) (s .ds ++ s .c ∷ []) c (s .text) ∙ ap (λ (z : List ℕ). leadBytes (s .l) ++ z) (append-assoc (s .ds) (s .c ∷ []) (c ∷ [])); saying = none-said (s .saying) }
+next d b c os (offer p) (Digit x) k s = record {
+  l = s .l;
+  ds = s .ds;
+  n = s .n;
+  c = s .c;
+  k = s .k;
+  ws = c ∷ [];
+  w = G.digit k;
+  text = snoc₃ (leadBytes (s .l)) (s .ds) (s .c ∷ []) c (s .text);
+  saying = none-said (s .saying);
+}
 next d b c os (offer p) Gap k s = tt
 next d b c os (offer p) (Marked x) k s = tt
 next d b c os (offer p) Offer k s = tt
 next d b c os (offer p) Open k s = tt
 next d b c os (offer p) Close k s = tt
 next d b c os (offer p) Other k s = tt
-next d b c os (offerNum p v) (Digit x) k s = more-then d b c (os ++ []) (offerNum p) v x (λ fits. record { l = s .l; ds = s .ds; n = s .n; c = s .c; k = s .k; ws = s .ws ++ c ∷ []; w = G.more (s .w) k fits; text = snoc (leadBytes (s .l)) (s .ds ++ s .c ∷ s .ws) c (s .text) ∙ ap (λ (z : List ℕ). leadBytes (s .l) ++ z) (append-assoc (s .ds) (s .c ∷ s .ws) (c ∷ [])); saying = none-said (s .saying) })
-next d b c os (offerNum p v) Gap k s = record { i = G.item (s .l) (G.offer (s .ds) p (s .c) (s .ws) v (s .n) (s .k) (s .w)); c = c; g = []; k = k; t = G.none; text = ap (λ (z : List ℕ). z ++ c ∷ []) (s .text); saying = ap (λ (z : List Entry). z ++ StartSc p v ∷ []) (s .saying) }
+next d b c os (offerNum p v) (Digit x) k s = more-then d b c (os ++ []) (offerNum p) v x (λ fits. record {
+  l = s .l;
+  ds = s .ds;
+  n = s .n;
+  c = s .c;
+  k = s .k;
+  ws = s .ws ++ c ∷ [];
+  w = G.more (s .w) k fits;
+  text = snoc₃ (leadBytes (s .l)) (s .ds) (s .c ∷ s .ws) c (s .text);
+  saying = none-said (s .saying);
+})
+next d b c os (offerNum p v) Gap k s = record {
+  i = G.item (s .l) (G.offer (s .ds) p (s .c) (s .ws) v (s .n) (s .k) (s .w));
+  c = c;
+  g = [];
+  k = k;
+  t = G.none;
+  text = ap (λ (z : List ℕ). z ++ c ∷ []) (s .text);
+  saying = ap (λ (z : List Entry). z ++ StartSc p v ∷ []) (s .saying);
+}
 next d b c os (offerNum p v) (Marked x) k s = tt
 next d b c os (offerNum p v) Offer k s = tt
 next d b c os (offerNum p v) Open k s = tt
-next d b c os (offerNum p v) Close k s = record { i = G.item (s .l) (G.offer (s .ds) p (s .c) (s .ws) v (s .n) (s .k) (s .w)); g = []; t = G.none; k = k; text = ap (λ (z : List ℕ). z ++ c ∷ []) (s .text); saying = ap (λ (z : List Entry). z ++ StartSc p v ∷ []) (s .saying) }
+next d b c os (offerNum p v) Close k s = record {
+  i = G.item (s .l) (G.offer (s .ds) p (s .c) (s .ws) v (s .n) (s .k) (s .w));
+  g = [];
+  t = G.none;
+  k = k;
+  text = ap (λ (z : List ℕ). z ++ c ∷ []) (s .text);
+  saying = ap (λ (z : List Entry). z ++ StartSc p v ∷ []) (s .saying);
+}
 next d b c os (offerNum p v) Other k s = tt
 next d b c os done (Digit x) k s = tt
 next d b c os done Gap k s = record { i = s .i; c = c; g = []; k = k; t = G.none; text = ap (λ (z : List ℕ). z ++ c ∷ []) (s .text); saying = none-said (s .saying) }
@@ -194,7 +253,11 @@ finish top (between false) b os es s h = record { tree = G.empty b (s .gaps); te
 finish top (between true) b os es s h = record { tree = G.items (s .i) (s .c ∷ s .g) (G.gap (s .k) (s .t)); text = sym (s .text); saying = sym (s .saying) ∙ end-same h }
 finish top (num v) b os es s h = absurd (fault-end h)
 finish top (offer p) b os es s h = absurd (fault-end h)
-finish top (offerNum p v) b os es s h = record { tree = G.items (G.item (s .l) (G.offer (s .ds) p (s .c) (s .ws) v (s .n) (s .k) (s .w))) [] G.none; text = append-nil (leadBytes (s .l) ++ (s .ds ++ s .c ∷ s .ws)) ∙ sym (s .text); saying = ap (λ (z : List Entry). z ++ StartSc p v ∷ []) (sym (s .saying)) ∙ end-same h }
+finish top (offerNum p v) b os es s h = record {
+  tree = G.items (G.item (s .l) (G.offer (s .ds) p (s .c) (s .ws) v (s .n) (s .k) (s .w))) [] G.none;
+  text = append-nil (leadBytes (s .l) ++ (s .ds ++ s .c ∷ s .ws)) ∙ sym (s .text);
+  saying = ap (λ (z : List Entry). z ++ StartSc p v ∷ []) (sym (s .saying)) ∙ end-same h;
+}
 finish top done b os es s h = record { tree = G.items (s .i) [] G.none; text = append-nil (itemsBytes (s .i)) ∙ sym (s .text); saying = sym (s .saying) ∙ end-same h }
 
 ends : (top : ℕ) (m : Mode) (stack : List Frame) (p b : List ℕ) (os es : List Entry) (d : ℕ) → Opened top stack p d → Stands d m b os → atEnd m stack os ≡ end es → Is top (p ++ (b ++ [])) es
@@ -203,10 +266,15 @@ ends top m [] p b os es d o s h = subst (λ (x : List ℕ). Is top x es) (sym (a
 ends top m (f ∷ stack) p b os es d o s h = absurd (fault-end h)
 
 -- a group that is closed is an item of what is around it
-closed : (f : Frame) (d : ℕ) (i : Items d) (g : List ℕ) (z : ℕ) → Gaps g → Byte z Close → (ds : List ℕ) (a : ℕ) → Number ds (f .count) → countOk (f .count) ≡ true → Byte a Open → (l : Lead (suc d)) → f .before ≡ leadSays l → (os : List Entry) → os ≡ itemsSay i
+closed : (f : Frame) (d : ℕ) (i : Items d) (g : List ℕ) (z : ℕ) → Gaps g → Byte z Close → (ds : List ℕ) (a : ℕ) → Number ds (f .count) → countOk (f .count) ≡ true
+    → Byte a Open → (l : Lead (suc d)) → f .before ≡ leadSays l → (os : List Entry) → os ≡ itemsSay i
     → AtDone (suc d) (leadBytes l ++ (ds ++ a ∷ (itemsBytes i ++ (g ++ z ∷ [])))) (f .before ++ times (f .count) os)
 unfolding itemBytes itemSays
-closed f d i g z t k ds a n ok o l e os q = record { i = G.item l (G.group ds (f .count) a n ok o i g z t k); text = refl; saying = ap (λ (x : List Entry). x ++ times (f .count) os) e ∙ ap (λ (x : List Entry). leadSays l ++ times (f .count) x) q }
+closed f d i g z t k ds a n ok o l e os q = record {
+  i = G.item l (G.group ds (f .count) a n ok o i g z t k);
+  text = refl;
+  saying = ap (λ (x : List Entry). x ++ times (f .count) os) e ∙ ap (λ (x : List Entry). leadSays l ++ times (f .count) x) q;
+}
 
 -- regrouping
 push : (p b l : List ℕ) (c : ℕ) → p ++ (b ++ c ∷ l) ≡ p ++ ((b ++ c ∷ []) ++ l)
@@ -231,21 +299,33 @@ on top c l b p os es d stack (enter n) o s ih h = counted (countOk n) refl d o s
         (record { gaps = G.none; saying = refl }) h)
 on top c l b p os es d [] leave o s ih h = absurd (shut-end h)
 on top c l b p os es d (f ∷ stack) leave o s ih h =
-    let x = leadBytes (o .l) ++ (o .ds ++ o .a ∷ (itemsBytes (s .i) ++ (s .g ++ c ∷ []))) in
     subst (λ (y : List ℕ). Is top y es) whole
-    (ih done stack (o .p₀) x (f .before ++ times (f .count) os) (suc d) (o .outer) (closed f d (s .i) (s .g) c (s .t) (s .k) (o .ds) (o .a) (o .n) (o .ok) (o .k) (o .l) (o .before) os (s .saying))
+    (ih done stack (o .p₀) group (f .before ++ times (f .count) os) (suc d) (o .outer) (closed f d (s .i) (s .g) c (s .t) (s .k) (o .ds) (o .a) (o .n) (o .ok) (o .k) (o .l) (o .before) os (s .saying))
     (ap (λ (r : ℕ). scan l done stack (f .before ++ times (f .count) os) r) (sym (o .room)) ∙ h))
   where
-    in-text : p ++ (b ++ c ∷ []) ≡ o .p₀ ++ (leadBytes (o .l) ++ (o .ds ++ o .a ∷ (itemsBytes (s .i) ++ (s .g ++ c ∷ []))))
-    in-text = ap (λ (x : List ℕ). p ++ x) (s .text) ∙ ap (λ (x : List ℕ). x ++ (itemsBytes (s .i) ++ (s .g ++ c ∷ []))) (o .text) ∙ append-assoc (o .p₀) (leadBytes (o .l) ++ (o .ds ++ o .a ∷ [])) (itemsBytes (s .i) ++ (s .g ++ c ∷ []))
-        ∙ ap (λ (x : List ℕ). o .p₀ ++ x) (append-assoc (leadBytes (o .l)) (o .ds ++ o .a ∷ []) (itemsBytes (s .i) ++ (s .g ++ c ∷ [])) ∙ ap (λ (x : List ℕ). leadBytes (o .l) ++ x) (append-assoc (o .ds) (o .a ∷ []) (itemsBytes (s .i) ++ (s .g ++ c ∷ []))))
+    -- what stands behind the opening bracket, before it, and both
+    inner : List ℕ
+    inner = itemsBytes (s .i) ++ (s .g ++ c ∷ [])
 
-    whole : o .p₀ ++ ((leadBytes (o .l) ++ (o .ds ++ o .a ∷ (itemsBytes (s .i) ++ (s .g ++ c ∷ [])))) ++ l) ≡ p ++ (b ++ c ∷ l)
-    whole = sym (append-assoc (o .p₀) (leadBytes (o .l) ++ (o .ds ++ o .a ∷ (itemsBytes (s .i) ++ (s .g ++ c ∷ [])))) l) ∙ ap (λ (x : List ℕ). x ++ l) (sym in-text) ∙ append-assoc p (b ++ c ∷ []) l ∙ sym (push p b l c)
+    head : List ℕ
+    head = leadBytes (o .l) ++ (o .ds ++ o .a ∷ [])
+
+    group : List ℕ
+    group = leadBytes (o .l) ++ (o .ds ++ o .a ∷ inner)
+
+    head-inner : head ++ inner ≡ group
+    head-inner = append-assoc (leadBytes (o .l)) (o .ds ++ o .a ∷ []) inner ∙ ap (λ (x : List ℕ). leadBytes (o .l) ++ x) (append-assoc (o .ds) (o .a ∷ []) inner)
+
+    in-text : p ++ (b ++ c ∷ []) ≡ o .p₀ ++ group
+    in-text = ap (λ (x : List ℕ). p ++ x) (s .text) ∙ ap (λ (x : List ℕ). x ++ inner) (o .text) ∙ append-assoc (o .p₀) head inner ∙ ap (λ (x : List ℕ). o .p₀ ++ x) head-inner
+
+    whole : o .p₀ ++ (group ++ l) ≡ p ++ (b ++ c ∷ l)
+    whole = sym (append-assoc (o .p₀) group l) ∙ ap (λ (x : List ℕ). x ++ l) (sym in-text) ∙ append-assoc p (b ++ c ∷ []) l ∙ sym (push p b l c)
 on top c l b p os es d stack bad o s ih h = absurd (fault-end h)
 
 -- the whole text
-walk : (top : ℕ) (s : List ℕ) (m : Mode) (stack : List Frame) (p b : List ℕ) (os es : List Entry) (d : ℕ) → Opened top stack p d → Stands d m b os → scan s m stack os d ≡ end es → Is top (p ++ (b ++ s)) es
+walk : (top : ℕ) (s : List ℕ) (m : Mode) (stack : List Frame) (p b : List ℕ) (os es : List Entry) (d : ℕ) → Opened top stack p d → Stands d m b os
+    → scan s m stack os d ≡ end es → Is top (p ++ (b ++ s)) es
 unfolding scan
 walk top [] m stack p b os es d o s h = ends top m stack p b os es d o s h
 walk top (c ∷ l) m stack p b os es d o s h = on top c l b p (os ++ said m (kindOf c)) es d stack (move m (kindOf c)) o (next d b c os m (kindOf c) (record { is = refl }) s) (λ m stack p b os d. walk top l m stack p b os es d) h
