@@ -153,6 +153,10 @@ row3view w written = record { number = 3; holds = not (eqb (written % w) 0) }
 abbrev pub row15 : ℕ → ℕ → ℕ → Row
 row15 w written k = record { number = 15; holds = ltb (written / w) k }
 
+-- Rows 1, 2, 3, with which a command's rows and a set-up's begin; `rest` is what follows them
+abbrev pub lentRows : ℕ → ℕ → ℕ → ℕ → List Row → List Row
+lentRows n w records words rest = row1 n ∷ row2 w ∷ row3 n w records words ∷ rest
+
 -- The rows of a command, 1, 2, 3, 9, 4, then 8 (operators mend the words first), then 5, 6, 7: the order is said here
 -- alone. First those that speak of its process p, with the record q, and of its order with a value of so many words;
 abbrev pub processRows : ℕ → ℕ → ℕ → Order → ℕ → Process → List Row
@@ -160,7 +164,7 @@ processRows n w p o value q = row4 n p ∷ row8 o w value ∷ row5 o q ∷ row6 
 
 -- then all, for so many records and words lent, with the truth of row 9's ranges
 abbrev pub rowsOf : ℕ → ℕ → ℕ → ℕ → Bool → ℕ → Order → ℕ → Process → List Row
-rowsOf n w records words ranges p o value q = row1 n ∷ row2 w ∷ row3 n w records words ∷ row9 ranges ∷ processRows n w p o value q
+rowsOf n w records words ranges p o value q = lentRows n w records words (row9 ranges ∷ processRows n w p o value q)
 
 abbrev pub commandRows : Memory → ℕ → Order → List ℕ → List Row
 commandRows m p o value =
@@ -168,7 +172,7 @@ commandRows m p o value =
 
 -- "Set-up reads no old records and takes 1, 2, 3, 8."
 abbrev pub setUpRowsOf : ℕ → ℕ → ℕ → ℕ → ℕ → List Row
-setUpRowsOf n w records words value = row1 n ∷ row2 w ∷ row3 n w records words ∷ row8always w value ∷ []
+setUpRowsOf n w records words value = lentRows n w records words (row8always w value ∷ [])
 
 abbrev pub setUpRows : Memory → ℕ → ℕ → List ℕ → List Row
 setUpRows m n w value = setUpRowsOf n w (length (m .records)) (length (m .words)) (length value)

@@ -1,6 +1,6 @@
 -- The refusal table: the first row that holds, and what it means that none does.
 use mathlib.Core.Path.{_≡_, refl, sym}
-use mathlib.Core.List.{List, []}
+use mathlib.Core.List.{List, [], _∷_}
 use mathlib.Core.Bool.{Bool, true, false, cond, not, _&&_, _||_}
 use Prim.Native.Nat.{ℕ, suc, _+_, _*_, _<_, _≤_}
 use native.Mathlib.Omega.{arith}
@@ -10,10 +10,10 @@ use Rattle.model.specs.declared.Bench.{Bench}
 use Rattle.model.specs.declared.Process.{Process}
 use Rattle.model.specs.declared.Order.{Order}
 use Rattle.model.specs.Records.{recordAt}
-use Rattle.model.specs.Sizes.{halves, busyMost}
-use Rattle.model.specs.Refusals.{row1, row2, row4, row5, row6, row7, row9, inRange, processOk, bufferOk, sequenceOk, xOk, lineOk, countOk, isIdle, bringsValue}
-use Rattle.model.specs.Refusals.{row3, row8}
-use Rattle.rows.specs.CommandRows.{rangesOk, decisionNumber, lateNumber, InOrder}
+use Rattle.model.specs.Sizes.{lentWords, halves, busyMost}
+use Rattle.model.specs.Refusals.{first, row1, row2, row3, row4, row5, row6, row7, row8, row9}
+use Rattle.model.specs.Refusals.{inRange, processOk, bufferOk, sequenceOk, xOk, lineOk, countOk, isIdle, bringsValue}
+use Rattle.rows.specs.CommandRows.{lentNumber, rangesOk, decisionNumber, lateNumber, InOrder}
 use Rattle.laws.proofs.AndLaws.{left, right}
 
 -- a row that does not hold is passed, one that does answers
@@ -42,6 +42,66 @@ neither true true e = (e, e)
 neither true false e = (e, refl)
 neither false true e = (refl, e)
 neither false false e = (refl, refl)
+
+-- rows 1, 2, 3: the first that holds answers, whatever follows; where none does, all that they speak of is in order
+pub record LentInOrder (n w records words : ℕ) : Type 0 where
+  pub n-some : 0 < n
+  pub n-most : n ≤ 16
+  pub w-most : w ≤ 64
+  pub words-lent : lentWords n w ≤ words
+  pub records-lent : n ≤ records
+
+answers-first : (a b c : Bool) (rest : ℕ) → (_≡_ {A = ℕ} (cond a 1 (cond b 2 (cond c 3 0))) 0 → ⊥) → cond a 1 (cond b 2 (cond c 3 0)) ≡ cond a 1 (cond b 2 (cond c 3 rest))
+answers-first true b c rest h = refl
+answers-first false true c rest h = refl
+answers-first false false true rest h = refl
+answers-first false false false rest h = absurd (h refl)
+
+module _ (n w records words : ℕ) where
+  -- rows 1, 2, 3 before rows that say `rest`
+  abbrev lentThen : ℕ → ℕ
+  lentThen rest = cond (row1 n .holds) 1 (cond (row2 w .holds) 2 (cond (row3 n w records words .holds) 3 rest))
+
+  pub lent-answers : (rest : ℕ) → (lentNumber n w records words ≡ 0 → ⊥) → lentNumber n w records words ≡ lentThen rest
+  unfolding lentNumber
+  lent-answers rest h = answers-first (row1 n .holds) (row2 w .holds) (row3 n w records words .holds) rest h
+
+  pub record LentPassed (rest : ℕ) : Type 0 where
+    pub row-1 : row1 n .holds ≡ false
+    pub row-2 : row2 w .holds ≡ false
+    pub row-3 : row3 n w records words .holds ≡ false
+    pub others : rest ≡ 0
+
+  none-of-three : (rest : ℕ) → lentThen rest ≡ 0 → LentPassed rest
+  none-of-three rest e =
+      let r3 : ℕ = cond (row3 n w records words .holds) 3 rest in
+      let c1 = cleared (row1 n .holds) 0 (cond (row2 w .holds) 2 r3) e in
+      let c2 = cleared (row2 w .holds) 1 r3 (c1 .1) in
+      let c3 = cleared (row3 n w records words .holds) 2 rest (c2 .1) in
+      record { row-1 = c1 .0; row-2 = c2 .0; row-3 = c3 .0; others = c3 .1 }
+
+  pub lent-passed : {r rest : ℕ} → lentNumber n w records words ≡ 0 → r ≡ rest → r ≡ lentThen rest
+  unfolding lentNumber
+  lent-passed e h = let l = none-of-three 0 e in over _ 1 (l .row-1) (over _ 2 (l .row-2) (over _ 3 (l .row-3) h))
+
+  in-order : {rest : ℕ} → LentPassed rest → LentInOrder n w records words
+  in-order l =
+      let few = neither (ltb words (lentWords n w)) (ltb records n) (l .row-3) in
+      record {
+        n-some = n-in n (l .row-1) .0;
+        n-most = n-in n (l .row-1) .1;
+        w-most = w-in w (l .row-2) .1;
+        words-lent = ltb-false words (lentWords n w) (few .0);
+        records-lent = ltb-false records n (few .1);
+      }
+
+  pub lent-in-order : lentNumber n w records words ≡ 0 → LentInOrder n w records words
+  unfolding lentNumber
+  lent-in-order e = in-order (none-of-three 0 e)
+
+  -- where no row holds of a list that begins with them
+  pub begins-in-order : (rest : ℕ) → lentThen rest ≡ 0 → LentInOrder n w records words × (rest ≡ 0)
+  begins-in-order rest e = let l = none-of-three rest e in (in-order l, l .others)
 
 -- what row 9 leaves of a process
 pub record InRange (n w : ℕ) (q : Process) : Type 0 where
@@ -113,27 +173,19 @@ module _ (b : Bench) (list : List Process) (len p : ℕ) (o : Order) (value word
   pub none-holds : decisionNumber b list len p o value words ≡ 0 → Cleared
   unfolding decisionNumber q
   none-holds e =
-      let r7 : ℕ = cond (row7 o q .holds) 7 0 in
-      let r6 : ℕ = cond (row6 o q .holds) 6 r7 in
-      let r5 : ℕ = cond (row5 o q .holds) 5 r6 in
+      let r5 : ℕ = first (row5 o q ∷ row6 o q ∷ row7 o q ∷ []) in
       let r8 : ℕ = cond (row8 o (b .w) value .holds) 8 r5 in
       let r4 : ℕ = cond (row4 (b .n) p .holds) 4 r8 in
-      let r9 : ℕ = cond (row9 (rangesOk b list) .holds) 9 r4 in
-      let r3 : ℕ = cond (row3 (b .n) (b .w) len words .holds) 3 r9 in
-      let r2 : ℕ = cond (row2 (b .w) .holds) 2 r3 in
-      let c1 = cleared (row1 (b .n) .holds) 0 r2 e in
-      let c2 = cleared (row2 (b .w) .holds) 1 r3 (c1 .1) in
-      let c3 = cleared (row3 (b .n) (b .w) len words .holds) 2 r9 (c2 .1) in
+      let c3 = begins-in-order (b .n) (b .w) len words (cond (row9 (rangesOk b list) .holds) 9 r4) e in
       let c9 = cleared (row9 (rangesOk b list) .holds) 8 r4 (c3 .1) in
       let c4 = cleared (row4 (b .n) p .holds) 3 r8 (c9 .1) in
       let c8 = cleared (row8 o (b .w) value .holds) 7 r5 (c4 .1) in
-      let few = neither (ltb words (5 * b .n * b .w)) (ltb len (b .n)) (c3 .0) in
       record {
-        n-some = n-in (b .n) (c1 .0) .0;
-        n-most = n-in (b .n) (c1 .0) .1;
-        w-most = w-in (b .w) (c2 .0) .1;
-        lent = ltb-false words (5 * b .n * b .w) (few .0);
-        records = ltb-false len (b .n) (few .1);
+        n-some = c3 .0 .n-some;
+        n-most = c3 .0 .n-most;
+        w-most = c3 .0 .w-most;
+        lent = c3 .0 .words-lent;
+        records = c3 .0 .records-lent;
         range = not-false (inRange (record { bench = b; records = list; words = [] })) (c9 .0);
         process = leb-false (b .n) p (c4 .0);
         given = λ t. eqb-true value (b .w) (given-of (bringsValue o) (eqb value (b .w)) (c8 .0) t);

@@ -9,7 +9,11 @@ use Rattle.model.specs.declared.Bench.{Bench}
 use Rattle.model.specs.declared.Process.{Process}
 use Rattle.model.specs.declared.Order.{Order}
 use Rattle.model.specs.Records.{recordAt}
-use Rattle.model.specs.Refusals.{first, row1, row2, row3, row9, inRange, processRows, rowsOf}
+use Rattle.model.specs.Refusals.{first, row1, row2, row3, row9, inRange, lentRows, processRows, rowsOf}
+
+-- the number of the first of rows 1, 2, 3 that holds, 0 for none
+unfoldable pub lentNumber : ℕ → ℕ → ℕ → ℕ → ℕ
+lentNumber n w records words = first (lentRows n w records words [])
 
 -- row 9 looks at no words
 abbrev pub rangesOk : Bench → List Process → Bool

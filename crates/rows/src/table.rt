@@ -4,7 +4,7 @@ ghost use mathlib.Core.List.{[], _∷_};
 ghost use Prim.Native.Nat.{_≤_};
 ghost use Rattle.model.specs.Refusals.{first, row5, row6, row7};
 ghost use Rattle.model.specs.Refusals.{row8};
-ghost use Rattle.rows.specs.CommandRows.{decisionNumber, lateNumber};
+ghost use Rattle.rows.specs.CommandRows.{decisionNumber, lateNumber, lentNumber};
 use crate::causes;
 use crate::ranges;
 use model::Bench;
@@ -13,6 +13,22 @@ use model::Process;
 use model::ProcessNumber;
 use tables::records;
 use tables::records::Records;
+
+// Rows 1, 2, 3, with which a command and a set-up begin: the number of the first that holds, 0 for none.
+pub fn lent_refusal(n: usize, w: usize, records: usize, words: usize) -> u8
+    ensures { λ r. ⌜ r ≡ lentNumber n w records words ⌝ }
+{
+    if causes::n_out_of_range(n) {
+        return causes::N_OUT_OF_RANGE;
+    }
+    if causes::w_out_of_range(w) {
+        return causes::W_OUT_OF_RANGE;
+    }
+    if causes::too_little_lent(n, w, records, words) {
+        return causes::TOO_LITTLE_LENT;
+    }
+    0
+}
 
 // The number of the first row that holds, 0 for none.
 pub fn refusal(
@@ -26,14 +42,9 @@ pub fn refusal(
 ) -> u8
     ensures { λ r. ⌜ r ≡ decisionNumber bench (all .list) len p order value words ⌝ }
 {
-    if causes::n_out_of_range(bench.n) {
-        return causes::N_OUT_OF_RANGE;
-    }
-    if causes::w_out_of_range(bench.w) {
-        return causes::W_OUT_OF_RANGE;
-    }
-    if causes::too_little_lent(bench.n, bench.w, len, words) {
-        return causes::TOO_LITTLE_LENT;
+    let number = lent_refusal(bench.n, bench.w, len, words);
+    if number != 0 {
+        return number;
     }
     if !ranges::in_range(bench, all) {
         return causes::NUMBER_OUT_OF_RANGE;

@@ -16,13 +16,12 @@ use Rattle.model.specs.declared.Bench.{Bench}
 use Rattle.model.specs.declared.Process.{Process}
 use Rattle.model.specs.Tables.{putBank, putHelp}
 use Rattle.model.specs.Machine.{Memory}
-use Rattle.model.specs.Refusals.{row1, row2}
 use Rattle.model.specs.SetUp.{numbers, bankAtSetUp, helpAtSetUp, benchAtSetUp, wordsAtSetUp, setUp, setUpRefusal}
 use Rattle.setup.specs.declared.Prepared.{Prepared}
-use Rattle.model.specs.Refusals.{row3, row8always}
+use Rattle.model.specs.Refusals.{row8always}
 use Rattle.setup.specs.SetUpByValue.{setUpNumber, set-up-number, banksSet, helpsSet, Accepted, prepared, recordsSet}
 use Rattle.laws.proofs.ListLaws.{sets-append, sets-replicate}
-use Rattle.rows.proofs.RowLaws.{cleared, n-in, w-in, neither}
+use Rattle.rows.proofs.RowLaws.{cleared, begins-in-order}
 
 module _ {ℓ} {A : Type ℓ} (f : ℕ → A) where
   mapped-next : (a k : ℕ) → map f (numbers a (suc k)) ≡ map f (numbers a k) ++ (f (a + k) ∷ [])
@@ -57,18 +56,13 @@ words-set ws value n w e =
 pub set-up-fits : (n w len words value : ℕ) → setUpNumber n w len words value ≡ 0 → Accepted n w words value
 unfolding setUpNumber
 set-up-fits n w len words value e =
-    let r8 : ℕ = cond (row8always w value .holds) 8 0 in
-    let r3 : ℕ = cond (row3 n w len words .holds) 3 r8 in
-    let r2 : ℕ = cond (row2 w .holds) 2 r3 in
-    let c1 = cleared (row1 n .holds) 0 r2 e in
-    let c2 = cleared (row2 w .holds) 1 r3 (c1 .1) in
-    let c3 = cleared (row3 n w len words .holds) 2 r8 (c2 .1) in
+    let c3 = begins-in-order n w len words (cond (row8always w value .holds) 8 0) e in
     let c8 = cleared (row8always w value .holds) 7 0 (c3 .1) in
     record {
-      n-most = n-in n (c1 .0) .1;
-      w-most = w-in w (c2 .0) .1;
-      n-some = n-in n (c1 .0) .0;
-      words-lent = ltb-false words (5 * n * w) (neither (ltb words (5 * n * w)) (ltb len n) (c3 .0) .0);
+      n-most = c3 .0 .n-most;
+      w-most = c3 .0 .w-most;
+      n-some = c3 .0 .n-some;
+      words-lent = c3 .0 .words-lent;
       value-words = eqb-true value w (not-false (eqb value w) (c8 .0));
     }
 

@@ -11,6 +11,7 @@ use model::ProcessNumber;
 use model::SequenceNumber;
 use model::sizes;
 use rows::causes;
+use rows::table;
 use words::word_runs;
 
 // The number of a set-up's refusal, 0 for none, and the bench after it.
@@ -23,14 +24,9 @@ pub struct Prepared {
 pub fn set_up_number(n: usize, w: usize, records: usize, words: usize, value: usize) -> u8
     ensures { λ r. ⌜ r ≡ setUpNumber n w records words value ⌝ }
 {
-    if causes::n_out_of_range(n) {
-        return causes::N_OUT_OF_RANGE;
-    }
-    if causes::w_out_of_range(w) {
-        return causes::W_OUT_OF_RANGE;
-    }
-    if causes::too_little_lent(n, w, records, words) {
-        return causes::TOO_LITTLE_LENT;
+    let number = table::lent_refusal(n, w, records, words);
+    if number != 0 {
+        return number;
     }
     if value != w {
         return causes::VALUE_NOT_W_WORDS;
