@@ -152,11 +152,14 @@ do-line-23-requires c κs = search needs
 after-x-requires-7 : tie.Need-after-x-requires-7
 after-x-requires-7 c κs = search needs
 
+unmoved-requires : tie.Need-unmoved-requires
+unmoved-requires c κs = search needs
+
 returns : tie.Need-returns
 unfolding stepOn
 returns c =
     let looked = c .before .before in
-    let a = looked .before .before .args in
+    let a = looked .before .before .before .args in
     let e = c .after-help .ensures ∙ ap (afterHelp (a .taken)) (c .before .do-line-1 .ensures) in
     ap (λ (s : Stepped). (s, now (a .words))) e ∙ arm (a .p) (a .n) (a .w) (a .taken) (a .process) (now (a .words)) (looked .match .keys1)
 
@@ -164,7 +167,7 @@ returns-2 : tie.Need-returns-2
 unfolding stepOn
 returns-2 c =
     let looked = c .before .before in
-    let a = looked .before .before .args in
+    let a = looked .before .before .before .args in
     let e = c .after-x .ensures ∙ ap (afterX (a .taken)) (c .before .do-line-2 .ensures) in
     ap (λ (s : Stepped). (s, now (a .words))) e ∙ arm (a .p) (a .n) (a .w) (a .taken) (a .process) (now (a .words)) (looked .match .keys2)
 
@@ -176,7 +179,7 @@ unfolding stepOn
 returns-3 c =
     let moved = c .before .before .before in
     let looked = moved .before .before in
-    let a = looked .before .before .args in
+    let a = looked .before .before .before .args in
     let e = ap (afterWords (a .taken)) (moved .read-word .ensures) in
     rw (c .after-word .ensures) (e ∙ arm (a .p) (a .n) (a .w) (a .taken) (a .process) (now (a .words)) (looked .match .keys3))
 
@@ -184,7 +187,7 @@ returns-4 : tie.Need-returns-4
 unfolding stepOn
 returns-4 c =
     let looked = c .before .before in
-    let a = looked .before .before .args in
+    let a = looked .before .before .before .args in
     let e = c .after-help2 .ensures ∙ ap (afterHelp (a .taken)) (c .before .do-line-4 .ensures) in
     ap (λ (s : Stepped). (s, now (a .words))) e ∙ arm (a .p) (a .n) (a .w) (a .taken) (a .process) (now (a .words)) (looked .match .keys4)
 
@@ -192,7 +195,7 @@ returns-5 : tie.Need-returns-5
 unfolding stepOn
 returns-5 c =
     let looked = c .before .before in
-    let a = looked .before .before .args in
+    let a = looked .before .before .before .args in
     let e = c .after-x2 .ensures ∙ ap (afterX (a .taken)) (c .before .do-line-22 .ensures) in
     ap (λ (s : Stepped). (s, now (a .words))) e ∙ arm (a .p) (a .n) (a .w) (a .taken) (a .process) (now (a .words)) (looked .match .keys5)
 
@@ -204,7 +207,7 @@ unfolding stepOn
 returns-6 c =
     let moved = c .before .before .before in
     let looked = moved .before .before in
-    let a = looked .before .before .args in
+    let a = looked .before .before .before .args in
     let e = ap (afterWords (a .taken)) (moved .read-word2 .ensures) in
     rw (c .after-word2 .ensures) (e ∙ arm (a .p) (a .n) (a .w) (a .taken) (a .process) (now (a .words)) (looked .match .keys6))
 
@@ -212,7 +215,7 @@ returns-7 : tie.Need-returns-7
 unfolding stepOn
 returns-7 c =
     let looked = c .before .before in
-    let a = looked .before .before .args in
+    let a = looked .before .before .before .args in
     let e = c .after-x3 .ensures ∙ ap (afterX (a .taken)) (c .before .do-line-7 .ensures) in
     ap (λ (s : Stepped). (s, now (a .words))) e ∙ arm (a .p) (a .n) (a .w) (a .taken) (a .process) (now (a .words)) (looked .match .keys7)
 
@@ -224,7 +227,7 @@ unfolding stepOn
 returns-8 c =
     let moved = c .before .before .before in
     let looked = moved .before .before in
-    let a = looked .before .before .args in
+    let a = looked .before .before .before .args in
     let e = ap (afterWords (a .taken)) (moved .read-word3 .ensures) in
     rw (c .after-word3 .ensures) (e ∙ arm (a .p) (a .n) (a .w) (a .taken) (a .process) (now (a .words)) (looked .match .keys8))
 
@@ -232,7 +235,7 @@ returns-9 : tie.Need-returns-9
 unfolding stepOn
 returns-9 c =
     let looked = c .before .before in
-    let a = looked .before .before .args in
+    let a = looked .before .before .before .args in
     let e = c .after-help3 .ensures ∙ ap (afterHelp (a .taken)) (c .before .do-line-8 .ensures) in
     ap (λ (s : Stepped). (s, now (a .words))) e ∙ arm (a .p) (a .n) (a .w) (a .taken) (a .process) (now (a .words)) (looked .match .keys9)
 
@@ -240,7 +243,7 @@ returns-10 : tie.Need-returns-10
 unfolding stepOn
 returns-10 c =
     let looked = c .before .before in
-    let a = looked .before .before .args in
+    let a = looked .before .before .before .args in
     let e = c .after-help4 .ensures ∙ ap (afterHelp (a .taken)) (c .before .do-line-9 .ensures) in
     ap (λ (s : Stepped). (s, now (a .words))) e ∙ arm (a .p) (a .n) (a .w) (a .taken) (a .process) (now (a .words)) (looked .match .keys10)
 
@@ -248,7 +251,7 @@ returns-11 : tie.Need-returns-11
 unfolding stepOn
 returns-11 c =
     let looked = c .before .before in
-    let a = looked .before .before .args in
+    let a = looked .before .before .before .args in
     let e = c .after-help5 .ensures ∙ ap (afterHelp (a .taken)) (c .before .do-line-10 .ensures) in
     ap (λ (s : Stepped). (s, now (a .words))) e ∙ arm (a .p) (a .n) (a .w) (a .taken) (a .process) (now (a .words)) (looked .match .keys11)
 
@@ -260,7 +263,7 @@ unfolding stepOn
 returns-12 c =
     let moved = c .before .before .before in
     let looked = moved .before .before in
-    let a = looked .before .before .args in
+    let a = looked .before .before .before .args in
     let e = ap (afterWords (a .taken)) (moved .step-11 .ensures) in
     rw (c .after-word4 .ensures) (e ∙ arm (a .p) (a .n) (a .w) (a .taken) (a .process) (now (a .words)) (looked .match .keys12))
 
@@ -268,7 +271,7 @@ returns-13 : tie.Need-returns-13
 unfolding stepOn
 returns-13 c =
     let looked = c .before .before in
-    let a = looked .before .before .args in
+    let a = looked .before .before .before .args in
     let e = c .after-bank .ensures ∙ ap (afterBank (a .taken)) (c .before .do-line-12 .ensures) in
     ap (λ (s : Stepped). (s, now (a .words))) e ∙ arm (a .p) (a .n) (a .w) (a .taken) (a .process) (now (a .words)) (looked .match .keys13)
 
@@ -276,7 +279,7 @@ returns-14 : tie.Need-returns-14
 unfolding stepOn
 returns-14 c =
     let looked = c .before .before in
-    let a = looked .before .before .args in
+    let a = looked .before .before .before .args in
     let e = c .after-x4 .ensures ∙ ap (afterX (a .taken)) (c .before .do-line-12-valid .ensures) in
     ap (λ (s : Stepped). (s, now (a .words))) e ∙ arm (a .p) (a .n) (a .w) (a .taken) (a .process) (now (a .words)) (looked .match .keys14)
 
@@ -284,7 +287,7 @@ returns-15 : tie.Need-returns-15
 unfolding stepOn
 returns-15 c =
     let looked = c .before .before in
-    let a = looked .before .before .args in
+    let a = looked .before .before .before .args in
     let e = c .after-bank2 .ensures ∙ ap (afterBank (a .taken)) (c .before .do-line-13 .ensures) in
     ap (λ (s : Stepped). (s, now (a .words))) e ∙ arm (a .p) (a .n) (a .w) (a .taken) (a .process) (now (a .words)) (looked .match .keys15)
 
@@ -292,7 +295,7 @@ returns-16 : tie.Need-returns-16
 unfolding stepOn
 returns-16 c =
     let looked = c .before .before in
-    let a = looked .before .before .args in
+    let a = looked .before .before .before .args in
     let e = c .after-help6 .ensures ∙ ap (afterHelp (a .taken)) (c .before .do-line-14 .ensures) in
     ap (λ (s : Stepped). (s, now (a .words))) e ∙ arm (a .p) (a .n) (a .w) (a .taken) (a .process) (now (a .words)) (looked .match .keys16)
 
@@ -300,7 +303,7 @@ returns-17 : tie.Need-returns-17
 unfolding stepOn
 returns-17 c =
     let looked = c .before .before in
-    let a = looked .before .before .args in
+    let a = looked .before .before .before .args in
     let e = c .after-x5 .ensures ∙ ap (afterX (a .taken)) (c .before .do-line-14-valid .ensures) in
     ap (λ (s : Stepped). (s, now (a .words))) e ∙ arm (a .p) (a .n) (a .w) (a .taken) (a .process) (now (a .words)) (looked .match .keys17)
 
@@ -308,7 +311,7 @@ returns-18 : tie.Need-returns-18
 unfolding stepOn
 returns-18 c =
     let looked = c .before .before in
-    let a = looked .before .before .args in
+    let a = looked .before .before .before .args in
     let e = c .after-help7 .ensures ∙ ap (afterHelp (a .taken)) (c .before .do-line-15 .ensures) in
     ap (λ (s : Stepped). (s, now (a .words))) e ∙ arm (a .p) (a .n) (a .w) (a .taken) (a .process) (now (a .words)) (looked .match .keys18)
 
@@ -320,7 +323,7 @@ unfolding stepOn
 returns-19 c =
     let moved = c .before .before .before in
     let looked = moved .before .before in
-    let a = looked .before .before .args in
+    let a = looked .before .before .before .args in
     let e = ap (afterWords (a .taken)) (moved .step-17 .ensures) in
     rw (c .after-word5 .ensures) (e ∙ arm (a .p) (a .n) (a .w) (a .taken) (a .process) (now (a .words)) (looked .match .keys19))
 
@@ -328,7 +331,7 @@ returns-20 : tie.Need-returns-20
 unfolding stepOn
 returns-20 c =
     let looked = c .before .before in
-    let a = looked .before .before .args in
+    let a = looked .before .before .before .args in
     let e = c .after-bank3 .ensures ∙ ap (afterBank (a .taken)) (c .before .do-line-18 .ensures) in
     ap (λ (s : Stepped). (s, now (a .words))) e ∙ arm (a .p) (a .n) (a .w) (a .taken) (a .process) (now (a .words)) (looked .match .keys20)
 
@@ -336,7 +339,7 @@ returns-21 : tie.Need-returns-21
 unfolding stepOn
 returns-21 c =
     let looked = c .before .before in
-    let a = looked .before .before .args in
+    let a = looked .before .before .before .args in
     let e = c .after-x6 .ensures ∙ ap (afterX (a .taken)) (c .before .do-line-19 .ensures) in
     ap (λ (s : Stepped). (s, now (a .words))) e ∙ arm (a .p) (a .n) (a .w) (a .taken) (a .process) (now (a .words)) (looked .match .keys21)
 
@@ -344,14 +347,14 @@ returns-22 : tie.Need-returns-22
 unfolding stepOn
 returns-22 c =
     let looked = c .before .before in
-    let a = looked .before .before .args in
+    let a = looked .before .before .before .args in
     let e = c .after-x7 .ensures ∙ ap (afterX (a .taken)) (c .before .do-line-23 .ensures) in
     ap (λ (s : Stepped). (s, now (a .words))) e ∙ arm (a .p) (a .n) (a .w) (a .taken) (a .process) (now (a .words)) (looked .match .keys22)
 
 returns-23 : tie.Need-returns-23
 unfolding stepOn
 returns-23 c =
-    let r1 = c .match .rest in
+    let r1 = c .before .match .rest in
     let r2 = r1 .0 in
     let r3 = r2 .0 in
     let r4 = r3 .0 in
@@ -374,6 +377,7 @@ returns-23 c =
     let r21 = r20 .0 in
     let r22 = r21 .0 in
     simp (
+      c .unmoved .ensures,
       ne-eqb _ _ (r1 .1),
       ne-eqb _ _ (r2 .1),
       ne-eqb _ _ (r3 .1),
@@ -446,6 +450,7 @@ on-taken-spec =
     after-x-requires-6
     do-line-23-requires
     after-x-requires-7
+    unmoved-requires
     returns
     returns-2
     same-length
