@@ -1,19 +1,25 @@
 // The program `schedule`: schedule text from standard input, at most 16,385 bytes, and its listing, of at most 65,536
-// bytes, to standard output.
+// bytes, to standard output. Where and why it was refused, and its open calls, go to standard error.
 fn main() {
     let mut text = [0; 16385];
     let got = io::read_full(0, &mut text);
+    let given = &text[..got];
     let mut words = [0; 5120];
     let mut list = io::large_buffer();
     let bench = model::empty_bench();
     let all = tables::records::records_of(tables::records::no_process());
-    let out = run::text_run::run_by_value(bench, all, 16, &mut words, &text[..got], &mut list);
+    let out = run::text_run::run_by_value(bench, all, 16, &mut words, given, &mut list);
     print(&list, out.written);
+    let left = out.bench;
+    let records = out.all;
+    messages::explain(out.number, out.entries, out.place, left.n, records, given);
 }
 
 // The first bytes of the listing, as many as the run wrote.
 fn print(list: &[u8], written: usize) {
     if written <= list.len() {
-        io::write_all(1, &list[0..written]);
+        if !io::write_all(1, &list[0..written]) {
+            messages::not_written();
+        }
     }
 }

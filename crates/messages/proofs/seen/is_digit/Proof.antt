@@ -1,0 +1,13 @@
+-- `messages::seen::is_digit`: the two bounds.
+use borrow.Author.Tests.{lt-ltb, le-ltb}
+use Rattle.messages.proofs.seen.is_digit.Statement.{statement}
+use Rattle.messages.proofs.seen.is_digit.Tie as tie
+
+returns : tie.Need-returns
+returns c = simp (lt-ltb _ _ (c .if1 .taken))
+
+returns-2 : tie.Need-returns-2
+returns-2 c = simp (le-ltb _ _ (c .if1 .left))
+
+pub is-digit-spec : {M : Type 1} → statement M
+is-digit-spec = tie.close (tie.spec returns returns-2)

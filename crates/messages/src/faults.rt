@@ -1,0 +1,115 @@
+// A fault of a text, 10 or 11: where it is, what was expected there, and what stands there.
+use crate::say;
+use crate::seen;
+use crate::seen::Seen;
+
+// The text is split at the fault's place.
+pub fn fault(number: u8, before: &[u8], rest: &[u8]) {
+    let s = seen::look(before);
+    say::say(b"line ");
+    say::next(s.feeds);
+    say::say(b", column ");
+    say::next(s.since);
+    say::say(b": ");
+    if number == 11 {
+        say::say(b"groups nest at most eight deep, and this ( would open a ninth");
+        return;
+    }
+    if rest.len() == 0 {
+        expected(s, true, 0);
+        say::say(b"; here the text ends");
+        return;
+    }
+    let here = rest[0];
+    expected(s, false, here);
+    say::say(b"; here is ");
+    say::byte(here);
+}
+
+// A digit after a digit is wrong only where it makes the number too large.
+fn expected(s: Seen, ended: bool, here: u8) {
+    if seen::is_digit(s.last) {
+        if seen::is_digit(here) {
+            say::say(b"a number is at most 4,294,967,295");
+            return;
+        }
+    }
+    if s.feeds == 0 {
+        in_first_line(s.spaces, seen::is_digit(s.last));
+        return;
+    }
+    in_items(s, ended, here);
+}
+
+// The first line is N, W and the initial number.
+fn in_first_line(spaces: usize, in_number: bool) {
+    if in_number {
+        match spaces {
+            0 => say::say(b"after N comes one space"),
+            1 => say::say(b"after W comes one space"),
+            _ => say::say(b"after the initial number comes a line feed"),
+        }
+        return;
+    }
+    match spaces {
+        0 => say::say(b"the text begins with N, a number"),
+        1 => say::say(b"after N and one space comes W, a number"),
+        _ => say::say(b"after W and one space comes the initial number"),
+    }
+}
+
+// What is expected is told by the last byte.
+fn in_items(s: Seen, ended: bool, here: u8) {
+    let last = s.last;
+    match last {
+        48..=57 => after_digit(s.mark, ended, here),
+        115 => say::say(b"after s comes a number"),
+        10 | 32 | 40 => before_item(s.solid, ended, here),
+        _ => after_item(ended, here),
+    }
+}
+
+// The number is the value of an `s`, or the first of its item.
+fn after_digit(mark: u8, ended: bool, here: u8) {
+    if mark == b's' {
+        after_item(ended, here);
+        return;
+    }
+    if here == b'(' {
+        say::say(b"the count of a group is 1 to 255");
+        return;
+    }
+    say::say(b"after a process number comes one of l v . ! s, or ( after a count");
+}
+
+fn before_item(solid: u8, ended: bool, here: u8) {
+    if ended {
+        say::say(b"an open group ends with )");
+        return;
+    }
+    if here == b')' {
+        close(solid);
+        return;
+    }
+    say::say(b"an item begins with a process number, or with the count of a group");
+}
+
+fn close(solid: u8) {
+    if solid == b'(' {
+        say::say(b"a group has at least one item");
+        return;
+    }
+    say::say(b"no group is open");
+}
+
+fn after_item(ended: bool, here: u8) {
+    if ended {
+        say::say(b"an open group ends with )");
+        return;
+    }
+    if here == b')' {
+        say::say(b"no group is open");
+        return;
+    }
+    say::say(b"after an item comes a space, a line feed or the ) of its group");
+}
