@@ -3,6 +3,7 @@
 //! as a witness against another program.
 
 pub mod commands;
+pub mod counterexample;
 pub mod history;
 pub mod machine;
 pub mod rng;

@@ -10,7 +10,11 @@ const USAGE: &str = "usage:
   witness compare PROGRAM DIR
   witness compare-trace PROGRAM DIR
   witness history SEED COUNT
-  witness bench-text KIND N W";
+  witness bench-text KIND N W
+  witness difference --wrong READING
+  witness counterexample SEED TRIES --wrong READING
+run, trace and history take --wrong READING too: line9, line10, line14,
+lines67 or modn";
 
 fn main() -> ExitCode {
     let words: Vec<String> = std::env::args().skip(1).collect();

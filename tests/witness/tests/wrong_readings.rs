@@ -3,6 +3,7 @@
 
 mod common;
 use common::listing_when;
+use witness::counterexample::counterexample;
 use witness::history::{record, served_order};
 use witness::machine::Wrong;
 use witness::rng::Rng;
@@ -72,5 +73,25 @@ fn the_search_catches_each_of_them() {
     for (name, wrong) in Wrong::ALL {
         let torn = |index| served_order(&record(&mut Rng::stream(1, index), Some(wrong))).is_none();
         assert!((0..200_000).any(torn), "{name} was never caught");
+    }
+}
+
+/// A text found for a reading shows it: the runs end, and an answer differs.
+#[test]
+fn a_counterexample_is_found_for_each() {
+    for (name, wrong) in Wrong::ALL {
+        let text = counterexample(1, 200_000, wrong).expect(name);
+        let (right, torn) = (listing_when(&text, None), listing_when(&text, Some(wrong)));
+        let answers = |listing: &str| listing.rsplit_once(" / end ").expect(name).0.to_string();
+        assert_ne!(answers(&right), answers(&torn), "{name}: {text}");
+    }
+}
+
+/// Steps in a row are one item, and what is not needed is gone.
+#[test]
+fn a_counterexample_is_short() {
+    for (name, wrong) in Wrong::ALL {
+        let text = counterexample(1, 200_000, wrong).expect(name);
+        assert!(text.len() < 120, "{name}: {text}");
     }
 }

@@ -40,12 +40,13 @@ fn against(
 }
 
 /// The file itself is the standard input, so that a program which stops
-/// reading early does no harm here.
+/// reading early does no harm here. What it says on standard error is no
+/// part of the listing.
 fn output_of(program: &str, path: &Path) -> Result<Vec<u8>, String> {
     let text = File::open(path).map_err(|error| format!("{}: {error}", path.display()))?;
     let output = Command::new(program)
         .stdin(text)
-        .stderr(Stdio::inherit())
+        .stderr(Stdio::null())
         .output();
     Ok(output
         .map_err(|error| format!("{program}: {error}"))?

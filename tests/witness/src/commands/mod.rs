@@ -7,10 +7,13 @@ mod files;
 mod generate;
 mod history;
 mod run;
+mod wrong;
 
 pub use bench_text::bench_text;
 
 use crate::machine::Wrong;
+
+const NO_READING: &str = "a reading is missing: --wrong KIND";
 
 /// Carries out a subcommand and gives the exit status.
 pub fn dispatch(words: &[String]) -> Result<u8, String> {
@@ -24,6 +27,10 @@ pub fn dispatch(words: &[String]) -> Result<u8, String> {
         ["compare", program, dir] => compare::compare(program, dir),
         ["compare-trace", program, dir] => compare::compare_trace(program, dir),
         ["history", seed, count] => history::history(number(seed)?, number(count)?, wrong),
+        ["difference"] => wrong::difference(wrong.ok_or(NO_READING)?),
+        ["counterexample", seed, tries] => {
+            wrong::counterexample(number(seed)?, number(tries)?, wrong.ok_or(NO_READING)?)
+        }
         ["bench-text", kind, n, w] => {
             let text = bench_text(kind, number(n)?, number(w)?)?;
             run::print(text.as_bytes())
@@ -32,8 +39,7 @@ pub fn dispatch(words: &[String]) -> Result<u8, String> {
     }
 }
 
-/// The option `--wrong KIND`, left out of the usage on purpose: it makes
-/// the simulator read Figure 2 wrongly.
+/// The option `--wrong KIND` makes the simulator read Figure 2 wrongly.
 fn take_wrong(words: &[String]) -> Result<(Option<Wrong>, Vec<String>), String> {
     let Some(at) = words.iter().position(|word| word == "--wrong") else {
         return Ok((None, words.to_vec()));

@@ -15,7 +15,7 @@ pub fn trace(wrong: Option<Wrong>) -> Result<u8, String> {
     print(&trace_of(&text_given()?, wrong))
 }
 
-fn text_given() -> Result<Vec<u8>, String> {
+pub fn text_given() -> Result<Vec<u8>, String> {
     let mut text = Vec::new();
     // One byte over the limit is enough to see that a text is too long.
     let taken = stdin().take(TEXT_LIMIT as u64 + 1).read_to_end(&mut text);

@@ -1,5 +1,5 @@
-//! The five readings of Figure 2 that tear the record (01). They are here
-//! only so that a test can be seen to fail.
+//! The five readings of Figure 2 that tear the record (01), so that a test
+//! can be seen to fail and a user can see what each of them does.
 
 #[derive(Clone, Copy, PartialEq, Eq, Debug)]
 pub enum Wrong {
@@ -29,5 +29,10 @@ impl Wrong {
             .iter()
             .find(|(known, _)| *known == name)
             .map(|(_, wrong)| *wrong)
+    }
+
+    pub fn name(self) -> &'static str {
+        let known = Wrong::ALL.iter().find(|(_, wrong)| *wrong == self);
+        known.map_or("", |(name, _)| name)
     }
 }
