@@ -27,9 +27,11 @@ record RightTexts : Type 0 where
   case-A : readText "2 1 5\n0l 0! 0s7 0! 1l 1! 0v 0!\n" ≡ said-after 2 1 5 (StartLl 0 ∷ Finish 0 ∷ StartSc 0 7 ∷ Finish 0 ∷ StartLl 1 ∷ Finish 1 ∷ StartVl 0 ∷ Finish 0 ∷ [])
   -- run B's beginning, with its group
   group : readText "2 1 5\n0l 2(0.) 1l" ≡ said-after 2 1 5 (StartLl 0 ∷ Step 0 ∷ Step 0 ∷ StartLl 1 ∷ [])
-  -- run N: an empty schedule; leading zeros; gaps everywhere they may stand
-  empty : readText "016 64 0\n" ≡ said-after 16 64 0 []
+  -- run N: an empty schedule; gaps everywhere they may stand
+  empty : readText "16 64 0\n" ≡ said-after 16 64 0 []
   gaps : readText "1 1 0\n \n2( 0. \n1(0l) )\n " ≡ said-after 1 1 0 (Step 0 ∷ StartLl 0 ∷ Step 0 ∷ StartLl 0 ∷ [])
+  -- CR 3: `0` itself stays, and zeros that do not lead
+  zeros : readText "0 0 0\n0s0 10. 100(0.)" ≡ said-after 0 0 0 (StartSc 0 0 ∷ Step 10 ∷ times 100 (Step 0 ∷ []))
   -- the largest number
   largest : readText "4294967295 1 5\n" ≡ said-after 4294967295 1 5 []
   -- eight deep
@@ -37,7 +39,7 @@ record RightTexts : Type 0 where
 
 right-texts : RightTexts
 unfolding readText said-after read readFrom proceed step starting inside whole scan go move said more onDigit atEnd kindOf times
-right-texts = record { case-A = refl; group = refl; empty = refl; gaps = refl; largest = refl; eight = refl }
+right-texts = record { case-A = refl; group = refl; empty = refl; gaps = refl; zeros = refl; largest = refl; eight = refl }
 
 -- texts that are not, with the number of bytes from the fault's place on
 record WrongTexts : Type 0 where
@@ -58,6 +60,26 @@ record WrongTexts : Type 0 where
 wrong-texts : WrongTexts
 unfolding readText said-after read readFrom proceed step starting inside whole scan go move said more onDigit atEnd kindOf times
 wrong-texts = record { case-M = refl; unended = refl; two-spaces = refl; too-large = refl; close-by = refl; hollow = refl; stray-close = refl; nine = refl; nine-zero = refl }
+
+-- CR 3: a leading zero is told at the digit after it
+record LeadingZeros : Type 0 where
+  -- in the first line
+  n : readText "02 1 5\n" ≡ wrong 10 6
+  w : readText "2 01 5\n" ≡ wrong 10 4
+  initial : readText "2 1 05\n" ≡ wrong 10 2
+  -- in a process, a count, the number after an `s`
+  process : readText "2 1 5\n00" ≡ wrong 10 1
+  count : readText "2 1 5\n007(0.)" ≡ wrong 10 6
+  offer : readText "2 1 5\n1s00" ≡ wrong 10 1
+  -- also of a number that would be too large
+  large : readText "2 1 5\n04294967296" ≡ wrong 10 10
+  -- a `0` alone breaks only where no item is
+  alone : readText "2 1 5\n0" ≡ wrong 10 0
+  apart : readText "2 1 5\n0 0 0" ≡ wrong 10 4
+
+leading-zeros : LeadingZeros
+unfolding readText read readFrom proceed step starting inside whole scan go move said more onDigit atEnd kindOf
+leading-zeros = record { n = refl; w = refl; initial = refl; process = refl; count = refl; offer = refl; large = refl; alone = refl; apart = refl }
 
 -- a text of the grammar, byte for byte, with what it says and where: its group's items stand at 11 and 14, and are carried out twice
 tree : Text deepest

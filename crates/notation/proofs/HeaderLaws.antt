@@ -13,12 +13,13 @@ use Rattle.notation.specs.declared.Kind.the-variants.{Digit, Gap, Marked
 use Rattle.notation.specs.declared.Digits.{Digits}
 use Rattle.notation.specs.declared.Digits.the-variants.{Value, NoNumber}
 use Rattle.notation.specs.Bytes.{space, lineFeed, kindOf, isDigit}
-use Rattle.notation.specs.Grammar.{largest}
+use Rattle.notation.specs.Grammar.{largest, digitOk}
 use Rattle.notation.specs.Scan.{between, scan}
 use Rattle.notation.specs.FirstLine.{Place, beforeN, inN, beforeW, inW, beforeInitial, inInitial, Next, goes, begins, breaks}
 use Rattle.notation.specs.FirstLine.{starting, inside, step, wrong, whole, proceed, readFrom, past}
-use Rattle.notation.specs.Readers.{Counts, still, digit, NumberSays, Whole, NoneAt, ends, other, exceeds, NumberAtSays, Ended, NotEnded, none, Headed, NotHeaded, noN, noW, noInitial}
-use Rattle.notation.proofs.ScanLaws.{left-at, digit-fits, digit-over}
+use Rattle.notation.specs.Readers.{Counts, still, digit, NumberSays, Whole, NoneAt, ends, other, strayed, NumberAtSays, Ended, NotEnded, none, Headed, NotHeaded, noN, noW, noInitial}
+use Rattle.notation.proofs.ScanLaws.{left-at, digit-fits, digit-stray}
+use Rattle.notation.proofs.NumberLaws.{number-only, number-slice}
 
 -- one byte
 pub read-at : (d : ℕ) (s : List ℕ) (at : ℕ) (m : Place) → at < length s → readFrom d (drop at s) m ≡ past d (drop (at + 1) s) (step m (getD s at 0))
@@ -78,13 +79,13 @@ module _ {m : Place} {f : ℕ → Place} {stop : ℕ} {out : ℕ → Next} (fd :
   pub starts-not : (b : ℕ) → isDigit (kindOf b) ≡ false → step m b ≡ breaks
   starts-not b h = fd .before b ∙ not-starting f (kindOf b) h
 
-  pub goes-on : (v b d : ℕ) → kindOf b ≡ Digit d → v * 10 + d ≤ largest → step (f v) b ≡ goes (f (v * 10 + d))
+  pub goes-on : (v b d : ℕ) → kindOf b ≡ Digit d → digitOk v d ≡ true → step (f v) b ≡ goes (f (v * 10 + d))
   unfolding inside
   goes-on v b d e h = fd .within v b ∙ ap (inside f stop out v b) e ∙ digit-fits v d (λ x. goes (f x)) breaks h
 
-  pub goes-over : (v b d : ℕ) → kindOf b ≡ Digit d → largest < v * 10 + d → step (f v) b ≡ breaks
+  pub goes-astray : (v b d : ℕ) → kindOf b ≡ Digit d → digitOk v d ≡ false → step (f v) b ≡ breaks
   unfolding inside
-  goes-over v b d e h = fd .within v b ∙ ap (inside f stop out v b) e ∙ digit-over v d (λ x. goes (f x)) breaks h
+  goes-astray v b d e h = fd .within v b ∙ ap (inside f stop out v b) e ∙ digit-stray v d (λ x. goes (f x)) breaks h
 
   pub stops-at : (v b : ℕ) → b ≡ stop → step (f v) b ≡ out v
   unfolding inside
@@ -123,9 +124,9 @@ module _ {m : Place} {f : ℕ → Place} {stop : ℕ} {out : ℕ → Next} (fd :
     no-number : {at place : ℕ} → NoneAt s at place → readFrom d (drop at s) m ≡ wrong 10 (length s - place)
     no-number {at} (ends h) = at-end at m h
     no-number {at} (other h k) = off at m h (starts-not (getD s at 0) k)
-    no-number {at} (exceeds {d = x} {place = place} h e o) =
+    no-number {at} (strayed {d = x} {place = place} h e o) =
         on at m (f x) h (starts (getD s at 0) x e) ∙ counted (o .counts)
-        ∙ off place (f (o .v′)) (o .here) (goes-over (o .v′) (getD s place 0) (o .d) (o .is) (o .large))
+        ∙ off place (f (o .v′)) (o .here) (goes-astray (o .v′) (getD s place 0) (o .d) (o .is) (o .not))
 
     pub not-ended : {at place : ℕ} → NotEnded s at stop place → readFrom d (drop at s) m ≡ wrong 10 (length s - place)
     not-ended (none h) = no-number h
@@ -134,8 +135,8 @@ module _ {m : Place} {f : ℕ → Place} {stop : ℕ} {out : ℕ → Next} (fd :
 
 -- a number is read on from its first digit
 pub number-whole : (s : List ℕ) (at d : ℕ) (r : Digits) → at < length s → kindOf (getD s at 0) ≡ Digit d → NumberSays s (at + 1) d r → NumberAtSays s at r
-number-whole s at d (Value v next) h e n = record { d = d; here = h; is = e; numbered = n }
-number-whole s at d (NoNumber place) h e x = exceeds h e x
+number-whole s at d (Value v next) h e n = record { d = d; here = h; is = e; numbered = n; only = number-only (number-slice h e (n .counts)) }
+number-whole s at d (NoNumber place) h e x = strayed h e x
 
 -- the whole first line
 pub ended-within : {s : List ℕ} {at stop v next : ℕ} → Ended s at stop v next → next ≤ length s
@@ -158,7 +159,7 @@ module _ {s : List ℕ} where
   none-inside : {at place : ℕ} → NoneAt s at place → place ≤ length s
   none-inside (ends h) = omega arith
   none-inside (other h k) = omega arith
-  none-inside (exceeds h e o) = omega (arith, o .here)
+  none-inside (strayed h e o) = omega (arith, o .here)
 
   not-ended-inside : {at stop place : ℕ} → NotEnded s at stop place → place ≤ length s
   not-ended-inside (none h) = none-inside h

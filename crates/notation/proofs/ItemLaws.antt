@@ -5,8 +5,8 @@ use mathlib.Core.List.{List, [], _∷_, _++_, append-nil}
 use mathlib.Core.Bool.{Bool, true, false, cond, true≢false}
 use native.Mathlib.Omega.{arith}
 use native.Mathlib.Nat.{lt-irrefl, lt-of-lt-of-le}
-use borrow.Author.Tests.{leb-true, leb-false, eqb-false}
-use lib.Dec.{eqb, leb}
+use borrow.Author.Tests.{leb-true, leb-false}
+use lib.Dec.{leb}
 use lib.ListN.{length, getD, drop}
 use Rattle.notation.specs.declared.Mark.{Mark}
 use Rattle.notation.specs.declared.Mark.the-variants.{Ll, Vl, One, All}
@@ -24,12 +24,13 @@ use Rattle.notation.specs.Bytes.{kindOf, entryOf, isDigit, isGap}
 use Rattle.notation.specs.Grammar.{largest, countOk}
 use Rattle.notation.specs.Scan.{between, num, offer, offerNum, done, bad, move, said, Frame, end, fault, atEnd, go, scan}
 use Rattle.notation.specs.Readers as D
-use Rattle.notation.specs.Readers.{Whole, NoneAt, ends, other, exceeds, NumberAtSays, Skipped, offerOf, Signed, Begins, behindOf, Behind, After, Follows}
+use Rattle.notation.specs.Readers.{Whole, NoneAt, ends, other, strayed, NumberAtSays, Skipped, offerOf, Signed, Begins, behindOf, Behind, After, Follows}
 use Rattle.notation.specs.Stretches.{Goes, Faults, AtItem, Small, Once, Begun, StartSays, Onward, Shuts, Ends, FollowSays}
 use Rattle.notation.proofs.PlaceLaws.{places-marked, places-offer, places-open, places-shut, places-end, places-on, places-gap-shut, places-gap-end}
-use Rattle.notation.proofs.KindLaws.{between-not, offer-not, offer-move}
+use Rattle.notation.proofs.AgainLaws.{mark-again, offer-again, count-again}
+use Rattle.notation.proofs.KindLaws.{unless-zero, between-not, offer-not, offer-move}
 use Rattle.notation.proofs.ScanLaws.{left-at, scan-at, scan-end, opening}
-use Rattle.notation.proofs.ScanLaws.{then, then-fault, byte, byte-bad, end-fault, gaps, numbered, too-large, gathers-num, gathers-offer, leads-num, leads-offer}
+use Rattle.notation.proofs.ScanLaws.{then, then-fault, byte, byte-bad, end-fault, gaps, numbered, no-number, gathers-num, gathers-offer, leads-num, leads-offer}
 
 at-end-num : (v : ℕ) (stack : List Frame) (os : List Entry) → atEnd (num v) stack os ≡ fault 10 0
 unfolding atEnd
@@ -54,18 +55,10 @@ marked-small All p h = h
 
 -- a count of a group is from 1 to 255
 count-turns : (n : ℕ) → countOk n ≡ true → 0 < n
-count-turns n ok = pick (eqb n 0) refl
-  where
-    pick : (t : Bool) → eqb n 0 ≡ t → 0 < n
-    pick true e = absurd (true≢false (sym ok ∙ ap (λ (x : Bool). cond x false (leb n 255)) e))
-    pick false e = omega (arith, eqb-false n 0 e)
+count-turns n ok = unless-zero n (leb n 255) ok .0
 
 count-few : (n : ℕ) → countOk n ≡ true → n ≤ 255
-count-few n ok = pick (eqb n 0) refl
-  where
-    pick : (t : Bool) → eqb n 0 ≡ t → n ≤ 255
-    pick true e = absurd (true≢false (sym ok ∙ ap (λ (x : Bool). cond x false (leb n 255)) e))
-    pick false e = leb-true n 255 (sym (ap (λ (x : Bool). cond x false (leb n 255)) e) ∙ ok)
+count-few n ok = leb-true n 255 (unless-zero n (leb n 255) ok .1)
 
 module _ {s : List ℕ} where
   -- the number of an `s` ends at a byte that is no digit, or with the text
@@ -85,7 +78,7 @@ module _ {s : List ℕ} where
   offer-none : {at place : ℕ} (p : ℕ) → NoneAt s at place → Faults s at (offer p) 10 place
   offer-none {at} p (ends h) = end-fault (offer p) at h (at-end-s p)
   offer-none {at} p (other h k) = byte-bad (offer p) (kindOf (getD s at 0)) at h refl (offer-not p (kindOf (getD s at 0)) k)
-  offer-none p (exceeds h e x) = too-large (leads-offer p) (gathers-offer p) h e x
+  offer-none p (strayed h e x) = no-number (leads-offer p) (gathers-offer p) h e x
 
   -- the first number of an item, or none
   first : {at v next : ℕ} → Whole s at v next → Goes s at (between false) next (num v) []
@@ -94,7 +87,7 @@ module _ {s : List ℕ} where
   first-none : {at place : ℕ} → AtItem s at → NoneAt s at place → Faults s at (between false) 10 place
   first-none a (ends h) = absurd (lt-irrefl _ (lt-of-lt-of-le (a .here) h))
   first-none {at} a (other h k) = byte-bad (between false) (kindOf (getD s at 0)) at h refl (between-not (kindOf (getD s at 0)) k (a .item))
-  first-none a (exceeds h e x) = too-large (leads-num false) gathers-num h e x
+  first-none a (strayed h e x) = no-number (leads-num false) gathers-num h e x
 
   module _ {at v place : ℕ} (w : Whole s at v place) where
     cut-off : length s ≤ place → Faults s at (between false) 10 (length s)
@@ -110,6 +103,7 @@ module _ {s : List ℕ} where
         on = omega (arith, w .numbered .on);
         small = marked-small m v (w .numbered .small);
         goes = then (first w) (byte (num v) done (Marked m) (entryOf m v ∷ []) place h e refl refl);
+        again = mark-again w h m e;
         places = places-marked w h m e;
       }
 
@@ -123,6 +117,7 @@ module _ {s : List ℕ} where
         on = omega (arith, w .numbered .on, x .numbered .on);
         small = (w .numbered .small, x .numbered .small);
         goes = then (to-offer e) (then (numbered (leads-offer v) (gathers-offer v) x) (offer-ends v k next (x .numbered .within) (x .numbered .stops)));
+        again = offer-again w h e x;
         places = places-offer w h e x;
       }
 
@@ -137,6 +132,7 @@ module _ {s : List ℕ} where
         within = omega arith;
         turns = count-turns v ok;
         few = count-few v ok;
+        again = count-again w h k;
         places = places-open w h k;
         same = λ stack os d. opened k stack os d ∙ ap (opening (drop (place + 1) s) v stack os d) ok;
       }

@@ -1,21 +1,24 @@
 -- Laws of kinds of bytes.
 use Prim.Native.Nat.{ℕ, _+_, _-_, _*_, _≤_, _<_}
-use mathlib.Core.Path.{_≡_, refl, subst}
+use mathlib.Core.Path.{_≡_, refl, sym, ap, subst, _∙_}
 use mathlib.Core.List.{List, [], _∷_}
 use mathlib.Core.Bool.{Bool, true, false, cond, true≢false}
 use native.Mathlib.Omega.{arith}
-use borrow.Author.Tests.{leb-true, le-leb, lt-leb, eq-eqb, ne-eqb}
+use borrow.Author.Tests.{leb-true, le-leb, lt-leb, eqb-true, eqb-false, eq-eqb, ne-eqb}
 use lib.Dec.{eqb, leb}
 use types.Run.{OneOf, miss}
 use denote.Enum.Declared.{tagOf}
 use Rattle.notation.proofs.Kind.{the-type}
+use Rattle.listing.specs.Quoted.{byte}
+use Rattle.notation.specs.declared.Mark.{Mark}
+use Rattle.notation.specs.declared.Mark.the-variants.{Ll, Vl, One, All}
 use Rattle.notation.specs.declared.Kind.{Kind}
 use Rattle.notation.specs.declared.Kind.the-variants.{Digit, Gap, Marked, Offer, Open, Close, Other}
 use Rattle.notation.specs.declared.Entry.the-variants.{StartSc}
 use Rattle.notation.specs.declared.Start.the-variants.{Group, Wrong}
 use Rattle.notation.specs.declared.Follow.the-variants.{Stray}
 use Rattle.notation.specs.Bytes.{kindOf, isDigit, isGap}
-use Rattle.notation.specs.Grammar.{countOk}
+use Rattle.notation.specs.Grammar.{largest, digitOk, countOk}
 use Rattle.notation.specs.Scan.{between, offer, offerNum, done, bad, move, said}
 use Rattle.notation.specs.Readers.{Signed, After, behindOf}
 
@@ -51,6 +54,58 @@ small b =
 
 pub digit-small : (b d : ℕ) → kindOf b ≡ Digit d → d ≤ 9
 digit-small b d e = subst (λ (k : Kind). digitOf k ≤ 9) e (small b)
+
+-- the byte of each kind that has one
+abbrev markByte : Mark → ℕ
+markByte Ll = byte "l"
+markByte Vl = byte "v"
+markByte One = byte "."
+markByte All = byte "!"
+
+abbrev Told : ℕ → Kind → Type 0
+Told b (Digit d) = b ≡ 48 + d
+Told b Gap = Unit {0}
+Told b (Marked m) = b ≡ markByte m
+Told b Offer = b ≡ byte "s"
+Told b Open = b ≡ byte "("
+Told b Close = b ≡ byte ")"
+Told b Other = Unit {0}
+
+told : (b : ℕ) → Told b (kindOf b)
+unfolding kindOf
+told b =
+    either T (leb 48 b) _ _
+    (λ e. either T (leb b 57) _ _ (λ _. omega (arith, leb-true 48 b e))
+    (λ _. either T (eqb b 108) _ _ (eqb-true b 108) (λ _. either T (eqb b 118) _ _ (eqb-true b 118) (λ _. either T (eqb b 115) _ _ (eqb-true b 115) (λ _. tt)))))
+    (λ e. either T (eqb b 32) _ _ (λ _. tt) (λ _. either T (eqb b 10) _ _ (λ _. tt) (λ _. either T (eqb b 46) _ _ (eqb-true b 46)
+    (λ _. either T (eqb b 33) _ _ (eqb-true b 33) (λ _. either T (eqb b 40) _ _ (eqb-true b 40) (λ _. either T (eqb b 41) _ _ (eqb-true b 41) (λ _. tt)))))))
+  where
+    T : Kind → Type 0
+    T k = Told b k
+
+pub byte-of : {k : Kind} (b : ℕ) → kindOf b ≡ k → Told b k
+byte-of b e = subst (Told b) e (told b)
+
+-- a test that a number is not 0, and of something else
+pub unless-zero : (n : ℕ) (t : Bool) → cond (eqb n 0) false t ≡ true → (0 < n) × (t ≡ true)
+unless-zero n t h = pick (eqb n 0) refl
+  where
+    same : (x : Bool) → eqb n 0 ≡ x → cond x false t ≡ true
+    same x e = ap (λ (y : Bool). cond y false t) (sym e) ∙ h
+
+    pick : (x : Bool) → eqb n 0 ≡ x → (0 < n) × (t ≡ true)
+    pick true e = absurd (true≢false (sym (same true e)))
+    pick false e = (omega (arith, eqb-false n 0 e), same false e)
+
+-- a digit that may follow digits of value v
+pub ok-some : (v d : ℕ) → digitOk v d ≡ true → 0 < v
+ok-some v d h = unless-zero v (leb (v * 10 + d) largest) h .0
+
+pub ok-small : (v d : ℕ) → digitOk v d ≡ true → v * 10 + d ≤ largest
+ok-small v d h = leb-true (v * 10 + d) largest (unless-zero v (leb (v * 10 + d) largest) h .1)
+
+pub ok : (v d : ℕ) → 0 < v → v * 10 + d ≤ largest → digitOk v d ≡ true
+ok v d p h = simp (ne-eqb v 0 (λ z. omega arith), le-leb _ _ h)
 
 -- a kind whose tag is not the digit's
 pub not-digit : (k : Kind) → OneOf (1 ∷ 2 ∷ 3 ∷ 4 ∷ 5 ∷ 6 ∷ []) (tagOf the-type k) → isDigit k ≡ false

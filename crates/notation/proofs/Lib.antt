@@ -1,9 +1,12 @@
 pub mod KindLaws
+pub mod NumberLaws
 pub mod ScanLaws
 pub mod PlaceLaws
-pub mod ItemLaws
 pub mod HeaderLaws
+pub mod AgainLaws
+pub mod ItemLaws
 pub mod Agreement
+pub mod WrittenTrees
 pub mod Trees
 pub mod TextTrees
 pub mod ScanPlaces

@@ -62,7 +62,7 @@ map-same (p ∷ l) = ap (λ (x : List ℕ). p ∷ x) (map-same l)
 
 -- a text of the grammar, its first line, and its items read to the end of the text
 module _ (t : Text deepest) {s list list′ : List ℕ} {n w v items to : ℕ} (is : bytes t ≡ s) (h : Headed s n w v items)
-    (x : Keeps list list′ 0 to (λ es. ItemsEnded s items deepest es) (λ ps. EndsAfter s items ps)) where
+    (x : Keeps s list list′ 0 to (λ es. ItemsEnded s items deepest es) (λ ps. EndsAfter s items ps)) where
   -- the entries are those of the text
   pub listed-says : says t ≡ record { n = n; w = w; initial = v; entries = x .says }
   listed-says = right-same (sym (right-is-read t) ∙ ap read is ∙ text-ended h (x .read))

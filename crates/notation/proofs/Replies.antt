@@ -1,5 +1,5 @@
 -- What a reader promises fixes its reply: two replies that keep the promise are one.
-use Prim.Native.Nat.{ℕ, _+_, _*_, _≤_, _<_}
+use Prim.Native.Nat.{ℕ, _+_, _≤_, _<_}
 use mathlib.Core.Path.{_≡_, refl, sym, ap, subst, _∙_}
 use mathlib.Core.List.{List}
 use mathlib.Core.Bool.{Bool, true, false, true≢false}
@@ -17,11 +17,12 @@ use Rattle.notation.specs.declared.Follow.{Follow}
 use Rattle.notation.specs.declared.Header.{Header}
 use Rattle.notation.specs.declared.Header.the-variants.{First, NoFirst}
 use Rattle.notation.specs.Bytes.{space, lineFeed, kindOf, isDigit, isGap}
-use Rattle.notation.specs.Grammar.{largest}
+use Rattle.notation.specs.Grammar.{digitOk}
 use Rattle.notation.specs.Readers as D
-use Rattle.notation.specs.Readers.{Counts, Numbered, Exceeds, NumberSays, Whole, NoneAt, NumberAtSays, Ended}
+use Rattle.notation.specs.Readers.{Counts, Numbered, StrayDigit, NumberSays, Whole, NoneAt, NumberAtSays, Ended}
 use Rattle.notation.specs.Readers.{NotEnded, FieldSays, Headed, NotHeaded, HeaderSays, Gapped, Skipped, offerOf}
 use Rattle.notation.specs.Readers.{Signed, Begins, Behind, After, Follows}
+use Rattle.notation.proofs.NumberLaws.{counts-on}
 
 -- below, or the same
 below-or : (P : Type 0) (i n : ℕ) → i < n + 1 → (i < n → P) → (i ≡ n → P) → P
@@ -39,10 +40,6 @@ digit-same q = cc
 
 module _ (s : List ℕ) where
   -- digits of one number
-  counts-on : {at v next v′ : ℕ} → Counts s at v next v′ → at ≤ next
-  counts-on D.still = omega arith
-  counts-on (D.digit c l e f) = omega (arith, counts-on c)
-
   digits-between : {at v next v′ : ℕ} → Counts s at v next v′ → (i : ℕ) → at ≤ i → i < next → isDigit (kindOf (getD s i 0)) ≡ true
   digits-between D.still i p q = absurd (omega arith)
   digits-between (D.digit {next = next} c l e f) i p q = below-or _ i next q (λ r. digits-between c i p r) (λ r. ap (λ (x : ℕ). isDigit (kindOf (getD s x 0))) r ∙ ap isDigit e)
@@ -56,9 +53,9 @@ module _ (s : List ℕ) where
   counts-same (D.digit c l e f) D.still r = absurd (omega (arith, counts-on c))
   counts-same (D.digit {next = i} c l e f) (D.digit {next = j} c₂ l₂ e₂ f₂) r = omega (arith, counts-same c c₂ (omega arith), one-digit i j (omega arith) e e₂)
 
-  fits-at : {at v n a i b d : ℕ} → Counts s at v n a → Counts s at v i b → i < n → kindOf (getD s i 0) ≡ Digit d → b * 10 + d ≤ largest
+  fits-at : {at v n a i b d : ℕ} → Counts s at v n a → Counts s at v i b → i < n → kindOf (getD s i 0) ≡ Digit d → digitOk b d ≡ true
   fits-at D.still c₂ q k = absurd (omega (arith, counts-on c₂))
-  fits-at {i = i} (D.digit {next = next} c l e f) c₂ q k = below-or _ i next q (λ r. fits-at c c₂ r k) (λ r. omega (arith, counts-same c₂ c r, one-digit i next r k e))
+  fits-at {i = i} (D.digit {next = next} c l e f) c₂ q k = below-or _ i next q (λ r. fits-at c c₂ r k) (λ r. let p = counts-same c₂ c r in let q = one-digit i next r k e in cc)
 
   -- one number
   stops-first : {at v a n b m : ℕ} → Numbered s at v a n → Numbered s at v b m → n < m → ⊥
@@ -67,11 +64,11 @@ module _ (s : List ℕ) where
   numbered-one : {at v a n b m : ℕ} → Numbered s at v a n → Numbered s at v b m → (a ≡ b) × (n ≡ m)
   numbered-one {n = n} {m = m} p q = let r = same-if n m (stops-first p q) (stops-first q p) in (counts-same (p .counts) (q .counts) r, r)
 
-  exceeds-not : {at v a n i : ℕ} → Exceeds s at v i → Numbered s at v a n → ⊥
-  exceeds-not {n = n} {i = i} x p = below-or ⊥ i n (omega (arith, later)) over here
+  stray-not : {at v a n i : ℕ} → StrayDigit s at v i → Numbered s at v a n → ⊥
+  stray-not {n = n} {i = i} x p = below-or ⊥ i n (omega (arith, later)) over here
     where
       over : i < n → ⊥
-      over r = omega (arith, fits-at (p .counts) (x .counts) r (x .is), x .large)
+      over r = true≢false (sym (fits-at (p .counts) (x .counts) r (x .is)) ∙ x .not)
 
       here : i ≡ n → ⊥
       here r = true≢false (sym (ap isDigit (x .is)) ∙ ap (λ (y : ℕ). isDigit (kindOf (getD s y 0))) r ∙ p .stops (omega (arith, x .here)))
@@ -79,17 +76,17 @@ module _ (s : List ℕ) where
       later : n < i → ⊥
       later l = true≢false (sym (digits-between (x .counts) n (p .on) l) ∙ p .stops (omega (arith, x .here)))
 
-  exceeds-first : {at v i j : ℕ} → Exceeds s at v i → Exceeds s at v j → i < j → ⊥
-  exceeds-first x y l = omega (arith, fits-at (y .counts) (x .counts) l (x .is), x .large)
+  stray-first : {at v i j : ℕ} → StrayDigit s at v i → StrayDigit s at v j → i < j → ⊥
+  stray-first x y l = true≢false (sym (fits-at (y .counts) (x .counts) l (x .is)) ∙ x .not)
 
-  exceeds-one : {at v i j : ℕ} → Exceeds s at v i → Exceeds s at v j → i ≡ j
-  exceeds-one {i = i} {j = j} x y = same-if i j (exceeds-first x y) (exceeds-first y x)
+  stray-one : {at v i j : ℕ} → StrayDigit s at v i → StrayDigit s at v j → i ≡ j
+  stray-one {i = i} {j = j} x y = same-if i j (stray-first x y) (stray-first y x)
 
   pub number-one : (at v : ℕ) (r r′ : Digits) → NumberSays s at v r → NumberSays s at v r′ → r ≡ r′
   number-one at v (Value a n) (Value b m) p q = let e = numbered-one p q in let x = e .0 in let y = e .1 in cc
-  number-one at v (Value a n) (NoNumber j) p q = absurd (exceeds-not q p)
-  number-one at v (NoNumber i) (Value b m) p q = absurd (exceeds-not p q)
-  number-one at v (NoNumber i) (NoNumber j) p q = ap NoNumber (exceeds-one p q)
+  number-one at v (Value a n) (NoNumber j) p q = absurd (stray-not q p)
+  number-one at v (NoNumber i) (Value b m) p q = absurd (stray-not p q)
+  number-one at v (NoNumber i) (NoNumber j) p q = ap NoNumber (stray-one p q)
 
   whole-one : {at a n b m : ℕ} → Whole s at a n → Whole s at b m → (a ≡ b) × (n ≡ m)
   whole-one {at} {b = b} {m = m} p q = numbered-one (p .numbered) (subst (λ (x : ℕ). Numbered s (at + 1) x b m) (one-digit at at refl (q .is) (p .is)) (q .numbered))
@@ -97,19 +94,19 @@ module _ (s : List ℕ) where
   none-not : {at a n i : ℕ} → NoneAt s at i → Whole s at a n → ⊥
   none-not (D.ends h) w = omega (arith, w .here)
   none-not (D.other h k) w = true≢false (sym (ap isDigit (w .is)) ∙ k)
-  none-not {at} {a} {n} (D.exceeds h e x) w = exceeds-not x (subst (λ (y : ℕ). Numbered s (at + 1) y a n) (one-digit at at refl (w .is) e) (w .numbered))
+  none-not {at} {a} {n} (D.strayed h e x) w = stray-not x (subst (λ (y : ℕ). Numbered s (at + 1) y a n) (one-digit at at refl (w .is) e) (w .numbered))
 
   none-one : {at i j : ℕ} → NoneAt s at i → NoneAt s at j → i ≡ j
   none-one (D.ends h) (D.ends h₂) = refl
   none-one (D.ends h) (D.other h₂ k) = absurd (omega arith)
-  none-one (D.ends h) (D.exceeds h₂ e x) = absurd (omega arith)
+  none-one (D.ends h) (D.strayed h₂ e x) = absurd (omega arith)
   none-one (D.other h k) (D.ends h₂) = absurd (omega arith)
   none-one (D.other h k) (D.other h₂ k₂) = refl
-  none-one (D.other h k) (D.exceeds h₂ e x) = absurd (true≢false (sym (ap isDigit e) ∙ k))
-  none-one (D.exceeds h e x) (D.ends h₂) = absurd (omega arith)
-  none-one (D.exceeds h e x) (D.other h₂ k) = absurd (true≢false (sym (ap isDigit e) ∙ k))
-  none-one {at} (D.exceeds h e x) (D.exceeds {place = j} h₂ e₂ y) =
-      exceeds-one x (subst (λ (d : ℕ). Exceeds s (at + 1) d j) (one-digit at at refl e₂ e) y)
+  none-one (D.other h k) (D.strayed h₂ e x) = absurd (true≢false (sym (ap isDigit e) ∙ k))
+  none-one (D.strayed h e x) (D.ends h₂) = absurd (omega arith)
+  none-one (D.strayed h e x) (D.other h₂ k) = absurd (true≢false (sym (ap isDigit e) ∙ k))
+  none-one {at} (D.strayed h e x) (D.strayed {place = j} h₂ e₂ y) =
+      stray-one x (subst (λ (d : ℕ). StrayDigit s (at + 1) d j) (one-digit at at refl e₂ e) y)
 
   pub number-at-one : (at : ℕ) (r r′ : Digits) → NumberAtSays s at r → NumberAtSays s at r′ → r ≡ r′
   number-at-one at (Value a n) (Value b m) p q = let e = whole-one p q in let x = e .0 in let y = e .1 in cc

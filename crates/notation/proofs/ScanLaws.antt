@@ -5,7 +5,6 @@ use mathlib.Core.List.{List, [], _∷_, _++_, append-assoc, append-nil}
 use mathlib.Core.Bool.{Bool, true, false, cond}
 use native.Mathlib.Omega.{arith}
 use native.Mathlib.Numerals.{add-one}
-use borrow.Author.Tests.{le-leb, lt-leb}
 use lib.ListN.{length, getD, drop, length-drop, drop-of-length-le}
 use lib.Seq.{drop-cons}
 use Rattle.notation.specs.declared.Kind.{Kind}
@@ -13,10 +12,10 @@ use Rattle.notation.specs.declared.Kind.the-variants.{Digit, Gap}
 use Rattle.notation.specs.declared.Entry.{Entry}
 use Rattle.notation.specs.declared.Entry.the-variants.{StartSc}
 use Rattle.notation.specs.Bytes.{kindOf}
-use Rattle.notation.specs.Grammar.{largest}
+use Rattle.notation.specs.Grammar.{digitOk}
 use Rattle.notation.specs.Scan.{onDigit, Mode, between, num, offer, offerNum, done, to, bad, more, move, said, Frame, Verdict, fault, atEnd, entered, go, scan}
 use Rattle.notation.specs.Readers as D
-use Rattle.notation.specs.Readers.{Counts, still, digit, Exceeds, Whole, Gapped}
+use Rattle.notation.specs.Readers.{Counts, still, digit, StrayDigit, Whole, Gapped}
 use Rattle.notation.specs.Stretches.{Goes, Faults}
 
 -- one byte
@@ -39,13 +38,13 @@ abbrev pub opening : List ℕ → ℕ → List Frame → List Entry → ℕ → 
 opening l n stack os d t = cond t (entered (scan l) (suc (length l)) n stack os d) (fault 10 (suc (length l)))
 
 -- one more digit of a number
-pub digit-fits : {A : Type 0} (v d : ℕ) (fits : ℕ → A) (over : A) → v * 10 + d ≤ largest → onDigit v d fits over ≡ fits (v * 10 + d)
+pub digit-fits : {A : Type 0} (v d : ℕ) (fits : ℕ → A) (stray : A) → digitOk v d ≡ true → onDigit v d fits stray ≡ fits (v * 10 + d)
 unfolding onDigit
-digit-fits v d fits over h = simp (le-leb _ _ h)
+digit-fits v d fits stray h = ap (λ t. cond t (fits (v * 10 + d)) stray) h
 
-pub digit-over : {A : Type 0} (v d : ℕ) (fits : ℕ → A) (over : A) → largest < v * 10 + d → onDigit v d fits over ≡ over
+pub digit-stray : {A : Type 0} (v d : ℕ) (fits : ℕ → A) (stray : A) → digitOk v d ≡ false → onDigit v d fits stray ≡ stray
 unfolding onDigit
-digit-over v d fits over h = simp (lt-leb _ _ h)
+digit-stray v d fits stray h = ap (λ t. cond t (fits (v * 10 + d)) stray) h
 
 -- a mode that gathers a number
 pub record Gathers (f : ℕ → Mode) : Type 0 where
@@ -73,13 +72,13 @@ pub leads-offer : (p : ℕ) → Leads (offer p) (offerNum p)
 unfolding move said
 leads-offer p = record { moves = λ d. refl; says = λ d. refl }
 
-pub more-fits : (f : ℕ → Mode) (v d : ℕ) → v * 10 + d ≤ largest → more f v d ≡ to (f (v * 10 + d))
+pub more-fits : (f : ℕ → Mode) (v d : ℕ) → digitOk v d ≡ true → more f v d ≡ to (f (v * 10 + d))
 unfolding more
 more-fits f v d h = digit-fits v d (λ x. to (f x)) bad h
 
-pub more-over : (f : ℕ → Mode) (v d : ℕ) → largest < v * 10 + d → more f v d ≡ bad
+pub more-stray : (f : ℕ → Mode) (v d : ℕ) → digitOk v d ≡ false → more f v d ≡ bad
 unfolding more
-more-over f v d h = digit-over v d (λ x. to (f x)) bad h
+more-stray f v d h = digit-stray v d (λ x. to (f x)) bad h
 
 module _ {s : List ℕ} where
   pub stay : (at : ℕ) (m : Mode) → at ≤ length s → Goes s at m at m []
@@ -122,14 +121,14 @@ module _ {s : List ℕ} where
   counted {at} {v} f g h still = stay at (f v) h
   counted f g h (digit {next = next} {v′ = v′} {d = d} c l e fits) = then (counted f g h c) (byte (f v′) (f (v′ * 10 + d)) (Digit d) [] next l e (g .moves v′ d ∙ more-fits f v′ d fits) (g .says v′ d))
 
-  pub exceeded : {at v place : ℕ} (f : ℕ → Mode) → Gathers f → at ≤ length s → Exceeds s at v place → Faults s at (f v) 10 place
-  exceeded {place = place} f g h x =
-      let over = g .moves (x .v′) (x .d) ∙ more-over f (x .v′) (x .d) (x .large) in
-      then-fault (counted f g h (x .counts)) (byte-bad (f (x .v′)) (Digit (x .d)) place (x .here) (x .is) over)
+  strayed : {at v place : ℕ} (f : ℕ → Mode) → Gathers f → at ≤ length s → StrayDigit s at v place → Faults s at (f v) 10 place
+  strayed {place = place} f g h x =
+      let stray = g .moves (x .v′) (x .d) ∙ more-stray f (x .v′) (x .d) (x .not) in
+      then-fault (counted f g h (x .counts)) (byte-bad (f (x .v′)) (Digit (x .d)) place (x .here) (x .is) stray)
 
   -- a number from its first digit on
   pub numbered : {at v next : ℕ} {m : Mode} {f : ℕ → Mode} → Leads m f → Gathers f → Whole s at v next → Goes s at m next (f v) []
   numbered {at} {m = m} {f = f} l g w = then (byte m (f (w .d)) (Digit (w .d)) [] at (w .here) (w .is) (l .moves (w .d)) (l .says (w .d))) (counted f g (omega (arith, w .here)) (w .numbered .counts))
 
-  pub too-large : {at d place : ℕ} {m : Mode} {f : ℕ → Mode} → Leads m f → Gathers f → at < length s → kindOf (getD s at 0) ≡ Digit d → Exceeds s (at + 1) d place → Faults s at m 10 place
-  too-large {at} {d} {m = m} {f = f} l g h e x = then-fault (byte m (f d) (Digit d) [] at h e (l .moves d) (l .says d)) (exceeded f g (omega arith) x)
+  pub no-number : {at d place : ℕ} {m : Mode} {f : ℕ → Mode} → Leads m f → Gathers f → at < length s → kindOf (getD s at 0) ≡ Digit d → StrayDigit s (at + 1) d place → Faults s at m 10 place
+  no-number {at} {d} {m = m} {f = f} l g h e x = then-fault (byte m (f d) (Digit d) [] at h e (l .moves d) (l .says d)) (strayed f g (omega arith) x)

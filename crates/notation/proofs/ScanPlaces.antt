@@ -4,14 +4,13 @@ use mathlib.Core.Path.{_≡_, refl, sym, ap, _∙_}
 use mathlib.Core.List.{List, [], _∷_, _++_, map}
 use mathlib.Core.Bool.{Bool, true, false, true≢false}
 use native.Mathlib.Omega.{arith}
-use lib.Dec.{leb}
 use lib.ListN.{length, take, getD}
 use Rattle.notation.specs.declared.Kind.{Kind}
 use Rattle.notation.specs.declared.Kind.the-variants.{Digit, Gap, Marked, Offer, Open, Close, Other}
 use Rattle.notation.specs.declared.Entry.{Entry}
 use Rattle.notation.specs.declared.Entry.the-variants.{StartLl, StartSc}
 use Rattle.notation.specs.Bytes.{kindOf}
-use Rattle.notation.specs.Grammar.{largest, countOk, times}
+use Rattle.notation.specs.Grammar.{digitOk, countOk, times}
 use Rattle.notation.specs.Scan.{onDigit, Mode, between, num, offer, offerNum, done, Move, to, enter, leave, bad, more, move, said, Frame, Verdict, end, shut, fault, atEnd, entered, go, scan}
 use Rattle.notation.proofs.KindLaws.{either}
 use Rattle.notation.proofs.ScanLaws.{opening}
@@ -145,7 +144,7 @@ bad-enter q = let z : _≡_ {A = ℕ} 0 1 = cc in omega arith
 
 more-enter : (f : ℕ → Mode) (v d : ℕ) {n : ℕ} → more f v d ≡ enter n → ⊥
 unfolding more onDigit
-more-enter f v d {n} = either (λ (x : Move). x ≡ enter n → ⊥) (leb (v * 10 + d) largest) (to (f (v * 10 + d))) bad (λ _. to-enter) (λ _. bad-enter)
+more-enter f v d {n} = either (λ (x : Move). x ≡ enter n → ⊥) (digitOk v d) (to (f (v * 10 + d))) bad (λ _. to-enter) (λ _. bad-enter)
 
 opens : (m : Mode) (k : Kind) (n : ℕ) → move m k ≡ enter n → k ≡ Open
 unfolding move

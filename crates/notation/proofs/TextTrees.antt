@@ -1,17 +1,17 @@
 -- What the reading says, the grammar gives: the first line and the whole text.
-use Prim.Native.Nat.{ℕ, _+_, _*_, _≤_}
+use Prim.Native.Nat.{ℕ, _+_, _*_}
 use mathlib.Core.Path.{_≡_, refl, sym, ap, subst, _∙_}
 use mathlib.Core.List.{List, [], _∷_, _++_, append-assoc, append-nil}
 use mathlib.Core.Bool.{Bool, true, false, cond}
 use native.Mathlib.Omega.{arith}
-use borrow.Author.Tests.{leb-true, eqb-true}
-use lib.Dec.{eqb, leb}
+use borrow.Author.Tests.{eqb-true}
+use lib.Dec.{eqb}
 use Rattle.notation.specs.declared.Kind.{Kind}
 use Rattle.notation.specs.declared.Kind.the-variants.{Digit, Gap, Marked, Offer, Open, Close, Other}
 use Rattle.notation.specs.declared.Entry.{Entry}
 use Rattle.notation.specs.Bytes.{space, lineFeed, kindOf}
 use Rattle.notation.specs.Grammar as G
-use Rattle.notation.specs.Grammar.{Byte, Number, FirstLine, Said, Text, largest, firstBytes, scheduleBytes, scheduleSays, bytes, says}
+use Rattle.notation.specs.Grammar.{Byte, Number, FirstLine, Said, Text, digitOk, firstBytes, scheduleBytes, scheduleSays, bytes, says}
 use Rattle.notation.specs.Scan.{onDigit, between, Verdict, end, shut, fault, scan}
 use Rattle.notation.specs.FirstLine.{Place, beforeN, inN, beforeW, inW, beforeInitial, inInitial, Next, goes, begins, breaks}
 use Rattle.notation.specs.FirstLine.{starting, inside, step, right, wrong, whole, proceed, readFrom, past}
@@ -79,11 +79,11 @@ start-then f b c Close e h = tt
 start-then f b c Other e h = tt
 
 module _ (f : ℕ → Place) (stop : ℕ) (out : ℕ → Next) (v : ℕ) (b : List ℕ) (c : ℕ) where
-  digit-then : (d : ℕ) → (v * 10 + d ≤ largest → Stands (f (v * 10 + d)) (b ++ c ∷ [])) → Then (onDigit v d (λ x. goes (f x)) breaks) b c
+  digit-then : (d : ℕ) → (digitOk v d ≡ true → Stands (f (v * 10 + d)) (b ++ c ∷ [])) → Then (onDigit v d (λ x. goes (f x)) breaks) b c
   unfolding onDigit
-  digit-then d h = either (λ (x : Next). Then x b c) (leb (v * 10 + d) largest) (goes (f (v * 10 + d))) breaks (λ e. h (leb-true _ _ e)) (λ e. tt)
+  digit-then d h = either (λ (x : Next). Then x b c) (digitOk v d) (goes (f (v * 10 + d))) breaks h (λ e. tt)
 
-  inside-then : (k : Kind) → Byte c k → ((d : ℕ) → Byte c (Digit d) → v * 10 + d ≤ largest → Stands (f (v * 10 + d)) (b ++ c ∷ [])) → (c ≡ stop → Then (out v) b c) → Then (inside f stop out v c k) b c
+  inside-then : (k : Kind) → Byte c k → ((d : ℕ) → Byte c (Digit d) → digitOk v d ≡ true → Stands (f (v * 10 + d)) (b ++ c ∷ [])) → (c ≡ stop → Then (out v) b c) → Then (inside f stop out v c k) b c
   unfolding inside
   inside-then (Digit d) e h s = digit-then d (h d e)
   inside-then Gap e h s = either (λ (x : Next). Then x b c) (eqb c stop) (out v) breaks (λ t. s (eqb-true _ _ t)) (λ t. tt)

@@ -1,17 +1,22 @@
--- The theorems about the notation: the grammar and the byte-at-a-time reading agree, each entry has one place, and every text that is not right has one fault at one place.
-use Prim.Native.Nat.{ℕ, _+_}
+-- The theorems about the notation: the grammar and the byte-at-a-time reading agree, each entry has one place, numbers
+-- are written one way only, and every text that is not right has one fault at one place.
+use Prim.Native.Nat.{ℕ, _+_, _≤_}
 use mathlib.Core.Path.{_≡_, sym, ap, _∙_}
 use mathlib.Core.List.{List}
 use mathlib.Core.Logic.{_⊎_}
 use native.Mathlib.Omega.{arith}
 use lib.ListN.{length}
-use Rattle.notation.specs.Grammar.{Text, Said, bytes, says, places, deepest}
+use Rattle.listing.specs.Decimal.{decimal}
+use Rattle.notation.specs.Grammar.{largest, Number, Item, FirstLine, Text, Said, itemBytes, firstBytes, bytes, says, places, deepest}
+use Rattle.notation.specs.Written.{firstWritten, itemWritten, written, Standing}
 use Rattle.notation.specs.FirstLine.{right, wrong, read}
 use Rattle.notation.specs.Places.{locateText}
 use Rattle.notation.specs.Right.{Right, Tells, Fault}
 use Rattle.notation.proofs.Agreement.{text-read}
 use Rattle.notation.proofs.TextTrees.{text-given, right-same}
 use Rattle.notation.proofs.PlacedTrees.{text-placed, text-even}
+use Rattle.notation.proofs.NumberLaws.{number-only, digits-of}
+use Rattle.notation.proofs.WrittenTrees.{first-line, item-bytes, text-bytes, text-stands}
 use Rattle.notation.proofs.TextPlaces.{fault-placed, fault-left, same-place, same-fault, fault-wrong, decided}
 
 -- every right text is read to what it says
@@ -37,6 +42,27 @@ place-for-each t = text-even t
 
 pub places-one-way : (t u : Text deepest) → bytes t ≡ bytes u → places t ≡ places u
 places-one-way t u e = sym (text-placed t) ∙ ap (λ (s : List ℕ). locateText s 0) e ∙ text-placed u
+
+-- CR 3: the digits of a number are the only ones for its value, and every value has them
+pub only-digits : (ds : List ℕ) (v : ℕ) → Number ds v → ds ≡ decimal v
+only-digits ds v n = number-only n
+
+pub digits-for-each : (v : ℕ) → v ≤ largest → Number (decimal v) v
+digits-for-each v h = digits-of v h
+
+-- CR 3: "a number read and written again gives the same digits": in the first line, in an item or a group, in a text
+pub first-line-again : (f : FirstLine) → firstBytes f ≡ firstWritten (f .n) (f .w) (f .initial)
+first-line-again f = first-line f
+
+pub item-again : {d : ℕ} (i : Item d) → itemBytes i ≡ itemWritten i
+item-again i = item-bytes i
+
+pub text-again : (t : Text deepest) → bytes t ≡ written t
+text-again t = text-bytes t
+
+-- and so each entry that a text says, at its place
+pub entries-again : (t : Text deepest) → Standing (bytes t) (places t) (says t .entries)
+entries-again t = text-stands t
 
 -- a text that is not read to an end has a fault of the reading's number, at the first byte after which no text could be right
 pub wrong-has-fault : (s : List ℕ) (k left : ℕ) → read s ≡ wrong k left → Fault s k

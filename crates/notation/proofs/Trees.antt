@@ -1,19 +1,17 @@
 -- What the reading says, the grammar gives: the items.
-use Prim.Native.Nat.{ℕ, zero, suc, _+_, _*_, _≤_}
+use Prim.Native.Nat.{ℕ, zero, suc, _+_, _*_}
 use lib.ListN.{length}
 use mathlib.Core.Path.{_≡_, refl, sym, ap, subst, _∙_}
 use mathlib.Core.List.{List, [], _∷_, _++_, append-assoc, append-nil}
 use mathlib.Core.Bool.{Bool, true, false, cond}
 use native.Mathlib.Omega.{arith}
-use borrow.Author.Tests.{leb-true}
-use lib.Dec.{leb}
 use Rattle.notation.specs.declared.Kind.{Kind}
 use Rattle.notation.specs.declared.Kind.the-variants.{Digit, Gap, Marked, Offer, Open, Close, Other}
 use Rattle.notation.specs.declared.Entry.{Entry}
 use Rattle.notation.specs.declared.Entry.the-variants.{StartSc}
 use Rattle.notation.specs.Bytes.{kindOf, entryOf}
 use Rattle.notation.specs.Grammar as G
-use Rattle.notation.specs.Grammar.{Byte, Number, Gaps, Item, Items, Lead, Schedule, largest, countOk, times}
+use Rattle.notation.specs.Grammar.{Byte, Number, Gaps, Item, Items, Lead, Schedule, digitOk, countOk, times}
 use Rattle.notation.specs.Grammar.{itemBytes, itemsBytes, leadBytes, scheduleBytes, itemSays, itemsSay, leadSays}
 use Rattle.notation.specs.Grammar.{scheduleSays}
 use Rattle.notation.specs.Scan.{onDigit, Mode, between, num, offer, offerNum, done, Move, to, enter, leave, bad, more, move, said, Frame, Verdict, end, shut, fault, atEnd, entered, go, scan}
@@ -111,9 +109,9 @@ snoc₃ x y z c e = snoc x (y ++ z) c e ∙ ap (λ (r : List ℕ). x ++ r) (appe
 none-said : {os es : List Entry} → os ≡ es → os ++ [] ≡ es
 none-said {os} e = append-nil os ∙ e
 
-more-then : (d : ℕ) (b : List ℕ) (c : ℕ) (os : List Entry) (f : ℕ → Mode) (v x : ℕ) → (v * 10 + x ≤ largest → Then d (to (f (v * 10 + x))) b c os) → Then d (more f v x) b c os
+more-then : (d : ℕ) (b : List ℕ) (c : ℕ) (os : List Entry) (f : ℕ → Mode) (v x : ℕ) → (digitOk v x ≡ true → Then d (to (f (v * 10 + x))) b c os) → Then d (more f v x) b c os
 unfolding more onDigit
-more-then d b c os f v x h = either (λ (y : Move). Then d y b c os) (leb (v * 10 + x) largest) (to (f (v * 10 + x))) bad (λ e. h (leb-true _ _ e)) (λ e. tt)
+more-then d b c os f v x h = either (λ (y : Move). Then d y b c os) (digitOk v x) (to (f (v * 10 + x))) bad h (λ e. tt)
 
 -- the next byte
 next : (d : ℕ) (b : List ℕ) (c : ℕ) (os : List Entry) (m : Mode) (k : Kind) → Byte c k → Stands d m b os → Then d (move m k) b c (os ++ said m k)

@@ -1,6 +1,6 @@
 -- The notation of schedules, to be held against 01's "Schedule text and listing": which bytes a text has, and what they
 -- say.
-use Prim.Native.Nat.{ℕ, zero, suc, _+_, _*_, _≤_}
+use Prim.Native.Nat.{ℕ, zero, suc, _+_, _*_}
 use mathlib.Core.Path.{_≡_}
 use mathlib.Core.List.{List, [], _∷_, _++_}
 use mathlib.Core.Bool.{Bool, true, false, cond}
@@ -21,10 +21,15 @@ pub record Byte (c : ℕ) (k : Kind) : Type 0 where
 abbrev pub largest : ℕ
 largest = 4294967295
 
--- digits `ds` of value v; 01: "leading zeros are allowed"
+-- CR 3: "A number in schedule text must no longer have a leading zero; `0` itself stays": a digit d may follow digits of
+-- value v unless they are a zero, and unless the number becomes too large
+abbrev pub digitOk : ℕ → ℕ → Bool
+digitOk v d = cond (eqb v 0) false (leb (v * 10 + d) largest)
+
+-- digits `ds` of value v
 pub data Number : List ℕ → ℕ → Type 0 where
   digit : {c d : ℕ} → Byte c (Digit d) → Number (c ∷ []) d
-  more : {ds : List ℕ} {v c d : ℕ} → Number ds v → Byte c (Digit d) → v * 10 + d ≤ largest → Number (ds ++ c ∷ []) (v * 10 + d)
+  more : {ds : List ℕ} {v c d : ℕ} → Number ds v → Byte c (Digit d) → digitOk v d ≡ true → Number (ds ++ c ∷ []) (v * 10 + d)
 
 -- spaces and line feeds, or nothing
 pub data Gaps : List ℕ → Type 0 where

@@ -1,5 +1,6 @@
 pub mod Bytes
 pub mod Grammar
+pub mod Written
 pub mod Scan
 pub mod FirstLine
 pub mod Right

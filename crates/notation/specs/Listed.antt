@@ -12,6 +12,7 @@ use Rattle.notation.specs.declared.items.Items.{Items}
 use Rattle.notation.specs.declared.items.Items.the-variants.{Ended, Closed, Broken}
 use Rattle.notation.specs.EntryWords.{entryIn, keptEntry, largestPlace, placeIn}
 use Rattle.notation.specs.Places.{fore, tail, Moves, ClosesAfter, EndsAfter}
+use Rattle.notation.specs.Written.{Standing}
 use Rattle.notation.specs.Stretches.{Begun}
 use Rattle.notation.specs.Groups.{ItemRead, ItemBroken, ItemsEnded, ItemsClosed, ItemsBroken}
 
@@ -55,12 +56,14 @@ pub record Repeated (list list′ : List ℕ) (from to n end : ℕ) : Type 0 whe
   pub before : (i : ℕ) → i < to → getD list′ i 0 ≡ getD list i 0
   pub again : (i : ℕ) → to ≤ i → i < end → getD list′ i 0 ≡ getD list′ (i - (to - from)) 0
 
--- an item or items read once, and what they say and where they stand kept
-pub record Keeps (list list′ : List ℕ) (from to : ℕ) (P : List Entry → Type 0) (Q : List ℕ → Type 0) : Type 0 where
+-- an item or items of s read once, and what they say and where they stand kept; CR 3: "a number read and written again
+-- gives the same digits"
+pub record Keeps (s list list′ : List ℕ) (from to : ℕ) (P : List Entry → Type 0) (Q : List ℕ → Type 0) : Type 0 where
   pub says : List Entry
   pub read : P says
   pub places : List ℕ
   pub located : Q places
+  pub again : Standing s places says
   pub lists : Lists list list′ from to says places
 
 -- a fault leaves the array its length
@@ -69,7 +72,7 @@ pub record Spoilt (list list′ : List ℕ) (A : Type 0) : Type 0 where
   pub lent : length list′ ≡ length list
 
 abbrev pub ItemIs : List ℕ → ℕ → ℕ → List ℕ → List ℕ → ℕ → Done → Type 0
-ItemIs s at d list list′ from (At next to) = Keeps list list′ from to (λ es. ItemRead s at d next es) (λ ps. Moves s at fore next tail ps)
+ItemIs s at d list list′ from (At next to) = Keeps s list list′ from to (λ es. ItemRead s at d next es) (λ ps. Moves s at fore next tail ps)
 ItemIs s at d list list′ from (Failed k place) = Spoilt list list′ (ItemBroken s at d k place)
 
 pub record ItemSays (s : List ℕ) (at d : ℕ) (list list′ : List ℕ) (from : ℕ) (o : Done) : Type 0 where
@@ -89,8 +92,8 @@ pub record GroupSays (s : List ℕ) (n body d : ℕ) (list list′ : List ℕ) (
   pub is : (at : ℕ) → Begun s at n body → ItemSays s at d list list′ from o
 
 abbrev pub ItemsAre : List ℕ → ℕ → ℕ → List ℕ → List ℕ → ℕ → Items → Type 0
-ItemsAre s at d list list′ from (Ended to) = Keeps list list′ from to (λ es. ItemsEnded s at d es) (λ ps. EndsAfter s at ps)
-ItemsAre s at d list list′ from (Closed next to) = Keeps list list′ from to (λ es. ItemsClosed s at d next es) (λ ps. ClosesAfter s at next ps)
+ItemsAre s at d list list′ from (Ended to) = Keeps s list list′ from to (λ es. ItemsEnded s at d es) (λ ps. EndsAfter s at ps)
+ItemsAre s at d list list′ from (Closed next to) = Keeps s list list′ from to (λ es. ItemsClosed s at d next es) (λ ps. ClosesAfter s at next ps)
 ItemsAre s at d list list′ from (Broken k place) = Spoilt list list′ (ItemsBroken s at d k place)
 
 pub record ItemsSay (s : List ℕ) (at d : ℕ) (list list′ : List ℕ) (from : ℕ) (o : Items) : Type 0 where

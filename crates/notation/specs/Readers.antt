@@ -3,8 +3,10 @@
 use Prim.Native.Nat.{ℕ, _+_, _*_, _≤_, _<_}
 use mathlib.Core.Path.{_≡_}
 use mathlib.Core.List.{List}
-use mathlib.Core.Bool.{false, cond}
-use lib.ListN.{length, getD}
+use mathlib.Core.Bool.{true, false, cond}
+use lib.ListN.{length, getD, take}
+use lib.Seq.{slice}
+use Rattle.listing.specs.Decimal.{decimal}
 use Rattle.notation.specs.declared.Kind.{Kind}
 use Rattle.notation.specs.declared.Kind.the-variants.{Digit, Gap, Marked, Offer, Open, Close, Other}
 use Rattle.notation.specs.declared.Entry.the-variants.{StartSc}
@@ -17,12 +19,13 @@ use Rattle.notation.specs.declared.Follow.the-variants.{Item, Shut, End,
 use Rattle.notation.specs.declared.Header.{Header}
 use Rattle.notation.specs.declared.Header.the-variants.{First, NoFirst}
 use Rattle.notation.specs.Bytes.{space, lineFeed, kindOf, entryOf, isDigit, isGap}
-use Rattle.notation.specs.Grammar.{largest, countOk}
+use Rattle.notation.specs.Grammar.{largest, digitOk, countOk}
+use Rattle.notation.specs.Written.{entryWritten, countWritten, firstWritten}
 
 -- the digits from `at` to `next` lead a number from v to v′
 pub data Counts (s : List ℕ) (at v : ℕ) : ℕ → ℕ → Type 0 where
   still : Counts s at v at v
-  digit : {next v′ d : ℕ} → Counts s at v next v′ → next < length s → kindOf (getD s next 0) ≡ Digit d → v′ * 10 + d ≤ largest → Counts s at v (next + 1) (v′ * 10 + d)
+  digit : {next v′ d : ℕ} → Counts s at v next v′ → next < length s → kindOf (getD s next 0) ≡ Digit d → digitOk v′ d ≡ true → Counts s at v (next + 1) (v′ * 10 + d)
 
 -- all the digits from `at` on
 pub record Numbered (s : List ℕ) (at v v′ next : ℕ) : Type 0 where
@@ -32,31 +35,32 @@ pub record Numbered (s : List ℕ) (at v v′ next : ℕ) : Type 0 where
   pub small : v′ ≤ largest
   pub stops : next < length s → isDigit (kindOf (getD s next 0)) ≡ false
 
--- the digit at `next` makes the number too large
-pub record Exceeds (s : List ℕ) (at v next : ℕ) : Type 0 where
+-- the digit at `next` may not stand there: the number is a zero, or it makes the number too large
+pub record StrayDigit (s : List ℕ) (at v next : ℕ) : Type 0 where
   pub v′ : ℕ
   pub d : ℕ
   pub counts : Counts s at v next v′
   pub here : next < length s
   pub is : kindOf (getD s next 0) ≡ Digit d
-  pub large : largest < v′ * 10 + d
+  pub not : digitOk v′ d ≡ false
 
 abbrev pub NumberSays : List ℕ → ℕ → ℕ → Digits → Type 0
 NumberSays s at v (Value v′ next) = Numbered s at v v′ next
-NumberSays s at v (NoNumber place) = Exceeds s at v place
+NumberSays s at v (NoNumber place) = StrayDigit s at v place
 
--- a number from its first digit on
+-- a number from its first digit on; CR 3: "its digits are the only ones for that value"
 pub record Whole (s : List ℕ) (at v next : ℕ) : Type 0 where
   pub d : ℕ
   pub here : at < length s
   pub is : kindOf (getD s at 0) ≡ Digit d
   pub numbered : Numbered s (at + 1) d v next
+  pub only : slice at next s ≡ decimal v
 
 -- no number stands there: the text ends, or the byte at a place is in the way
 pub data NoneAt (s : List ℕ) (at : ℕ) : ℕ → Type 0 where
   ends : length s ≤ at → NoneAt s at (length s)
   other : at < length s → isDigit (kindOf (getD s at 0)) ≡ false → NoneAt s at at
-  exceeds : {d place : ℕ} → at < length s → kindOf (getD s at 0) ≡ Digit d → Exceeds s (at + 1) d place → NoneAt s at place
+  strayed : {d place : ℕ} → at < length s → kindOf (getD s at 0) ≡ Digit d → StrayDigit s (at + 1) d place → NoneAt s at place
 
 abbrev pub NumberAtSays : List ℕ → ℕ → Digits → Type 0
 NumberAtSays s at (Value v next) = Whole s at v next
@@ -79,13 +83,14 @@ abbrev pub FieldSays : List ℕ → ℕ → ℕ → Digits → Type 0
 FieldSays s at stop (Value v next) = Ended s at stop v next
 FieldSays s at stop (NoNumber place) = NotEnded s at stop place
 
--- the first line, and where the items begin
+-- the first line, and where the items begin; CR 3: "a number read and written again gives the same digits"
 pub record Headed (s : List ℕ) (n w v next : ℕ) : Type 0 where
   pub second : ℕ
   pub third : ℕ
   pub nEnds : Ended s 0 space n second
   pub wEnds : Ended s second space w third
   pub initialEnds : Ended s third lineFeed v next
+  pub again : take next s ≡ firstWritten n w v
 
 pub data NotHeaded (s : List ℕ) : ℕ → Type 0 where
   noN : {place : ℕ} → NotEnded s 0 space place → NotHeaded s place
@@ -133,6 +138,16 @@ pub data Begins (s : List ℕ) (at : ℕ) : Start → Type 0 where
   none : {place : ℕ} → NoneAt s at place → Begins s at (Wrong place)
   ends : {v place : ℕ} → Whole s at v place → length s ≤ place → Begins s at (Wrong (length s))
   signed : {v place : ℕ} {k : Kind} {r : Start} → Whole s at v place → place < length s → kindOf (getD s place 0) ≡ k → Signed s v place k r → Begins s at r
+
+-- CR 3: "a number read and written again gives the same digits": an item's, and a group's count
+abbrev pub WrittenAgain : List ℕ → ℕ → Start → Type 0
+WrittenAgain s at (Single e next) = slice at next s ≡ entryWritten e
+WrittenAgain s at (Group n next) = slice at next s ≡ countWritten n
+WrittenAgain s at (Wrong place) = Unit {0}
+
+pub record BeginSays (s : List ℕ) (at : ℕ) (r : Start) : Type 0 where
+  pub begins : Begins s at r
+  pub again : WrittenAgain s at r
 
 -- what the byte behind an item and gaps makes
 abbrev pub behindOf : ℕ → Kind → Follow

@@ -3,18 +3,17 @@
 use Prim.Native.Nat.{ℕ, zero, suc, _+_, _*_}
 use mathlib.Core.List.{List, [], _∷_, _++_}
 use mathlib.Core.Bool.{Bool, true, false, cond}
-use lib.Dec.{leb}
 use lib.ListN.{length}
 use Rattle.notation.specs.declared.Kind.{Kind}
 use Rattle.notation.specs.declared.Kind.the-variants.{Digit, Gap, Marked, Offer, Open, Close, Other}
 use Rattle.notation.specs.declared.Entry.{Entry}
 use Rattle.notation.specs.declared.Entry.the-variants.{StartLl, StartVl, StartSc, Step, Finish}
 use Rattle.notation.specs.Bytes.{kindOf, entryOf}
-use Rattle.notation.specs.Grammar.{largest, countOk, times}
+use Rattle.notation.specs.Grammar.{digitOk, countOk, times}
 
 -- one more digit of a number that is v so far
 unfoldable pub onDigit : {A : Type 0} → ℕ → ℕ → (ℕ → A) → A → A
-onDigit v d fits over = cond (leb (v * 10 + d) largest) (fits (v * 10 + d)) over
+onDigit v d fits stray = cond (digitOk v d) (fits (v * 10 + d)) stray
 
 -- where a reading stands
 pub data Mode : Type 0 where

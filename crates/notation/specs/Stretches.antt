@@ -5,6 +5,7 @@ use mathlib.Core.Path.{_≡_}
 use mathlib.Core.List.{List, [], _∷_, _++_}
 use mathlib.Core.Bool.{false}
 use lib.ListN.{length, drop, getD}
+use lib.Seq.{slice}
 use Rattle.notation.specs.declared.Entry.{Entry}
 use Rattle.notation.specs.declared.Entry.the-variants.{StartLl, StartVl, StartSc, Step, Finish}
 use Rattle.notation.specs.declared.Start.{Start}
@@ -13,6 +14,7 @@ use Rattle.notation.specs.declared.Follow.{Follow}
 use Rattle.notation.specs.declared.Follow.the-variants.{Item, Shut, End, Stray}
 use Rattle.notation.specs.Bytes.{kindOf, isGap}
 use Rattle.notation.specs.Grammar.{largest}
+use Rattle.notation.specs.Written.{entryWritten, countWritten}
 use Rattle.notation.specs.Places.{fore, tail, Moves, Opens, Closes, EndsHere}
 use Rattle.notation.specs.Scan.{Mode, between, done, Frame, end, shut, fault, entered, scan}
 
@@ -45,6 +47,7 @@ pub record Once (s : List ℕ) (at : ℕ) (m : Mode) (e : Entry) (next : ℕ) : 
   pub on : at < next
   pub small : Small e
   pub goes : Goes s at m next done (e ∷ [])
+  pub again : slice at next s ≡ entryWritten e
   pub places : Moves s at fore next tail (at ∷ [])
 
 -- a group up to its `(`
@@ -53,6 +56,7 @@ pub record Begun (s : List ℕ) (at n next : ℕ) : Type 0 where
   pub within : next ≤ length s
   pub turns : 0 < n
   pub few : n ≤ 255
+  pub again : slice at next s ≡ countWritten n
   pub places : Opens s at n next
   pub same : (stack : List Frame) (os : List Entry) (d : ℕ) → scan (drop at s) (between false) stack os d ≡ entered (scan (drop next s)) (suc (length (drop next s))) n stack os d
 

@@ -8,8 +8,8 @@ ghost use mathlib.Core.Path.{_≡_};
 ghost use Prim.Native.Nat.{_≤_};
 ghost use lib.ListN.{length};
 ghost use Rattle.notation.specs.Bytes.{kindOf, entryOf};
-ghost use Rattle.notation.specs.Grammar.{largest};
-ghost use Rattle.notation.specs.Readers.{NumberSays, NumberAtSays, FieldSays, HeaderSays, Skipped, Begins, Follows};
+ghost use Rattle.notation.specs.Grammar.{largest, digitOk};
+ghost use Rattle.notation.specs.Readers.{NumberSays, NumberAtSays, FieldSays, HeaderSays, Skipped, BeginSays, Follows};
 
 // What a letter or a sign orders: `l`, `v`, `.` one step, `!` all steps until the call answers.
 pub enum Mark {
@@ -99,6 +99,17 @@ pub fn entry_of(m: Mark, p: u64) -> Entry
     }
 }
 
+// Whether the digit d may follow digits that make a value: no digit follows a leading zero, and the number must fit.
+fn may_follow(value: u64, d: u64) -> bool
+    requires { ⌜ (value ≤ largest) × (d ≤ 9) ⌝ }
+    ensures { λ r. ⌜ r ≡ digitOk value d ⌝ }
+{
+    if value == 0 {
+        return false;
+    }
+    value * 10 + d <= 4294967295
+}
+
 // The digits from a place on, after digits that make v.
 pub fn number(text: &[u8], at: usize, v: u64) -> Digits
     requires { ⌜ (at ≤ length (now text)) × (v ≤ largest) ⌝ }
@@ -111,11 +122,10 @@ pub fn number(text: &[u8], at: usize, v: u64) -> Digits
         let Kind::Digit(d) = k else {
             return Digits::Value(value, next);
         };
-        let more = value * 10 + d;
-        if 4294967295 < more {
+        if !may_follow(value, d) {
             return Digits::NoNumber(next);
         }
-        value = more;
+        value = value * 10 + d;
         next += 1;
     }
     Digits::Value(value, next)
@@ -198,7 +208,7 @@ pub fn skip(text: &[u8], at: usize) -> usize
 // An item up to its end, or to the `(` of a group.
 pub fn begin(text: &[u8], at: usize) -> Start
     requires { ⌜ at ≤ length (now text) ⌝ }
-    ensures { λ r. ⌜ Begins (now (text .entry)) at r ⌝ }
+    ensures { λ r. ⌜ BeginSays (now (text .entry)) at r ⌝ }
 {
     let got = number_at(text, at);
     match got {

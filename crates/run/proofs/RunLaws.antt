@@ -80,7 +80,7 @@ module _ (t : Bool) (s : List ℕ) (f : First) (m : Memory) (list : List ℕ) wh
 
   -- a right text, by what its list keeps
   pub kept-says : {list₀ entries : List ℕ} {to : ℕ} {Q : List ℕ → Type 0} → length list₀ ≡ 60001
-      → Keeps list₀ entries 0 to (λ es. ItemsEnded s (f .items) deepest es) Q
+      → Keeps s list₀ entries 0 to (λ es. ItemsEnded s (f .items) deepest es) Q
       → startedWith t f (entriesIn to entries) m list ≡ saysAfter t s f m list
   unfolding whole
   kept-says {list₀} {entries} {to} l k =

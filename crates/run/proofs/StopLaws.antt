@@ -141,7 +141,7 @@ module _ {t : Bool} {m : Memory} {s list : List ℕ} where
 
 -- a right text, by what its list keeps
 module _ (t : Bool) (m : Memory) (list : List ℕ) {s list₀ entries : List ℕ} {to : ℕ} {f : First} (l : length list₀ ≡ 60001) (h : Headed s (f .n) (f .w) (f .initial) (f .items))
-    (k : Keeps list₀ entries 0 to (λ es. ItemsEnded s (f .items) deepest es) (λ ps. EndsAfter s (f .items) ps)) where
+    (k : Keeps s list₀ entries 0 to (λ es. ItemsEnded s (f .items) deepest es) (λ ps. EndsAfter s (f .items) ps)) where
   right-text : Right deepest s
   right-text = let told = read-is-right s _ (text-ended h (k .read)) in record { tree = told .tree; text = told .text }
 

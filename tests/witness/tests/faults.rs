@@ -44,7 +44,7 @@ fn in_the_first_line() {
     }
     check(10, "429496729^6 1 5\n");
     check(10, "2 1 5^\r\n");
-    check(10, "2 1 00429496729^60\n");
+    check(10, "2 1 0^0429496729\n");
 }
 
 #[test]
@@ -70,6 +70,37 @@ fn in_groups() {
     check(10, "2 1 5\n4294967295^(0l)");
 }
 
+/// At the digit after it, whatever stands further right.
+#[test]
+fn at_a_leading_zero() {
+    for first in [
+        "0^2 1 5\n",
+        "2 0^1 5\n",
+        "2 1 0^5\n",
+        "0^0 0 0\n",
+        "0 0 0^0\n",
+    ] {
+        check(10, first);
+    }
+    for items in [
+        "0^0",
+        "0^0l",
+        "0^1(0l)",
+        "0^07(0.)",
+        "1(0^1.)",
+        "1s0^0",
+        "0s0^7 x",
+        "0^4294967296",
+        "0s0^00000000000000000000",
+    ] {
+        check(10, &format!("2 1 5\n{items}"));
+    }
+    // A zero alone is a number, and stops where one would.
+    for items in ["0^", "0^ 0 0", "0^(0l)", "0s0^("] {
+        check(10, &format!("2 1 5\n{items}"));
+    }
+}
+
 #[test]
 fn at_the_ninth_bracket() {
     let eight = format!("2 1 5\n{}", "1(".repeat(8));
@@ -86,7 +117,8 @@ fn right_ones() {
     for text in [
         "2 1 5\n",
         "2 1 5\n \n",
-        "0002 01 4294967295\n\n0l\n",
+        "2 1 4294967295\n\n0l\n",
+        "0 0 0\n0l 0s0 10. 100(0.) 1s1000",
         "9 9 9\n255( 1(0l\n)\n) 0s1",
     ] {
         assert!(parse(text.as_bytes()).is_ok(), "{text}");

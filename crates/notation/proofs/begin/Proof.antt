@@ -4,6 +4,7 @@ use borrow.Author.Needs.{needs}
 use Rattle.notation.specs.declared.Digits.the-variants.{Value, NoNumber}
 use Rattle.notation.specs.Readers.{NumberAtSays, none, ends, signed}
 use Rattle.notation.proofs.KindLaws.{unsigned, count-zero, count-over, count-fits}
+use Rattle.notation.proofs.AgainLaws.{begin-again}
 use Rattle.notation.proofs.begin.Statement.{statement}
 use Rattle.notation.proofs.begin.Tie as tie
 
@@ -20,7 +21,7 @@ returns : tie.Need-returns
 returns c =
     let c2 = c .before .before in let c4 = c2 .before .before in
     let w = subst (NumberAtSays _ _) (c2 .got2 .given .1) (c4 .number-at .ensures) in
-    ends w (c .if1 .taken)
+    begin-again (ends w (c .if1 .taken))
 
 shared-slice-read-class : tie.Need-shared-slice-read-class
 shared-slice-read-class c = search needs
@@ -64,7 +65,7 @@ returns-2 c =
     let c9 = c7 .before .before in
     let w = subst (NumberAtSays _ _) (c7 .got2 .given .1) (c9 .number-at .ensures) in
     let e = sym (c3 .class .ensures) ∙ c1 .enum-told2 .given .1 in
-    signed w (c5 .if1 .left) e (count-zero _ _ _ (c .if2 .taken))
+    begin-again (signed w (c5 .if1 .left) e (count-zero _ _ _ (c .if2 .taken)))
 
 returns-3 : tie.Need-returns-3
 returns-3 c =
@@ -76,7 +77,7 @@ returns-3 c =
     let c10 = c8 .before .before in
     let w = subst (NumberAtSays _ _) (c8 .got2 .given .1) (c10 .number-at .ensures) in
     let e = sym (c4 .class .ensures) ∙ c2 .enum-told2 .given .1 in
-    signed w (c6 .if1 .left) e (count-over _ _ _ (c1 .if2 .left) (c .if3 .taken))
+    begin-again (signed w (c6 .if1 .left) e (count-over _ _ _ (c1 .if2 .left) (c .if3 .taken)))
 
 add-t26 : tie.Need-add-t26
 add-t26 c = search needs
@@ -84,7 +85,7 @@ add-t26 c = search needs
 returns-4 : tie.Need-returns-4
 returns-4 c =
     let c1 = c .before in let c3 = c1 .before .before in
-    none (subst (NumberAtSays _ _) (c1 .got .given .1) (c3 .number-at .ensures))
+    begin-again (none (subst (NumberAtSays _ _) (c1 .got .given .1) (c3 .number-at .ensures)))
 
 returns-5 : tie.Need-returns-5
 returns-5 c =
@@ -95,7 +96,7 @@ returns-5 c =
     let c10 = c8 .before .before in
     let w = subst (NumberAtSays _ _) (c8 .got2 .given .1) (c10 .number-at .ensures) in
     let e = sym (c4 .class .ensures) ∙ c2 .sign .given .1 in
-    rw (c .entry-of .ensures) (signed w (c6 .if1 .left) e refl)
+    rw (c .entry-of .ensures) (begin-again (signed w (c6 .if1 .left) e refl))
 
 returns-6 : tie.Need-returns-6
 returns-6 c =
@@ -108,7 +109,7 @@ returns-6 c =
     let c12 = c10 .before .before in
     let w = subst (NumberAtSays _ _) (c10 .got2 .given .1) (c12 .number-at .ensures) in
     let e = sym (c6 .class .ensures) ∙ c4 .enum-told .given .1 in
-    signed w (c8 .if1 .left) e (record { number = NoNumber _; is = subst (NumberAtSays _ _) (c1 .word .given .1) (c3 .number-at2 .ensures); same = refl })
+    begin-again (signed w (c8 .if1 .left) e (record { number = NoNumber _; is = subst (NumberAtSays _ _) (c1 .word .given .1) (c3 .number-at2 .ensures); same = refl }))
 
 returns-7 : tie.Need-returns-7
 returns-7 c =
@@ -121,7 +122,7 @@ returns-7 c =
     let c12 = c10 .before .before in
     let w = subst (NumberAtSays _ _) (c10 .got2 .given .1) (c12 .number-at .ensures) in
     let e = sym (c6 .class .ensures) ∙ c4 .enum-told .given .1 in
-    signed w (c8 .if1 .left) e (record { number = Value _ _; is = subst (NumberAtSays _ _) (c1 .word2 .given .1) (c3 .number-at2 .ensures); same = refl })
+    begin-again (signed w (c8 .if1 .left) e (record { number = Value _ _; is = subst (NumberAtSays _ _) (c1 .word2 .given .1) (c3 .number-at2 .ensures); same = refl }))
 
 returns-8 : tie.Need-returns-8
 returns-8 c =
@@ -133,13 +134,13 @@ returns-8 c =
     let c10 = c8 .before .before in
     let w = subst (NumberAtSays _ _) (c8 .got2 .given .1) (c10 .number-at .ensures) in
     let e = sym (c4 .class .ensures) ∙ c2 .enum-told2 .given .1 in
-    signed w (c6 .if1 .left) e (count-fits _ _ _ (c1 .if2 .left) (c .if3 .left))
+    begin-again (signed w (c6 .if1 .left) e (count-fits _ _ _ (c1 .if2 .left) (c .if3 .left)))
 
 returns-9 : tie.Need-returns-9
 returns-9 c =
     let c1 = c .before in let c3 = c1 .before .before in let c5 = c3 .before .before in let c7 = c5 .before .before in
     let w = subst (NumberAtSays _ _) (c5 .got2 .given .1) (c7 .number-at .ensures) in
-    signed w (c3 .if1 .left) (sym (c1 .class .ensures)) (unsigned _ _ _ (c1 .class .result) (c .match2 .keys4))
+    begin-again (signed w (c3 .if1 .left) (sym (c1 .class .ensures)) (unsigned _ _ _ (c1 .class .result) (c .match2 .keys4)))
 
 pub begin-spec : {M : Type 1} → statement M
 begin-spec =

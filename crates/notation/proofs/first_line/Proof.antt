@@ -3,6 +3,7 @@ use mathlib.Core.Path.{_≡_, refl, subst}
 use borrow.Author.Needs.{needs}
 use Rattle.notation.specs.Readers.{FieldSays, noN, noW, noInitial}
 use Rattle.notation.proofs.HeaderLaws.{ended-within}
+use Rattle.notation.proofs.AgainLaws.{first-again}
 use Rattle.notation.proofs.first_line.Statement.{statement}
 use Rattle.notation.proofs.first_line.Tie as tie
 
@@ -72,7 +73,8 @@ returns-4 c =
     let c11 = c9 .before .before in
     let p = subst (FieldSays _ _ _) (c9 .first2 .given .1) (c11 .field .ensures) in
     let q = subst (FieldSays _ _ _) (c5 .middle2 .given .1) (c7 .field2 .ensures) in
-    record { second = _; third = _; nEnds = p; wEnds = q; initialEnds = (subst (FieldSays _ _ _) (c1 .last2 .given .1) (c3 .field3 .ensures)) }
+    let r = subst (FieldSays _ _ _) (c1 .last2 .given .1) (c3 .field3 .ensures) in
+    record { second = _; third = _; nEnds = p; wEnds = q; initialEnds = r; again = first-again p q r }
 
 pub first-line-spec : {M : Type 1} → statement M
 first-line-spec =

@@ -5,11 +5,12 @@ use mathlib.Core.List.{List}
 use native.Mathlib.Omega.{arith}
 use native.Mathlib.Nat.{lt-irrefl, lt-of-lt-of-le}
 use borrow.Author.Needs.{needs}
+use borrow.Author.Tests.{not-true, not-false}
 use lib.ListN.{length, getD}
 use Rattle.notation.specs.Bytes.{isDigit, kindOf}
 use Rattle.notation.specs.Grammar.{largest}
 use Rattle.notation.specs.Readers.{Counts, still, digit}
-use Rattle.notation.proofs.KindLaws.{digit-small, not-digit}
+use Rattle.notation.proofs.KindLaws.{digit-small, ok-small, not-digit}
 use Rattle.notation.proofs.number.Statement.{statement}
 use Rattle.notation.proofs.number.Tie as tie
 
@@ -43,26 +44,30 @@ returns c =
     let a = c4 in record
     { stops = λ h. ap isDigit (sym (c .before .class .ensures)) ∙ not-digit (c .before .class .result) (c .match .keys2); small = a .loop .inv .small; on = a .loop .inv .on; within = a .loop .inv .within; counts = a .loop .inv .counts }
 
-mul-more : tie.Need-mul-more Inv-loop μ-loop
-mul-more c = let a = c .before .before .before .before .before .before in omega (arith, a .loop .inv .small)
-
-add-more : tie.Need-add-more Inv-loop μ-loop
-add-more c =
-    let c3 = c .before .before .before in let c6 = c3 .before .before .before in
-    let a = c6 in omega
-    (arith, a .loop .inv .small, digit-small _ _ (sym (c3 .class .ensures) ∙ c .before .k .given .1))
+may-follow-requires : tie.Need-may-follow-requires Inv-loop μ-loop
+may-follow-requires c κs =
+    let c3 = c .before .before .before in
+    (c3 .before .before .before .loop .inv .small, digit-small _ _ (sym (c3 .class .ensures) ∙ c .before .k .given .1))
 
 returns-2 : tie.Need-returns-2 Inv-loop μ-loop
 returns-2 c =
-    let c2 = c .before .before in let c4 = c2 .before .before in let c6 = c4 .before .before in let c7 = c6 .before in
+    let c3 = c .before .before .before in let c5 = c3 .before .before in let c8 = c5 .before .before .before in
     record {
       v′ = _;
       d = _;
-      counts = c7 .loop .inv .counts;
-      here = c6 .loop-test .taken;
-      is = sym (c4 .class .ensures) ∙ c2 .k .given .1;
-      large = omega (arith, c .if1 .taken);
+      counts = c8 .loop .inv .counts;
+      here = c5 .before .before .loop-test .taken;
+      is = sym (c5 .class .ensures) ∙ c3 .k .given .1;
+      not = sym (c .before .may-follow .ensures) ∙ not-true _ (c .if1 .taken);
     }
+
+mul-value : tie.Need-mul-value Inv-loop μ-loop
+mul-value c = omega (arith, c .before .before .before .before .before .before .before .before .loop .inv .small)
+
+add-value : tie.Need-add-value Inv-loop μ-loop
+add-value c =
+    let c3 = c .before .before .before in let c5 = c3 .before .before in
+    omega (arith, c5 .before .before .before .loop .inv .small, digit-small _ _ (sym (c5 .class .ensures) ∙ c3 .k .given .1))
 
 add-next : tie.Need-add-next Inv-loop μ-loop
 add-next c = omega arith
@@ -72,9 +77,14 @@ loop-less c = omega arith
 
 loop-again : tie.Need-loop-again Inv-loop μ-loop
 loop-again c =
-    let c4 = c .before .before .before .before in let c6 = c4 .before .before in let c7 = c6 .before in
-    let a = c7 in record
-    { on = omega (arith, a .loop .inv .on); within = omega arith; small = c .if1 .left; counts = digit (a .loop .inv .counts) (c6 .loop-test .taken) (sym (c4 .class .ensures) ∙ c .before .before .k .given .1) (c .if1 .left) }
+    let c3 = c .before .before .before in let c5 = c3 .before .before in let c8 = c5 .before .before .before in
+    let ok = sym (c .before .may-follow .ensures) ∙ not-false _ (c .if1 .left) in
+    record {
+      counts = digit (c8 .loop .inv .counts) (c5 .before .before .loop-test .taken) (sym (c5 .class .ensures) ∙ c3 .k .given .1) ok;
+      on = omega (arith, c8 .loop .inv .on);
+      within = omega arith;
+      small = ok-small _ _ ok;
+    }
 
 returns-3 : tie.Need-returns-3 Inv-loop μ-loop
 returns-3 c = let a = c .before in record { stops = λ h. absurd (lt-irrefl _ (lt-of-lt-of-le h (c .loop-test .left))); small = a .loop .inv .small; on = a .loop .inv .on; within = a .loop .inv .within; counts = a .loop .inv .counts }
@@ -90,9 +100,10 @@ number-spec =
     class-requires
     enum-known-k
     returns
-    mul-more
-    add-more
+    may-follow-requires
     returns-2
+    mul-value
+    add-value
     add-next
     loop-less
     loop-again

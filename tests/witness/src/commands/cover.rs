@@ -2,6 +2,7 @@
 
 use super::files::{read_text, texts_in};
 use super::run::print;
+use super::zeros::{leading_zero, NUMBERS};
 use crate::machine::Tally;
 use crate::schedule::{listing_of, Outcome, TEXT_LIMIT};
 
@@ -28,6 +29,7 @@ struct Sums {
     ends: u64,
     refused: [u64; 16],
     too_long: u64,
+    leading_zeros: [u64; 6],
     tally: Tally,
 }
 
@@ -42,6 +44,9 @@ impl Sums {
             self.too_long += 1;
         } else {
             self.refused[usize::from(outcome.number)] += 1;
+            if let Some(number) = leading_zero(text) {
+                self.leading_zeros[number] += 1;
+            }
         }
     }
 
@@ -102,6 +107,9 @@ impl Sums {
                 format!("refused {number}"),
                 self.refused[usize::from(number)],
             ));
+        }
+        for (number, times) in NUMBERS.iter().zip(self.leading_zeros) {
+            rows.push((format!("leading zero, {number}"), times));
         }
         rows.push(("refused 12, text too long".to_string(), self.too_long));
         rows.push(("refused 12, 60,000 entries".to_string(), self.refused[12]));

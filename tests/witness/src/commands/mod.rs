@@ -8,6 +8,7 @@ mod generate;
 mod history;
 mod run;
 mod wrong;
+mod zeros;
 
 pub use bench_text::bench_text;
 

@@ -57,13 +57,15 @@ impl Reader<'_> {
         Ok(())
     }
 
-    /// At least one digit. The digit that makes it too large is the fault.
+    /// At least one digit. The digit after a leading zero is the fault, or
+    /// the one that makes the number too large.
     fn number(&mut self) -> Result<u64, Fault> {
+        let begin = self.place;
         let mut value = self.digit().ok_or(self.fault(10))?;
         self.place += 1;
         while let Some(digit) = self.digit() {
             value = 10 * value + digit;
-            if value > LARGEST_NUMBER {
+            if self.text[begin] == b'0' || value > LARGEST_NUMBER {
                 return Err(self.fault(10));
             }
             self.place += 1;

@@ -23,8 +23,7 @@ fn group(rng: &mut Rng, n: usize, depth: usize, text: &mut String) {
     } else {
         rng.pick(&[1, 1, 1, 2, 3])
     };
-    let zeros = rng.pick(&["", "", "", "0", "000"]);
-    text.push_str(&format!("{zeros}{count}("));
+    text.push_str(&format!("{count}("));
     text.push_str(rng.pick(&["", " ", "\n"]));
     for k in 0..rng.pick(&[1, 1, 2, 3]) {
         if k > 0 {

@@ -43,8 +43,7 @@ fn lengths() -> Vec<Vec<u8>> {
         late_step.extend_from_slice(b" 1!");
         texts.push(late_step);
         let mut zeros = b"2 1 ".to_vec();
-        zeros.resize(length - 2, b'0');
-        zeros.extend_from_slice(b"5\n");
+        zeros.resize(length, b'0');
         texts.push(zeros);
     }
     let mut many = "1 1 5\n0l 0!".to_string();

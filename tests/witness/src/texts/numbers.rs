@@ -12,10 +12,11 @@ pub fn texts() -> Vec<Vec<u8>> {
     texts
 }
 
-const NUMBERS: [&str; 14] = [
+const NUMBERS: [&str; 24] = [
     "0",
     "1",
     "2",
+    "10",
     "16",
     "17",
     "64",
@@ -27,6 +28,16 @@ const NUMBERS: [&str; 14] = [
     "42949672950",
     "18446744073709551617",
     "00000000000000000000000000000000001",
+    // A zero at each place of a number, and zeros alone.
+    "012",
+    "102",
+    "120",
+    "00",
+    "000",
+    "01",
+    "010",
+    "100",
+    "04294967296",
 ];
 
 /// The number in each place where a number may stand.
@@ -39,6 +50,7 @@ fn with_number(number: &str) -> Vec<Vec<u8>> {
         format!("1 1 5\n{number}v"),
         format!("1 1 5\n{number}."),
         format!("1 1 5\n{number}s1"),
+        format!("1 1 5\n1({number}l)"),
         format!("1 1 5\n0l 0! 0s{number} 0! 0l 0!"),
         format!("1 1 5\n{number}(0l 0!)"),
         format!("1 1 5\n{number}"),

@@ -68,7 +68,7 @@ closed : (t : ℕ) (c : read-group-lts.After-known-told2 (read-group-claims t) (
     let c10 = c5 .before .before .before .before .before in
     let a = c10 .args in
     let g = c1 .first2 .given .0 in
-    Keeps (now (a .list)) (c5 .read-items .last .1 .1 .1 .0) (a .from) (g .1 .0)
+    Keeps (now (a .text)) (now (a .list)) (c5 .read-items .last .1 .1 .1 .0) (a .from) (g .1 .0)
     (λ es. ItemsClosed (now (a .text)) (a .body) (a .depth - 1) (g .0) es) (λ ps. ClosesAfter (now (a .text)) (a .body) (g .0) ps)
 closed t c =
     let c1 = c .before in let c5 = c1 .before .before .before .before in
@@ -163,7 +163,7 @@ read-items-claims t = (
 )
 
 abbrev read-items-Inv-loop : read-items-lts.InvT-loop
-read-items-Inv-loop text at depth list₀ from next₀ to₀ list next to = Keeps list₀ list from to (λ es. Sofar text at depth next es) (λ ps. Moves text at fore next fore ps)
+read-items-Inv-loop text at depth list₀ from next₀ to₀ list next to = Keeps text list₀ list from to (λ es. Sofar text at depth next es) (λ ps. Moves text at fore next fore ps)
 
 abbrev read-items-μ-loop : read-items-lts.MeasureT-loop
 read-items-μ-loop text at depth list₀ from next₀ to₀ list next to = length text - next
@@ -175,7 +175,7 @@ start : (t : ℕ) (c : read-items-lts.After-begin (read-items-claims t)
     StartSays (now (c6 .args .text)) (c1 .loop .next) (c .begin .result)
 start t c =
     let c1 = c .before in
-    started (c1 .loop .inv .read .item) (c .begin .ensures)
+    started (c1 .loop .inv .read .item) (c .begin .ensures .begins)
 
 -- what the item at hand says: it begins wrong, or is an entry or a group
 item : (t : ℕ) (c : read-items-lts.At-match-came (read-items-claims t)
@@ -216,7 +216,7 @@ over : (t : ℕ) (c : read-items-lts.After-known-told5 (read-items-claims t)
     let c10 = c5 .before .before .before .before .before in
     let a = c10 .args in
     let g = c1 .how2 .given .0 in
-    Keeps (c5 .loop .list) (c3 .match .list) (c5 .loop .to) (g .1 .0) (λ es. ItemRead (now (a .text)) (c5 .loop .next) (a .depth) (g .0) es)
+    Keeps (now (a .text)) (c5 .loop .list) (c3 .match .list) (c5 .loop .to) (g .1 .0) (λ es. ItemRead (now (a .text)) (c5 .loop .next) (a .depth) (g .0) es)
     (λ ps. Moves (now (a .text)) (c5 .loop .next) fore (g .0) tail ps)
 over t c =
     let c1 = c .before in let c3 = c1 .before .before in
