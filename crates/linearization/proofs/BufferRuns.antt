@@ -1,28 +1,34 @@
--- The definitions of `specs/Buffers` on short runs, computed: each number is found once where a definition that is a
--- little different would find one twice and another not at all, and the words of a success do not stay for more than
--- 2N changes of X.
+-- The definitions of `specs/Buffers` on runs, computed: each number is found once where a definition that is a little
+-- different would find one twice and another not at all, and where every process is halted at another line.
 use mathlib.Core.Path.{_≡_, refl}
-use Prim.Native.Nat.{ℕ, _+_, _*_}
+use Prim.Native.Nat.{ℕ}
 use mathlib.Core.List.{List, [], _∷_, _++_, map}
 use lib.ListN.{replicate}
-use lib.Dec.{lit<}
-use native.Mathlib.Omega.{arith}
-use Rattle.model.specs.Machine.{Memory, Shaped, stepAt, obey}
+use Rattle.model.specs.declared.Process.{Process}
+use Rattle.model.specs.Sizes.{buffers}
+use Rattle.model.specs.Points.{Point, lineNumber, line2, line3, line4, line5, line6, line7copy, line8, line9, line10, line11}
+use Rattle.model.specs.Points.{line13, line15, line17, line18, line19, line23}
+use Rattle.model.specs.Records.{noProcess}
+use Rattle.model.specs.Machine.{Memory, stepAt, obey}
 use Rattle.model.specs.Refusals.{inRange}
 use Rattle.model.specs.Command.{command, refusal}
 use Rattle.model.specs.SetUp.{setUp, setUpRefusal, numbers}
-use Rattle.model.specs.History.{Command, events, callsFrom, calls}
-use Rattle.model.proofs.Schedules.{l, s, steps, dirty}
+use Rattle.model.specs.History.{Command}
+use Rattle.model.proofs.Schedules.{l, v, s, steps, dirty}
 use Rattle.linearization.specs.After.{after}
-use Rattle.linearization.specs.Buffers.{held, occurrences, bufferWords, lastWritten, successes, WordsStayFor}
+use Rattle.linearization.specs.Buffers.{held, occurrences}
+
+-- lent memory for every N, with W = 1
+abbrev lent : Memory
+lent = record { bench = dirty .bench; records = replicate 16 noProcess; words = replicate 80 1234 }
 
 -- the memory after the commands, for N = n, W = 1 and the initial value 5
 abbrev reached : ℕ → List Command → Memory
-reached n cs = after (setUp dirty n 1 (5 ∷ []) .1) cs
+reached n cs = after (setUp lent n 1 (5 ∷ []) .1) cs
 
 -- how often each of the 3N numbers is found
 abbrev counted : ℕ → List ℕ → List ℕ
-counted n places = map (λ b. occurrences b places) (numbers 0 (3 * n))
+counted n places = map (λ b. occurrences b places) (numbers 0 (buffers n))
 
 abbrev found : ℕ → List Command → List ℕ
 found n cs = counted n (held (reached n cs) n)
@@ -59,38 +65,38 @@ pub asking-at-line-10 : found 2 (handedOver ++ steps 9 0) ≡ replicate 6 1
 unfolding command refusal inRange stepAt obey setUp setUpRefusal after
 asking-at-line-10 = refl
 
--- One success and an SC that fails: X's buffer holds the words of the success, 7, and the history says so too.
-abbrev thenFails : List Command
-thenFails = firstSuccess ++ s 1 0 8 ++ steps 6 0
+-- "Can a buffer go missing when processes halt?" Sixteen processes, each halted at another line, with half a word done
+-- where the line moves words. Processes 0 to 2 ask and are handed a buffer, by the first three successes of process 15;
+-- a fourth success takes process 2's link. Then one process after the other is halted, process 4 while it asks, and
+-- process 12 hands it a buffer.
+abbrev asked : List Command
+asked = l 0 ++ steps 1 0 ++ l 1 ++ steps 1 1 ++ l 2 ++ steps 1 2
 
-pub words-of-the-success : bufferWords (reached 1 thenFails) (reached 1 thenFails .bench .x .content .buf) ≡ 7 ∷ []
+abbrev writes : ℕ → List Command
+writes k = aloneLl 15 ++ s 1 15 k ++ steps 10 15
+
+abbrev helpedHalt : List Command
+helpedHalt = asked ++ writes 2 ++ writes 3 ++ writes 4 ++ steps 4 0 ++ steps 6 1 ++ steps 7 2 ++ writes 6 ++ steps 2 2
+
+abbrev llHalt : List Command
+llHalt = l 3 ++ steps 1 3 ++ l 4 ++ steps 3 4 ++ l 5 ++ steps 4 5 ++ l 6 ++ steps 5 6 ++ l 7 ++ steps 6 7 ++ l 8 ++ steps 7 8 ++ l 9 ++ steps 9 9
+
+abbrev scHalt : List Command
+scHalt =
+    aloneLl 10 ++ s 1 10 910 ++ steps 2 10 ++ aloneLl 11 ++ s 1 11 911 ++ steps 5 11 ++ aloneLl 12 ++ s 1 12 912 ++ steps 5 12
+    ++ aloneLl 13 ++ s 1 13 913 ++ steps 4 13 ++ aloneLl 14 ++ s 1 14 914 ++ steps 5 14
+
+abbrev halted : List Command
+halted = helpedHalt ++ llHalt ++ scHalt ++ v 15
+
+abbrev haltedAt : List Point
+haltedAt =
+    line5 ∷ line6 ∷ line7copy ∷ line2 ∷ line3 ∷ line4 ∷ line8 ∷ line9 ∷ line10 ∷ line11 ∷ line13 ∷ line15 ∷ line17 ∷ line18 ∷ line19 ∷ line23 ∷ []
+
+-- at which line each process stands, and how often each number is found
+abbrev seen : Memory → List ℕ × List ℕ
+seen m = (map (λ (q : Process). q .line) (m .records), counted 16 (held m 16))
+
+pub none-lost : seen (reached 16 halted) ≡ (map lineNumber haltedAt, replicate 48 1)
 unfolding command refusal inRange stepAt obey setUp setUpRefusal after
-words-of-the-success = refl
-
-pub last-of-the-history : lastWritten (5 ∷ []) (calls (events (setUp dirty 1 1 (5 ∷ []) .1) thenFails)) ≡ 7 ∷ []
-unfolding command refusal inRange stepAt obey setUp setUpRefusal events callsFrom
-last-of-the-history = refl
-
--- Three SCs by one process, the third up to its line 17: X has changed 2N times, and buffer 0, which X named at the
--- set-up, is written anew.
-abbrev thirdWrites : List Command
-thirdWrites = firstSuccess ++ aloneLl 0 ++ s 1 0 8 ++ steps 8 0 ++ aloneLl 0 ++ s 1 0 9 ++ steps 6 0
-
-pub changed-twice : successes (calls (events (setUp dirty 1 1 (5 ∷ []) .1) thirdWrites)) ≡ 2
-unfolding command refusal inRange stepAt obey setUp setUpRefusal events callsFrom
-changed-twice = refl
-
-pub written-anew : bufferWords (reached 1 thirdWrites) (reached 1 [] .bench .x .content .buf) ≡ 9 ∷ []
-unfolding command refusal inRange stepAt obey setUp setUpRefusal after
-written-anew = refl
-
-shaped : Shaped dirty
-shaped = record { bank = refl; help = refl }
-
--- 2N is the most: the words do not stay for one change more
-pub no-longer : WordsStayFor (λ n. 2 * n + 1) → ⊥
-unfolding command refusal inRange stepAt obey setUp setUpRefusal after events callsFrom
-no-longer stay =
-    let same : _≡_ {A = List ℕ} (9 ∷ []) (5 ∷ []) = stay dirty shaped 1 1 (5 ∷ []) [] thirdWrites refl (lit< tt) in
-    let z : _≡_ {A = ℕ} 9 5 = cc in
-    omega arith
+none-lost = refl

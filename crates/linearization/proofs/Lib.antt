@@ -1,4 +1,5 @@
 pub mod BufferRuns
+pub mod StayRuns
 pub mod Updates
 pub mod Residues
 pub mod PointFacts
@@ -47,4 +48,6 @@ pub mod Histories
 pub mod Successes
 pub mod DemandThree
 pub mod BufferTheorems
+pub mod XChanges
+pub mod WrittenWords
 pub mod Theorems

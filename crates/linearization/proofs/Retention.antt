@@ -1,12 +1,12 @@
 -- Retention: while fewer than 2N successes happened, the buffer that X named keeps its words.
-use mathlib.Core.Path.{_≡_, refl, sym, _∙_}
+use mathlib.Core.Path.{_≡_, refl, sym, ap, _∙_}
 use mathlib.Core.Bool.{Bool, cond}
 use mathlib.Core.List.{List}
 use Prim.Native.Nat.{ℕ, suc, _+_, _*_, _%_, _≤_, _<_}
 use native.Mathlib.Omega.{arith}
 use lib.Dec.{ltb, eqb}
 use Rattle.linearization.proofs.Updates.{upd, upd-other, by-test}
-use Rattle.linearization.proofs.GhostMachine.{State, step, stepAt}
+use Rattle.linearization.proofs.GhostMachine.{Shared, State, step, stepAt}
 use Rattle.model.specs.Points.{Point, idle, line1, line2, line3, line4, line5, line6, line7, line7copy, line8, line9}
 use Rattle.model.specs.Points.{line10, line11, line12, line12valid, line13, line14, line14valid, line15, line17, line18}
 use Rattle.model.specs.Points.{line19, line23}
@@ -35,55 +35,64 @@ grows-then s t u a b =
       values = λ i h. b .values i (omega arith) ∙ a .values i h;
     }
 
--- one success more
-longer-one : (S : ℕ) (B : ℕ → ℕ) (X : ℕ → ℕ → ℕ) (b : ℕ) (v : ℕ → ℕ) → Longer S (suc S) B (upd B (suc S) b) X (upd X (suc S) v)
-longer-one S B X b v = record {
+-- X, and the list of successes
+abbrev pub xPart : Shared → ℕ × ℕ × ℕ × (ℕ → ℕ) × (ℕ → ℕ → ℕ)
+xPart h = (h .xbuf, h .xseq, h .successes, h .buffers, h .values)
+
+-- what a command makes of them: nothing, or one success more
+pub data OnX (s t : State) : Type 0 where
+  left-alone : xPart (t .sh) ≡ xPart (s .sh) → OnX s t
+  succeeded : (b : ℕ) (v : ℕ → ℕ) → t .sh .successes ≡ suc (s .sh .successes) → t .sh .buffers ≡ upd (s .sh .buffers) (suc (s .sh .successes)) b
+      → t .sh .values ≡ upd (s .sh .values) (suc (s .sh .successes)) v → OnX s t
+
+grows-by : (s t : State) → OnX s t → Grows s t
+grows-by s t (left-alone e) =
+    let k : t .sh .successes ≡ s .sh .successes = ap (λ x. x .2) e in
+    record { more = omega arith; buffers = λ i h. ap (λ x. x .3 i) e; values = λ i h. ap (λ x. x .4 i) e }
+grows-by s t (succeeded b v k e f) = record {
   more = omega arith;
-  buffers = λ i h. upd-other B (suc S) i b (λ e. omega arith);
-  values = λ i h. upd-other X (suc S) i v (λ e. omega arith);
+  buffers = λ i h. ap (λ B. B i) e ∙ upd-other (s .sh .buffers) (suc (s .sh .successes)) i b (λ z. omega arith);
+  values = λ i h. ap (λ X. X i) f ∙ upd-other (s .sh .values) (suc (s .sh .successes)) i v (λ z. omega arith);
 }
 
 module _ (N W : ℕ) where
   module _ (n : ℕ) (s : State) where
-    stays : Grows s s
-    stays = grows-none s
+    two : (b : Bool) (x y : State) → OnX s x → OnX s y → OnX s (cond b x y)
+    two b x y f g = by-test (OnX s) b (λ _. f) (λ _. g)
 
-    two : (b : Bool) (x y : State) → Grows s x → Grows s y → Grows s (cond b x y)
-    two b x y f g = by-test (Grows s) b (λ _. f) (λ _. g)
-
-    step-grows : (p : ℕ) (y : Point) → Grows s (stepAt N W y n p s)
+    step-on-x : (p : ℕ) (y : Point) → OnX s (stepAt N W y n p s)
     unfolding stepAt
-    step-grows p idle = stays
-    step-grows p line1 = stays
-    step-grows p line2 = stays
-    step-grows p line3 = stays
-    step-grows p line4 = two (s .sh .flag p) _ _ stays stays
-    step-grows p line5 = stays
-    step-grows p line6 = stays
-    step-grows p line7 = two (s .loc p .linkX) _ _ stays stays
-    step-grows p line7copy = stays
-    step-grows p line8 = two (s .sh .flag p) _ _ stays stays
-    step-grows p line9 = two (s .loc p .linkHelp p) _ _ stays stays
-    step-grows p line10 = stays
-    step-grows p line11 = two (ltb (suc (s .loc p .word)) W) _ _ stays stays
-    step-grows p line12 = two (eqb (s .sh .bank (s .loc p .copySeq)) (s .loc p .copyBuf)) _ _ stays stays
-    step-grows p line12valid = two (s .loc p .linkX) _ _ stays stays
-    step-grows p line13 = two (s .loc p .linkBank (s .loc p .copySeq)) _ _ stays stays
-    step-grows p line14 = two (s .sh .flag (s .loc p .copySeq % N)) _ _ stays stays
-    step-grows p line14valid = two (s .loc p .linkX) _ _ stays stays
-    step-grows p line15 = two (s .loc p .linkHelp (s .loc p .copySeq % N)) _ _ stays stays
-    step-grows p line17 = stays
-    step-grows p line18 = stays
-    step-grows p line19 = two (s .loc p .linkX) _ _ (longer-one (s .sh .successes) (s .sh .buffers) (s .sh .values) _ _) stays
-    step-grows p line23 = stays
+    step-on-x p idle = left-alone refl
+    step-on-x p line1 = left-alone refl
+    step-on-x p line2 = left-alone refl
+    step-on-x p line3 = left-alone refl
+    step-on-x p line4 = two (s .sh .flag p) _ _ (left-alone refl) (left-alone refl)
+    step-on-x p line5 = left-alone refl
+    step-on-x p line6 = left-alone refl
+    step-on-x p line7 = two (s .loc p .linkX) _ _ (left-alone refl) (left-alone refl)
+    step-on-x p line7copy = left-alone refl
+    step-on-x p line8 = two (s .sh .flag p) _ _ (left-alone refl) (left-alone refl)
+    step-on-x p line9 = two (s .loc p .linkHelp p) _ _ (left-alone refl) (left-alone refl)
+    step-on-x p line10 = left-alone refl
+    step-on-x p line11 = two (ltb (suc (s .loc p .word)) W) _ _ (left-alone refl) (left-alone refl)
+    step-on-x p line12 = two (eqb (s .sh .bank (s .loc p .copySeq)) (s .loc p .copyBuf)) _ _ (left-alone refl) (left-alone refl)
+    step-on-x p line12valid = two (s .loc p .linkX) _ _ (left-alone refl) (left-alone refl)
+    step-on-x p line13 = two (s .loc p .linkBank (s .loc p .copySeq)) _ _ (left-alone refl) (left-alone refl)
+    step-on-x p line14 = two (s .sh .flag (s .loc p .copySeq % N)) _ _ (left-alone refl) (left-alone refl)
+    step-on-x p line14valid = two (s .loc p .linkX) _ _ (left-alone refl) (left-alone refl)
+    step-on-x p line15 = two (s .loc p .linkHelp (s .loc p .copySeq % N)) _ _ (left-alone refl) (left-alone refl)
+    step-on-x p line17 = left-alone refl
+    step-on-x p line18 = left-alone refl
+    step-on-x p line19 = two (s .loc p .linkX) _ _ (succeeded _ _ refl refl refl) (left-alone refl)
+    step-on-x p line23 = left-alone refl
 
-    pub exec-grows : (c : Cmd) → Grows s (exec N W n c s)
+    pub exec-on-x : (c : Cmd) → OnX s (exec N W n c s)
     unfolding step
-    exec-grows c = by-command N W (Grows s) n s stays (λ p y w f hp e. stays) (λ p hp. step-grows p (s .loc p .point)) c
+    exec-on-x c = by-command N W (OnX s) n s (left-alone refl) (λ p y w f hp e. left-alone refl) (λ p hp. step-on-x p (s .loc p .point)) c
 
   -- what has been a success stays one, over every list of commands
   pub execs-grow : (n : ℕ) (cs : List Cmd) (s : State) → Grows s (execs N W n cs s)
-  execs-grow n cs s = along N W (λ _ t. Grows s t) (λ m t c g. grows-then s t (exec N W m c t) g (exec-grows m t c)) n cs s (grows-none s)
+  execs-grow n cs s = along N W (λ _ t. Grows s t) (λ m t c g. grows-then s t (exec N W m c t) g (grows-by t _ (exec-on-x m t c))) n cs s (grows-none s)
 
   -- success i's buffer holds its value while fewer than 2N successes followed (i = 0: the set-up's)
   pub success-kept : (m : ℕ) (s t : State) → Invariant N W m t → Grows s t → (i : ℕ) → i ≤ s .sh .successes → t .sh .successes < i + 2 * N

@@ -9,11 +9,11 @@ use lib.Dec.{ltb, eqb}
 use Rattle.model.specs.Points.{Point, idle, line1, line2, line3, line4, line5, line6, line7, line7copy, line8, line9}
 use Rattle.model.specs.Points.{line10, line11, line12, line12valid, line13, line14, line14valid, line15, line17, line18}
 use Rattle.model.specs.Points.{line19, line23}
-use Rattle.model.specs.Replies.{scTruth}
-use Rattle.model.specs.Object.{sc}
+use Rattle.model.specs.Replies.{Answer, llWords, scTruth, vlTruth}
+use Rattle.model.specs.Object.{Kind, ll, sc, vl}
 use Rattle.model.specs.History.{Call}
 use Rattle.model.specs.Linearizable.{Timed}
-use Rattle.linearization.specs.Buffers.{written, lastWritten, succeeds, successes}
+use Rattle.linearization.specs.Changes.{succeeds, successes}
 use Rattle.linearization.proofs.Updates.{upd, upd-same, by-test, by-test₂}
 use Rattle.linearization.proofs.GhostMachine
 use Rattle.linearization.proofs.GhostMachine.{Local, State}
@@ -22,6 +22,20 @@ use Rattle.linearization.proofs.ListFacts.{map-append}
 use Rattle.linearization.proofs.GhostRuns.{Cmd, exec, starts, scCall, callAt, callF, callsF}
 use Rattle.linearization.proofs.PointFacts.{isIdle}
 use Rattle.linearization.proofs.InvariantRuns.{execs}
+
+-- the words that an answered call leaves written: a successful SC's own, else those before it
+abbrev pub written : Kind → Answer → List ℕ → List ℕ
+written ll a before = before
+written vl a before = before
+written (sc offered) (scTruth true) before = offered
+written (sc offered) (scTruth false) before = before
+written (sc offered) (llWords ws) before = before
+written (sc offered) (vlTruth t) before = before
+
+-- the words of the last success of a history, or those before it
+abbrev pub lastWritten : List ℕ → List Call → List ℕ
+lastWritten before [] = before
+lastWritten before (c ∷ cs) = lastWritten (written (c .kind) (c .answer) before) cs
 
 -- the calls of timed calls
 abbrev pub callsOf : List Timed → List Call

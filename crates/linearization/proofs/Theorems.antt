@@ -1,8 +1,12 @@
 -- The theorems, each about model's own definitions, with no assumption but those of its statement.
 use Rattle.model.specs.Linearizable.{Demand3}
 use Rattle.linearization.specs.OwnDoing.{NeverForItsOwnDoing}
-use Rattle.linearization.specs.Buffers.{EveryBufferOnce, WordsStay}
+use Rattle.linearization.specs.Buffers.{EveryBufferOnce}
+use Rattle.linearization.specs.Changes.{ChangesAreSuccesses}
+use Rattle.linearization.specs.WordsStay.{WordsStay}
 use Rattle.linearization.proofs.BufferTheorems
+use Rattle.linearization.proofs.XChanges
+use Rattle.linearization.proofs.WrittenWords
 use Rattle.linearization.proofs.SetUpSimulation.{set-up-halves}
 use Rattle.linearization.proofs.CommandRuns.{holds-along, sound}
 use Rattle.linearization.proofs.DemandThree.{demand-three}
@@ -19,6 +23,10 @@ never-for-its-own-doing m shaped n w value cs e c = let hW = set-up-halves m n w
 pub every-buffer-once : EveryBufferOnce
 every-buffer-once = BufferTheorems.every-buffer-once
 
--- The words of a success, and the set-up value, stay in their buffer until X has changed 2N more times.
+-- X changes as often as an SC succeeds.
+pub changes-are-successes : ChangesAreSuccesses
+changes-are-successes = XChanges.changes-are-successes
+
+-- The words of every success, and the set-up value, stay in their buffer until X has changed 2N more times.
 pub words-stay : WordsStay
-words-stay = BufferTheorems.words-stay
+words-stay = WrittenWords.words-stay
