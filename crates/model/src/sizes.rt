@@ -1,7 +1,7 @@
 // The sizes that follow from N and W, each said once.
 ghost use mathlib.Core.Path.{_≡_};
 ghost use Prim.Native.Nat.{_≤_};
-ghost use Rattle.model.specs.Sizes.{buffers, sequenceNumbers, lentWords, halves, llMost, busyMost};
+ghost use Rattle.model.specs.Sizes.{buffers, sequenceNumbers, rowsBeforeOffers, lentWords, halves, llMost, busyMost};
 
 // Buffer numbers are below it.
 pub fn buffers(n: usize) -> usize
@@ -17,6 +17,14 @@ pub fn sequence_numbers(n: usize) -> usize
     ensures { λ r. ⌜ r ≡ sequenceNumbers n ⌝ }
 {
     2 * n
+}
+
+// The rows of words before the offer areas: the buffers and the return areas.
+pub fn rows_before_offers(n: usize) -> usize
+    requires { ⌜ n ≤ 16 ⌝ }
+    ensures { λ r. ⌜ r ≡ rowsBeforeOffers n ⌝ }
+{
+    4 * n
 }
 
 // The words that a set-up needs.

@@ -29,7 +29,7 @@ pub fn offer_word(n: usize, w: usize, p: ProcessNumber, k: usize) -> usize
     requires { ⌜ (n ≤ 16) × ((w ≤ 64) × (k < 64)) ⌝ }
     ensures { λ r. ⌜ r ≡ offerWord n w p k ⌝ }
 {
-    (4 * n + p.0 as usize) * w + k
+    (sizes::rows_before_offers(n) + p.0 as usize) * w + k
 }
 
 // How many values a half word has.

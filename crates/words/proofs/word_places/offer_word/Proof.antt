@@ -1,14 +1,14 @@
 -- `words::word_places::offer_word` meets its contract: the place fits.
 -- Assumes nothing.
-use Prim.Native.Nat.{_+_, _*_}
+use Prim.Native.Nat.{_+_}
 use native.Mathlib.Omega.{arith}
 use Rattle.words.proofs.WordLaws.{fits}
 use borrow.Author.Needs.{needs}
 use Rattle.words.proofs.word_places.offer_word.Statement.{statement}
 use Rattle.words.proofs.word_places.offer_word.Tie as tie
 
-mul-result : tie.Need-mul-result
-mul-result c = search needs
+rows-before-offers-requires : tie.Need-rows-before-offers-requires
+rows-before-offers-requires c κs = search needs
 
 cast-result : tie.Need-cast-result
 cast-result c = search needs
@@ -16,15 +16,21 @@ cast-result c = search needs
 add-result : tie.Need-add-result
 add-result c = search needs
 
-mul-result-2 : tie.Need-mul-result-2
-mul-result-2 c = omega (arith, fits {r = 4 * c .before .args .n + c .before .args .p .0} {w = c .before .args .w} {k = c .before .args .k} (omega arith) (c .before .pre .1 .0) (c .before .pre .1 .1))
+mul-result : tie.Need-mul-result
+mul-result c =
+    let start = c .before .before in
+    let a = start .args in
+    omega (arith, fits {r = c .before .rows-before-offers .result + a .p .0} {w = a .w} {k = a .k} (omega arith) (start .pre .1 .0) (start .pre .1 .1))
 
 add-result-2 : tie.Need-add-result-2
-add-result-2 c = omega (arith, fits {r = 4 * c .before .args .n + c .before .args .p .0} {w = c .before .args .w} {k = c .before .args .k} (omega arith) (c .before .pre .1 .0) (c .before .pre .1 .1))
+add-result-2 c =
+    let start = c .before .before in
+    let a = start .args in
+    omega (arith, fits {r = c .before .rows-before-offers .result + a .p .0} {w = a .w} {k = a .k} (omega arith) (start .pre .1 .0) (start .pre .1 .1))
 
 returns : tie.Need-returns
-returns c = search needs
+returns c = simp (c .before .rows-before-offers .ensures)
 
 pub offer-word-spec : {M : Type 1} → statement M
 offer-word-spec =
-    tie.close (tie.spec mul-result cast-result add-result mul-result-2 add-result-2 returns)
+    tie.close (tie.spec rows-before-offers-requires cast-result add-result mul-result add-result-2 returns)
