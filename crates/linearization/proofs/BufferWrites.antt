@@ -41,7 +41,9 @@ module _ (N W n : ℕ) (h : Shared) (p b k v : ℕ) where
       let f3 = on-with (lines 10 10 y) (lines 10 22 y) (wide 10 10 10 22 y (lit≤ tt) (lit≤ tt)) (λ o. spared h b k v (l .mybuf) (l .word) (l .returned) (ne _ o)) (m .owns-mybuf) (m .returned-part) in
       let f4 = on-with (lines 12 18 y) (lines 10 22 y) {A′ = l .linkX ≡ true → SamePart (hW .buf (l .mybuf)) (h .values (l .readVersion)) W} (wide 12 18 10 22 y (lit≤ tt) (lit≤ tt))
       (λ o d x. spared h b k v (l .mybuf) W (h .values (l .readVersion)) (ne _ o) (d x)) (m .owns-mybuf) (m .mybuf-current) in
-      let f5 = on-with (lines 19 19 y) (lines 10 22 y) (wide 19 19 10 22 y (lit≤ tt) (lit≤ tt)) (λ o. spared h b k v (l .mybuf) W (h .values (l .readVersion)) (ne _ o)) (m .owns-mybuf) (m .mybuf-read) in
+      let f5 =
+      on-with (lines 19 19 y) (lines 10 22 y) (wide 19 19 10 22 y (lit≤ tt) (lit≤ tt))
+      (λ o. spared h b k v (l .mybuf) W (h .values (l .readVersion)) (ne _ o)) (m .owns-mybuf) (m .mybuf-read) in
       let f6 = on-with (lines 0 6 y) (lines 0 9 y) {A′ = D6 hW W q} (wide 0 6 0 9 y (lit≤ tt) (lit≤ tt))
       (λ o d x. record { words = spared h b k v (h .helpBuf q) W (h .values (h .helpVersion q)) (ne _ o) (d x .words); inside = d x .inside; after = d x .after }) (m .owns-help) (m .handed-value) in
       search arith
@@ -78,7 +80,8 @@ module _ (N W n : ℕ) (h : Shared) (p : ℕ) (l : Local) where
   pub own-l11′ : W ≤ suc (l .word) → ProcessClauses N W n line11 h p l → ProcessClauses N W (suc n) idle (wEnd p (l .linkX) (l .moment) hR) p (rest true (setWord 0 l))
   own-l11′ e m =
       let f = pre-all _ _ _ _ e (wrote h (l .mybuf) (l .word) _ (l .returned) refl (m .returned-part)) in
-      let d : l .linkX ≡ true → SamePart (hR .buf (l .mybuf)) (h .values (l .readVersion)) W = λ x w hw. f w hw ∙ m .answer-value w hw ∙ ap (λ i. h .values i w) (m .linked-answer x ∙ sym (m .linked-current x)) in
+      let d : l .linkX ≡ true → SamePart (hR .buf (l .mybuf)) (h .values (l .readVersion)) W =
+      λ x w hw. f w hw ∙ m .answer-value w hw ∙ ap (λ i. h .values i w) (m .linked-answer x ∙ sym (m .linked-current x)) in
       let e1 = upd-same (h .lastMoment) p (l .moment) in let e2 = upd-same (h .servedLink) p (l .linkX) in
       let c : true ≡ true → l .readVersion ≡ h .successes → l .linkX ≡ true = λ _. m .current-linked in
       search arith

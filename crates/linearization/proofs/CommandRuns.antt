@@ -61,7 +61,13 @@ pub set-up-holds : (m : Memory) → Shaped m → (n w : ℕ) (value : List ℕ) 
     → Holds n w hW 1 (setUp m n w value .1) (setup n (halves w) (cells value))
 set-up-holds m shaped n w value e hW =
     let r = set-up-related m n w value shaped e in let v : ℕ → ℕ = cells value in
-    record { related = r; inv = setup-inv n (halves w) v (r .sizes .n-low); range = setup-range n (halves w) (r .sizes .n-low) hW v; count = setup-counts n (halves w) hW v; place = setup-places n (halves w) v }
+    record {
+      related = r;
+      inv = setup-inv n (halves w) v (r .sizes .n-low);
+      range = setup-range n (halves w) (r .sizes .n-low) hW v;
+      count = setup-counts n (halves w) hW v;
+      place = setup-places n (halves w) v;
+    }
 
 pub holds-along : (m : Memory) → Shaped m → (n w : ℕ) (value : List ℕ) → setUp m n w value .0 ≡ 0 → (hW : 0 < halves w) (cs : List Command)
     → Holds n w hW (numberAfter 1 (map (toF n w) cs)) (after (setUp m n w value .1) cs) (execs n (halves w) 1 (map (toF n w) cs) (setup n (halves w) (cells value)))

@@ -88,7 +88,9 @@ module _ (N W n : ℕ) (m : Memory) (z : State) (r : Related N W m z) (ok : InRa
 
   -- (a) the memory is never at fault
   pub refusal-sound : (p : ℕ) (o : Order) (v : List ℕ) → NotLentMemory (refusal m p o v)
-  refusal-sound p o v = rw (refusal-late p o v) (late-sound (leb N p) o (Refusals.isIdle (recordAt (m .records) (record { 0 = p }))) (recordAt (m .records) (record { 0 = p }) .answered) (eqb (length v) W))
+  refusal-sound p o v =
+      rw (refusal-late p o v) (late-sound (leb N p) o (Refusals.isIdle (recordAt (m .records) (record { 0 = p })))
+      (recordAt (m .records) (record { 0 = p }) .answered) (eqb (length v) W))
 
   module _ (p : ℕ) (o : Order) (v : List ℕ) where
     abbrev me : ProcessNumber
@@ -179,7 +181,8 @@ module _ (N W n : ℕ) (m : Memory) (z : State) (r : Related N W m z) (ok : InRa
         number = k;
         follows = exec-step N W n z p v hp;
         said = ap (λ t. says (t .1) (record { 0 = p }) (t .0)) eq
-            ∙ says-at N W (m .bench .x) (m .bench .bank) (m .bench .help) (m .words) p z hp (r .places) m′ (z .loc p .point) (λ e _. return-area N W m′ z′ p hp after ∙ ap (wordsOf (halves W)) (area e));
+            ∙ says-at N W (m .bench .x) (m .bench .bank) (m .bench .help) (m .words) p z hp (r .places) m′ (z .loc p .point)
+            (λ e _. return-area N W m′ z′ p hp after ∙ ap (wordsOf (halves W)) (area e));
       });
       related = rw (eq, exec-step N W n z p v hp) after;
     }

@@ -161,7 +161,8 @@ module _ (N W : ℕ) (hW : 0 < W) where
     moves line14 w d c u z = fork (h .flag (l .copySeq % N)) _ _ (new (omega arith) tt) (new (omega arith) tt)
     moves line14valid w d c u z = fork (l .linkX) _ _ (new (omega arith) tt) (new (omega arith) tt)
     moves line15 w d c u z =
-        by-test AllCounts (l .linkHelp (l .copySeq % N)) (λ _. wrote _ (setLinkHelp (l .copySeq % N) false) _ (λ _ _ x. x) (λ q _. down (l .copySeq % N) q) (new (omega arith) tt)) (λ _. own _ (new (omega arith) tt))
+        by-test AllCounts (l .linkHelp (l .copySeq % N))
+        (λ _. wrote _ (setLinkHelp (l .copySeq % N) false) _ (λ _ _ x. x) (λ q _. down (l .copySeq % N) q) (new (omega arith) tt)) (λ _. own _ (new (omega arith) tt))
     moves line17 w d c u z = words _ line17 line18 l refl refl (λ _ x. x) w (new (omega arith) tt) (λ e. new (omega arith) tt)
     moves line18 w d c u z = own _ (new (omega arith) tt)
     moves line19 w d c u z =

@@ -57,14 +57,16 @@ module _ (m : Memory) (shaped : Shaped m) (n w : ℕ) (value : List ℕ) (cs : L
       go : Dec (p < n) → OpenCounted w (slots (events (setUp m n w value .1) cs) p)
       go (yes h) =
           let z : State = execs n (halves w) 1 commands (setup n (halves w) given) in let a = holds-along m shaped n w value e hW cs in
-          subst (OpenCounted w) (sym (like .inside p h)) (open-counted n w hW _ (z .sh) p (z .loc p) (z .sh .start p) (wordsOf (halves w) (z .loc p .offered)) (z .loc p .point) (a .inv .each p h) (a .count .each p h))
+          subst (OpenCounted w) (sym (like .inside p h))
+          (open-counted n w hW _ (z .sh) p (z .loc p) (z .sh .start p) (wordsOf (halves w) (z .loc p .offered)) (z .loc p .point) (a .inv .each p h) (a .count .each p h))
       go (no h) = subst (OpenCounted w) (sym (like .outside p (omega arith))) tt
 
   ordered : (places : ℕ) → length (calls (events (setUp m n w value .1) cs)) ≤ places → Linearization places value (calls (events (setUp m n w value .1) cs))
   ordered places h =
       subst (λ v. Linearization places v (calls (events (setUp m n w value .1) cs))) (words-whole w value (set-up-admits m n w value e .value-length))
       (subst (Linearization places (wordsOf (halves w) given)) (sym same-calls)
-      (linearization n (halves w) hN hW given commands places (let a = ap length same-calls ∙ length-map (callsF n (halves w) 1 commands (setup n (halves w) given)) (λ (t : Timed). t .call) in omega arith)))
+      (linearization n (halves w) hN hW given commands places
+      (let a = ap length same-calls ∙ length-map (callsF n (halves w) 1 commands (setup n (halves w) given)) (λ (t : Timed). t .call) in omega arith)))
 
 pub demand-three : Demand3
 demand-three m shaped n w value cs e = record { counted = counted m shaped n w value cs e; open-counted = open-calls m shaped n w value cs e; linearization = ordered m shaped n w value cs e }

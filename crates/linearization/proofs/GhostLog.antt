@@ -69,7 +69,8 @@ module _ (N W : ℕ) where
       step-log line11 m =
           by-test₂ (λ u ts. LoggedAt v0 (suc n) u (sortInto ts log)) (ltb (suc (l .word)) W) (λ e. tick)
           (λ e. log-ll (z .inv .all .successes-past) (z .logged) p (llCall N W n p s) refl refl (l .version) (h .start p)
-          (ap llWords (wordsOf-ext W (l .returned) (h .values (l .version)) (m .answer-value))) (m .moment-past) (m .version-made) (m .moment-in-life .one) (m .moment-in-life .two) (m .last-before-start) (m .moment-after-start) (l .linkX) (m .linked-answer) (m .current-answer))
+          (ap llWords (wordsOf-ext W (l .returned) (h .values (l .version)) (m .answer-value))) (m .moment-past) (m .version-made) (m .moment-in-life .one)
+          (m .moment-in-life .two) (m .last-before-start) (m .moment-after-start) (l .linkX) (m .linked-answer) (m .current-answer))
       step-log line12 m = by-test same (eqb (h .bank (l .copySeq)) (l .copyBuf)) (λ e. tick) (λ e. tick)
       step-log line12valid m = by-test same (l .linkX) (λ e. tick) (λ e. tick)
       step-log line13 m = by-test same (l .linkBank (l .copySeq)) (λ e. tick) (λ e. tick)
@@ -79,11 +80,14 @@ module _ (N W : ℕ) where
       step-log line17 m = tick
       step-log line18 m = tick
       step-log line19 m =
-          let feeds-sc : (b : Bool) → l .linkX ≡ b → feeds (scCall N W n p s) fin ≡ cond b (fresh (wordsOf W (l .offered))) fin = λ b e. ap (λ b. cond b (fresh (wordsOf W (l .offered))) fin) (linked (m .served-link) ∙ e) in
+          let feeds-sc : (b : Bool) → l .linkX ≡ b → feeds (scCall N W n p s) fin ≡ cond b (fresh (wordsOf W (l .offered))) fin =
+          λ b e. ap (λ b. cond b (fresh (wordsOf W (l .offered))) fin) (linked (m .served-link) ∙ e) in
           let succeeds : (b : Bool) → l .linkX ≡ b → successes fin (scCall N W n p s ∷ []) ≡ cond b 1 0 + 0 = λ b e. ap (λ b. cond b 1 0 + 0) (linked (m .served-link) ∙ e) in
           by-test (λ u. LoggedAt v0 (suc n) u (insert (scCall N W n p s) log)) (l .linkX)
-          (λ e. log-success (z .inv .all .successes-past) (z .logged) p (scCall N W n p s) refl refl (m .last-past) (ap scTruth (linked (m .served-link))) (l .offered) (feeds-sc true e) (succeeds true e))
-          (λ e. log-same (z .inv .all .successes-past) (z .logged) p (scCall N W n p s) refl refl (m .last-past) (ap scTruth (linked (m .served-link))) (l .linkX) (m .served-link) (feeds-sc false e) (succeeds false e))
+          (λ e. log-success (z .inv .all .successes-past) (z .logged) p (scCall N W n p s) refl refl (m .last-past) (ap scTruth (linked (m .served-link)))
+          (l .offered) (feeds-sc true e) (succeeds true e))
+          (λ e. log-same (z .inv .all .successes-past) (z .logged) p (scCall N W n p s) refl refl (m .last-past) (ap scTruth (linked (m .served-link)))
+          (l .linkX) (m .served-link) (feeds-sc false e) (succeeds false e))
       step-log line23 m =
           log-same (z .inv .all .successes-past) (z .logged) p (vlCall N W n p s) refl refl (m .last-past) (ap vlTruth (linked (m .served-link))) (l .linkX) (m .served-link) refl refl
 

@@ -7,8 +7,9 @@ use lib.Dec.{ltb, eqb}
 use Rattle.model.specs.Points.{Point, idle, line1, line2, line3, line4, line5, line6, line7, line7copy, line8, line9}
 use Rattle.model.specs.Points.{line10, line11, line12, line12valid, line13, line14, line14valid, line15, line17, line18}
 use Rattle.model.specs.Points.{line19, line23}
-use Rattle.model.specs.Replies.{llWords, scTruth, vlTruth}
-use Rattle.model.specs.Object.{ll, sc, vl}
+use Rattle.model.specs.Replies.{Answer, llWords, scTruth, vlTruth}
+use Rattle.model.specs.Object.{Kind, ll, sc, vl}
+use Rattle.model.specs.History.{Call}
 use Rattle.model.specs.Linearizable.{Timed}
 use Rattle.linearization.proofs.PointFacts.{isIdle}
 use Rattle.linearization.proofs.GhostMachine.{Local, Shared, State, noisy, step, wStart, begin}
@@ -31,23 +32,17 @@ module _ (N W : ℕ) where
   exec n (go p) s = cond (ltb p N) (step N W n p s) s
 
   -- the answered calls of p, each with the number of the command at which it takes effect
+  abbrev pub endedCall : Kind → Answer → ℕ → ℕ → State → Call
+  endedCall k a n p s = record { process = p; kind = k; start = s .sh .start p; end = n; steps = s .loc p .count + 1; answer = a; count = s .loc p .count + 1 }
+
   abbrev pub llCall : ℕ → ℕ → State → Timed
-  llCall n p s = record {
-    call = record { process = p; kind = ll; start = s .sh .start p; end = n; steps = s .loc p .count + 1; answer = llWords (wordsOf W (s .loc p .returned)); count = s .loc p .count + 1 };
-    moment = s .loc p .moment;
-  }
+  llCall n p s = record { call = endedCall ll (llWords (wordsOf W (s .loc p .returned))) n p s; moment = s .loc p .moment }
 
   abbrev pub scCall : ℕ → ℕ → State → Timed
-  scCall n p s = record {
-    call = record { process = p; kind = sc (wordsOf W (s .loc p .offered)); start = s .sh .start p; end = n; steps = s .loc p .count + 1; answer = scTruth (s .loc p .linkX); count = s .loc p .count + 1 };
-    moment = n;
-  }
+  scCall n p s = record { call = endedCall (sc (wordsOf W (s .loc p .offered))) (scTruth (s .loc p .linkX)) n p s; moment = n }
 
   abbrev pub vlCall : ℕ → ℕ → State → Timed
-  vlCall n p s = record {
-    call = record { process = p; kind = vl; start = s .sh .start p; end = n; steps = s .loc p .count + 1; answer = vlTruth (s .loc p .linkX); count = s .loc p .count + 1 };
-    moment = n;
-  }
+  vlCall n p s = record { call = endedCall vl (vlTruth (s .loc p .linkX)) n p s; moment = n }
 
   -- what the step at a line answers
   abbrev pub callAt : Point → ℕ → ℕ → State → List Timed

@@ -125,7 +125,9 @@ module _ (N W n : ℕ) (h : Shared) (p t : ℕ) (pt : p ≡ t → ⊥) (v u w : 
       let f1 = on-map (lines 0 8 y) {B = upd (h .flag) t false t ≡ true → upd (h .helpBuf) t v t ≡ l .mybuf} (λ _ x. absurd (no x)) (m .asks-own) in
       let f2 = on-map (lines 9 22 y) {B = upd (h .flag) t false t ≡ false} (λ _. z) (m .asks-not) in
       let f3 = on-map (lines 3 6 y) {B = Both (upd (h .flag) t false t ≡ false) (l .b ≡ upd (h .helpBuf) t v t)} (λ x. absurd (bad x)) (m .handed) in
-      let f5 = on-map (lines 8 8 y) {B = Withdrawing (upd (h .flag) t false t) (upd (h .helpBuf) t v t) (upd (l .linkHelp) t false t) (l .c)} (λ _. record { linked = λ x. absurd (no x); flag = λ x. absurd (contra x (upd-same (l .linkHelp) t false)); seen = λ x. absurd (no x) }) (m .withdraws) in
+      let f5 =
+      on-map (lines 8 8 y) {B = Withdrawing (upd (h .flag) t false t) (upd (h .helpBuf) t v t) (upd (l .linkHelp) t false t) (l .c)}
+      (λ _. record { linked = λ x. absurd (no x); flag = λ x. absurd (contra x (upd-same (l .linkHelp) t false)); seen = λ x. absurd (no x) }) (m .withdraws) in
       let f6 = on-map (lines 18 19 y) (h6-lasts h t v (l .copySeq % N) false (l .linkHelp) (l .d)) (m .offer-seen) in
       let f7 = on-map (lines 18 19 y) (h7-down h t v (l .copySeq % N) (l .linkHelp) (l .linkX)) (m .offer-open) in
       let f8 = on-map (lines 20 22 y) (h8-down h t v (l .copySeq % N) (l .linkHelp) (l .linkX)) (m .asked-now) in
@@ -136,7 +138,9 @@ module _ (N W n : ℕ) (h : Shared) (p t : ℕ) (pt : p ≡ t → ⊥) (v u w : 
       let g6 = on-map (lines 0 6 y) {B = D6 h15 W t} (λ _ _. rw (e1, e2, e3) got) (m .handed-value) in
       let g7 = on-map (lines 1 1 y) {B = upd (h .flag) t false t ≡ true → SamePart (l .returned) (h .values (l .readVersion)) (l .word)} (λ _ x. absurd (no x)) (m .read-part) in
       let g7f = on-map (lines 2 2 y) {B = upd (h .flag) t false t ≡ true → SamePart (l .returned) (h .values (l .readVersion)) W} (λ _ x. absurd (no x)) (m .read-whole) in
-      let g8 = on-with (lines 4 5 y) (lines 3 6 y) {A′ = upd (h .helpVersion) t w t ≤ l .readVersion} (wide 4 5 3 6 y (lit≤ tt) (lit≤ tt)) (λ x _. absurd (bad x)) (m .handed) (m .handed-before-reread) in
+      let g8 =
+      on-with (lines 4 5 y) (lines 3 6 y) {A′ = upd (h .helpVersion) t w t ≤ l .readVersion} (wide 4 5 3 6 y (lit≤ tt) (lit≤ tt)) (λ x _. absurd (bad x))
+      (m .handed) (m .handed-before-reread) in
       let g9 = on-with (lines 6 6 y) (lines 3 6 y) {A′ = l .version ≡ upd (h .helpVersion) t w t} (wide 6 6 3 6 y (lit≤ tt) (lit≤ tt)) (λ x _. absurd (bad x)) (m .handed) (m .copied-version) in
       search arith
 

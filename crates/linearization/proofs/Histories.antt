@@ -124,7 +124,8 @@ started-slot : (W n : ℕ) (o : Order) (v : List ℕ) (s : Slot) (p : ℕ) (z : 
 started-slot W n StartLl v s p z e b = slot-start (halves W) p n line1 _ z
 started-slot W n StartVl v s p z e b = slot-start (halves W) p n line23 _ z
 started-slot W n StartSc v s p z e b =
-    subst (λ w. SlotStep (halves W) p (running (sc w) n 0) z (GhostMachine.noisy z p (GhostMachine.wStart p n (z .sh)) (λ l. l) (begun StartSc v (z .loc p)))) (words-whole W v (b refl)) (slot-start (halves W) p n line12 (cells v) z)
+    subst (λ w. SlotStep (halves W) p (running (sc w) n 0) z (GhostMachine.noisy z p (GhostMachine.wStart p n (z .sh)) (λ l. l) (begun StartSc v (z .loc p))))
+    (words-whole W v (b refl)) (slot-start (halves W) p n line12 (cells v) z)
 started-slot W n Step v s p z e b = absurd (contra e refl)
 
 module _ (N W : ℕ) (hW : 0 < halves W) where
@@ -141,13 +142,15 @@ module _ (N W : ℕ) (hW : 0 < halves W) where
     }
     matched-case (started r) = record {
       call = ap (λ t. callOf n c t (slots (c .process))) (r .said) ∙ sym (ap (map (λ (t : Timed). t .call)) (silent-start N W n z (c .process) (c .value) (c .order) (r .start)));
-      open-calls = rw (r .said, r .follows) (slots-after N (halves W) (c .process) (r .below) slots z _ _ a (started-slot W n (c .order) (c .value) (slots (c .process)) (c .process) z (r .start) (r .value)));
+      open-calls = rw (r .said, r .follows) (slots-after N (halves W) (c .process) (r .below) slots z _ _ a
+          (started-slot W n (c .order) (c .value) (slots (c .process)) (c .process) z (r .start) (r .value)));
     }
     matched-case (stepped-case r) = record {
       call = ap₂ (callOf n c) (r .said) (a .inside (c .process) (r .below)) ∙ step-call N (halves W) n c z (z .loc (c .process) .point) ∙ sym (ap (map (λ (t : Timed). t .call)) answers);
       open-calls = rw (r .said, a .inside (c .process) (r .below), r .follows)
           (slots-after N (halves W) (c .process) (r .below) slots z _ _ a (subst (λ s. SlotStep (halves W) (c .process) s z (GhostMachine.step N (halves W) n (c .process) z))
-          (sym (step-slot (halves W) n c (r .step) (z .sh .start (c .process)) (wordsOf (halves W) (z .loc (c .process) .offered)) (z .loc (c .process)) (z .loc (c .process) .point))) (slot-step N (halves W) (c .process) n z)));
+          (sym (step-slot (halves W) n c (r .step) (z .sh .start (c .process)) (wordsOf (halves W) (z .loc (c .process) .offered)) (z .loc (c .process))
+          (z .loc (c .process) .point))) (slot-step N (halves W) (c .process) n z)));
     }
       where
         answers : callF N (halves W) n (toF N W c) z ≡ callAt N (halves W) (z .loc (c .process) .point) n (c .process) z
@@ -171,5 +174,6 @@ module _ (N W : ℕ) (hW : 0 < halves W) where
   unfolding events slotsFrom
   slots-match [] n m z slots h a = a
   slots-match (c ∷ cs) n m z slots h a =
-      subst (λ k. SlotsLike N (halves W) (slotsFrom k (events (command m (c .process) (c .order) (c .value) .1) cs) (slotsAfter n (eventOf m c) slots)) (execs N (halves W) n (map (toF N W) (c ∷ cs)) z)) (sym (add-one n))
+      subst (λ k. SlotsLike N (halves W) (slotsFrom k (events (command m (c .process) (c .order) (c .value) .1) cs) (slotsAfter n (eventOf m c) slots))
+      (execs N (halves W) n (map (toF N W) (c ∷ cs)) z)) (sym (add-one n))
       (slots-match cs (suc n) _ _ _ (holds-after N W hW n m z h c) (matched n m z slots h a c .open-calls))

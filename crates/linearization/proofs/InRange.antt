@@ -66,7 +66,8 @@ module _ (N W : ℕ) where
 
   process-ok : (f : Local) → ProcessRanges N (halves W) f → CountIn W f → processOk N W (recordOf f) ≡ true
   process-ok f r c =
-      ap₂ _&&_ (lt-ltb _ _ (r .my)) (ap₂ _&&_ (ap₂ _&&_ (lt-ltb _ _ (r .copyBuf)) (lt-ltb _ _ (r .copySeq))) (ap₂ _&&_ (lt-ltb _ _ (r .b)) (ap₂ _&&_ (lt-ltb _ _ (r .c)) (ap₂ _&&_ (lt-ltb _ _ (r .d)) (ap₂ _&&_ (lt-ltb _ _ (r .e))
+      ap₂ _&&_ (lt-ltb _ _ (r .my)) (ap₂ _&&_ (ap₂ _&&_ (lt-ltb _ _ (r .copyBuf)) (lt-ltb _ _ (r .copySeq)))
+      (ap₂ _&&_ (lt-ltb _ _ (r .b)) (ap₂ _&&_ (lt-ltb _ _ (r .c)) (ap₂ _&&_ (lt-ltb _ _ (r .d)) (ap₂ _&&_ (lt-ltb _ _ (r .e))
       (ap₂ _&&_ (line-ok (f .point)) (ap₂ _&&_ (lt-ltb _ _ (r .word)) (count-ok f c))))))))
 
   pub in-range : (m : Memory) (z : State) → Related N W m z → InRanges N (halves W) z → ((q : ℕ) → q < N → CountIn W (z .loc q)) → inRange m ≡ true

@@ -52,7 +52,8 @@ module _ (N W n : ℕ) (s : State) (i : Invariant N W n s) where
     hold-owned : h .holders (2 * N + p) ≡ owned s p
     hold-owned =
         by-test (λ b. h .holders (2 * N + p) ≡ b) (lines 0 9 (l .point))
-        (λ e. let o : h .holders (2 * N + p) ≡ h .helpBuf p = on-get (lines 0 9 (l .point)) _ e (m .owns-help) in by-test (λ b. h .holders (2 * N + p) ≡ b) (h .flag p) (λ f. o ∙ own-up (lines 0 8 (l .point)) refl f) (λ _. o))
+        (λ e. let o : h .holders (2 * N + p) ≡ h .helpBuf p = on-get (lines 0 9 (l .point)) _ e (m .owns-help) in
+        by-test (λ b. h .holders (2 * N + p) ≡ b) (h .flag p) (λ f. o ∙ own-up (lines 0 8 (l .point)) refl f) (λ _. o))
         (λ e. on-get (lines 10 22 (l .point)) _ (above 9 (l .point) e) (m .owns-mybuf))
 
   -- .. and what every slot holds

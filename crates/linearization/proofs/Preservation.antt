@@ -96,7 +96,8 @@ module _ (N W n : ℕ) (hW : 0 < W) (s : State) (p : ℕ) (hp : p < N) (i : Inva
       by-test (Invariant N W (suc n)) (l .linkBank (l .copySeq))
       (λ e.
       let z = m .linked-current (m .line13-valid e .one) in let ei : l .copySeq ≡ h .successes % (2 * N) = cc (m .copy-seq) in let eb : l .copyBuf ≡ h .buffers (h .successes) = cc (m .copy-buf) in
-      noisy-inv N W n s p _ (setLinkBank (l .copySeq) false) _ i (all-s13 N W n h (omega arith) _ _ ei eb g) (own-s13 N W n h (omega arith) _ _ ei eb p l m) (λ q hq ne k. others-s13 N W n h (omega arith) _ _ ei eb q _ _ k))
+      noisy-inv N W n s p _ (setLinkBank (l .copySeq) false) _ i (all-s13 N W n h (omega arith) _ _ ei eb g) (own-s13 N W n h (omega arith) _ _ ei eb p l m)
+      (λ q hq ne k. others-s13 N W n h (omega arith) _ _ ei eb q _ _ k))
       (λ e. q! _ (own-s13′ N W n h p l hp hW g e m))
   go line14 m = by-test (Invariant N W (suc n)) (h .flag (l .copySeq % N)) (λ e. q! _ (own-s14 N W n h p l hp hW g e m)) (λ e. q! _ (own-s14′ N W n h p l hp hW g e m))
   go line14valid m = by-test (Invariant N W (suc n)) (l .linkX) (λ e. q! _ (own-s14v N W n h p l hp hW g (i .each _ hu .start-past) e m)) (λ e. q! _ (own-s14v′ N W n h p l hp hW g e m))
@@ -106,8 +107,10 @@ module _ (N W n : ℕ) (hW : 0 < W) (s : State) (p : ℕ) (hp : p < N) (i : Inva
       let u = l .copySeq % N in let v = m .offer-seen e in
       let pt : p ≡ u → ⊥ = λ z. contra (v .flag) (subst (λ n. h .flag n ≡ false) z (m .asks-not)) in
       let o = own-of N W n _ h u _ (i .each u hu) (v .flag) in
-      let got : Got (h .buf (l .mybuf)) (h .values (l .readVersion)) (h .wonAt) (h .successes) W (l .readVersion) (l .checkedAt) (h .start u) = record { words = m .mybuf-read; inside = m .check-in-life; after = m .check-after-start e } in
-      noisy-inv N W n s p _ (setLinkHelp u false) _ i (all-s15 N W n h p u pt _ _ _ hp hu g) (own-s15 N W n h p u pt _ _ _ l hW refl o (v .seen) m) (λ q hq ne k. sort u pt q ne (v .flag) (m .owns-mybuf) (m .read-made) (m .check-past) got k (split q u)))
+      let got : Got (h .buf (l .mybuf)) (h .values (l .readVersion)) (h .wonAt) (h .successes) W (l .readVersion) (l .checkedAt) (h .start u) =
+      record { words = m .mybuf-read; inside = m .check-in-life; after = m .check-after-start e } in
+      noisy-inv N W n s p _ (setLinkHelp u false) _ i (all-s15 N W n h p u pt _ _ _ hp hu g) (own-s15 N W n h p u pt _ _ _ l hW refl o (v .seen) m)
+      (λ q hq ne k. sort u pt q ne (v .flag) (m .owns-mybuf) (m .read-made) (m .check-past) got k (split q u)))
       (λ e. q! _ (own-s15′ N W n h p l hp hW g (i .each _ hu .asked-made) e m))
   go line17 m =
       by-test (λ k. Invariant N W (suc n) (noisy s p (wBuf (l .mybuf) (l .word) (l .offered (l .word)) h) (λ l. l) k)) (ltb (suc (l .word)) W)
@@ -116,7 +119,8 @@ module _ (N W n : ℕ) (hW : 0 < W) (s : State) (p : ℕ) (hp : p < N) (i : Inva
   go line18 m = q! _ (own-s18 N W n h p l hp hW g m)
   go line19 m =
       by-test (Invariant N W (suc n)) (l .linkX)
-      (λ e. noisy-inv N W n s p _ (setLinkX false) _ i (all-end N W _ _ _ _ _ (all-s19 N W n h p l hp e g m)) (own-s19 N W n h p l hp e g m) (λ q hq ne k. others-end N W _ p _ _ q _ _ _ ne (others-s19 N W n h p l hp e g m q _ _ hq ne k)))
+      (λ e. noisy-inv N W n s p _ (setLinkX false) _ i (all-end N W _ _ _ _ _ (all-s19 N W n h p l hp e g m)) (own-s19 N W n h p l hp e g m)
+      (λ q hq ne k. others-end N W _ p _ _ q _ _ _ ne (others-s19 N W n h p l hp e g m q _ _ hq ne k)))
       (λ e. e! _ (own-s19′ N W n h p l hp hW g e m))
   go line23 m = e! _ (own-v23 N W n h p l hp hW g m)
 

@@ -171,10 +171,14 @@ module _ (N W n : ℕ) (h : Shared) (p : ℕ) (l : Local) (hp : p < N) (hW : 0 <
       late (no u) v = omega arith
 
   pub own-s18 : ProcessClauses N W n line18 h p l → ProcessClauses N W (suc n) line19 h p (to line19 (setE (h .bank (suc (l .copySeq) % (2 * N))) l))
-  own-s18 m = let f : l .linkX ≡ true → h .bank (suc (l .copySeq) % (2 * N)) ≡ h .bank (suc (h .successes) % (2 * N)) = λ x. let z = m .linked-current x in cc (suc-mod (h .successes) (2 * N), m .copy-seq) in search arith
+  own-s18 m =
+      let f : l .linkX ≡ true → h .bank (suc (l .copySeq) % (2 * N)) ≡ h .bank (suc (h .successes) % (2 * N)) =
+      λ x. let z = m .linked-current x in cc (suc-mod (h .successes) (2 * N), m .copy-seq) in search arith
 
   pub own-s19′ : l .linkX ≡ false → ProcessClauses N W n line19 h p l → ProcessClauses N W (suc n) idle (wEnd p (l .linkX) n h) p (rest (l .answered) l)
-  own-s19′ e m = let e1 = upd-same (h .lastMoment) p n in let e2 = upd-same (h .servedLink) p (l .linkX) in let f : l .linkX ≡ true → SamePart (h .buf (l .mybuf)) (h .values (l .readVersion)) W = λ x. absurd (contra x e) in search arith
+  own-s19′ e m =
+      let e1 = upd-same (h .lastMoment) p n in let e2 = upd-same (h .servedLink) p (l .linkX) in
+      let f : l .linkX ≡ true → SamePart (h .buf (l .mybuf)) (h .values (l .readVersion)) W = λ x. absurd (contra x e) in search arith
 
   pub own-v23 : ProcessClauses N W n line23 h p l → ProcessClauses N W (suc n) idle (wEnd p (l .linkX) n h) p (rest (l .answered) l)
   own-v23 m = let e1 = upd-same (h .lastMoment) p n in let e2 = upd-same (h .servedLink) p (l .linkX) in search arith

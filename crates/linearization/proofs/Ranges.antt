@@ -97,13 +97,16 @@ module _ (N W : ℕ) where
     range-step line12valid = by-test InRanges (l .linkX) (λ e. q! _ (let a = m in search)) (λ e. q! _ (let a = m in search))
     range-step line13 =
         by-test InRanges (l .linkBank (l .copySeq))
-        (λ e. n! _ (setLinkBank (l .copySeq) false) _ (let a = i .all in let b = below (2 * N) (3 * N) (h .bank) (l .copySeq) (l .copyBuf) (m .copyBuf) (i .all .bank) in search) (let a = m in search) (λ q hq x. search))
+        (λ e. n! _ (setLinkBank (l .copySeq) false) _
+        (let a = i .all in let b = below (2 * N) (3 * N) (h .bank) (l .copySeq) (l .copyBuf) (m .copyBuf) (i .all .bank) in search) (let a = m in search)
+        (λ q hq x. search))
         (λ e. q! _ (let a = m in search))
     range-step line14 = by-test InRanges (h .flag (l .copySeq % N)) (λ e. q! _ (let a = m in let b = i .all .helpBuf _ hu in search)) (λ e. q! _ (let a = m in search))
     range-step line14valid = by-test InRanges (l .linkX) (λ e. q! _ (let a = m in search)) (λ e. q! _ (let a = m in search))
     range-step line15 =
         by-test InRanges (l .linkHelp (l .copySeq % N))
-        (λ e. n! _ (setLinkHelp (l .copySeq % N) false) _ (let a = i .all in let b = below N (3 * N) (h .helpBuf) (l .copySeq % N) (l .mybuf) (m .my) (i .all .helpBuf) in search) (let a = m in search) (λ q hq x. search))
+        (λ e. n! _ (setLinkHelp (l .copySeq % N) false) _
+        (let a = i .all in let b = below N (3 * N) (h .helpBuf) (l .copySeq % N) (l .mybuf) (m .my) (i .all .helpBuf) in search) (let a = m in search) (λ q hq x. search))
         (λ e. q! _ (let a = m in search))
     range-step line17 =
         by-test (λ x. InRanges (noisy s p (wBuf (l .mybuf) (l .word) (l .offered (l .word)) h) (λ l. l) x)) (ltb (suc (l .word)) W)

@@ -32,7 +32,9 @@ first-row k false next ne e = (refl, e)
 pub none-holds : (rs : List Row) → numbered rs ≡ true → first rs ≡ 0 → (j : ℕ) → getD rs j noRow .holds ≡ false
 none-holds [] n e j = refl
 none-holds (r ∷ rs) n e zero = first-row (r .number) (r .holds) (first rs) (eqb-false _ 0 (not-true _ (and-true (not (eqb (r .number) 0)) _ n .0))) e .0
-none-holds (r ∷ rs) n e (suc j) = none-holds rs (and-true (not (eqb (r .number) 0)) _ n .1) (first-row (r .number) (r .holds) (first rs) (eqb-false _ 0 (not-true _ (and-true (not (eqb (r .number) 0)) _ n .0))) e .1) j
+none-holds (r ∷ rs) n e (suc j) =
+    none-holds rs (and-true (not (eqb (r .number) 0)) _ n .1)
+    (first-row (r .number) (r .holds) (first rs) (eqb-false _ 0 (not-true _ (and-true (not (eqb (r .number) 0)) _ n .0))) e .1) j
 
 pub inside : (low high k : ℕ) → not (between low high k) ≡ false → (low ≤ k) × (k ≤ high)
 inside low high k e = let z = and-true _ _ (not-false _ e) in (leb-true _ _ (z .0), leb-true _ _ (z .1))

@@ -58,7 +58,8 @@ pub return-area : (N W : ℕ) (m : Memory) (z : State) (p : ℕ) → p < N → R
 return-area N W m z p hp r =
     let y : suc (3 * N + p) * W ≤ 5 * N * W = mul-le-mul-right W (omega arith) in let l = r .places .words .len in
     rw (r .n, r .w) (cut-words W ((3 * N + p) * W + 0) (m .words) (omega arith)
-    ∙ wordsOf-ext (halves W) _ _ (λ k hk. ap (λ i. half k (getD (m .words) i 0)) (let e : (3 * N + p) * W + 0 + wordOf k ≡ (3 * N + p) * W + wordOf k = omega arith in e) ∙ r .places .words .returned p k hp hk))
+    ∙ wordsOf-ext (halves W) _ _ (λ k hk. ap (λ i. half k (getD (m .words) i 0))
+    (let e : (3 * N + p) * W + 0 + wordOf k ≡ (3 * N + p) * W + wordOf k = omega arith in e) ∙ r .places .words .returned p k hp hk))
 
 -- line 11 leaves the return area as it was
 pub return-stays : (N W t p : ℕ) (z : State) → GhostMachine.stepAt N W line11 t p z .loc p .returned ≡ z .loc p .returned

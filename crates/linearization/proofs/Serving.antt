@@ -66,8 +66,10 @@ tell-alike vl p q o o′ ne s = ap vlTruth (s .link q ne)
 -- what follows is served alike, and ends alike
 pub served-alike : (p : ℕ) (o o′ : Object) (ts : List Timed) → Alike p o o′ → Free p ts → Served o ts → Served o′ ts
 served-alike p o o′ [] s f v = tt
-served-alike p o o′ (t ∷ ts) s f v =
-    (sym (tell-alike (t .call .kind) p (t .call .process) o o′ (f .0) s) ∙ v .0, served-alike p (feeds t o) (feeds t o′) ts (feed-alike (t .call .kind) p (t .call .process) o o′ (f .0) s) (f .1) (v .1))
+served-alike p o o′ (t ∷ ts) s f v = (
+  sym (tell-alike (t .call .kind) p (t .call .process) o o′ (f .0) s) ∙ v .0,
+  served-alike p (feeds t o) (feeds t o′) ts (feed-alike (t .call .kind) p (t .call .process) o o′ (f .0) s) (f .1) (v .1),
+)
 
 pub after-alike : (p : ℕ) (o o′ : Object) (ts : List Timed) → Alike p o o′ → Free p ts → Alike p (after o ts) (after o′ ts)
 after-alike p o o′ [] s f = s

@@ -170,7 +170,8 @@ module _ (N W : ℕ) (x : XPlace) (ks : List BankPlace) (hs : List HelpPlace) (w
   on-bank i hi k′ q′ h′ u l new e sh own oth k bs ls us = made _ ws q′ Accepted h′ u l refl refl (record {
     x = x-same N x (ap (λ c. c .0) sh) (ap (λ c. c .1) sh) (λ q. ap (λ c. c .0) (keeps z p u l ofBank own oth q)) (r .x);
     bank-length = let y = length-set ks i k′ in let v = r .bank-length in omega arith;
-    bank = put-place (λ j b. BankLike N b (h′ .bank j) (λ q. locs z p u l q .linkBank j)) (2 * N) ks noBank k′ i hi (r .bank-length) new (λ j hj ne. bank-same N _ (bs j ne) (keeps z p u l (λ m. m .linkBank j) (ls j ne) (us j ne)) (r .bank j hj));
+    bank = put-place (λ j b. BankLike N b (h′ .bank j) (λ q. locs z p u l q .linkBank j)) (2 * N) ks noBank k′ i hi (r .bank-length) new
+        (λ j hj ne. bank-same N _ (bs j ne) (keeps z p u l (λ m. m .linkBank j) (ls j ne) (us j ne)) (r .bank j hj));
     help-length = r .help-length;
     help = λ j hj. help-same N _ (ap (λ c. c .2 j) sh) (ap (λ c. c .3 j) sh) (λ q. ap (λ c. c .1 j) (keeps z p u l ofBank own oth q)) (r .help j hj);
     words = words-same N W ws _ _ _ (r .words) _ _ _ (ap (λ c. c .4) sh) (λ q. ap (λ c. c .2) (keeps z p u l ofBank own oth q)) (λ q. ap (λ c. c .3) (keeps z p u l ofBank own oth q));
@@ -188,7 +189,8 @@ module _ (N W : ℕ) (x : XPlace) (ks : List BankPlace) (hs : List HelpPlace) (w
     bank-length = r .bank-length;
     bank = λ j hj. bank-same N _ (ap (λ c. c .2 j) sh) (λ q. ap (λ c. c .1 j) (keeps z p u l ofHelp own oth q)) (r .bank j hj);
     help-length = let y = length-set hs i k′ in let v = r .help-length in omega arith;
-    help = put-place (λ j b. HelpLike N b (h′ .flag j) (h′ .helpBuf j) (λ q. locs z p u l q .linkHelp j)) N hs noHelp k′ i hi (r .help-length) new (λ j hj ne. help-same N _ (bs j ne .0) (bs j ne .1) (keeps z p u l (λ m. m .linkHelp j) (ls j ne) (us j ne)) (r .help j hj));
+    help = put-place (λ j b. HelpLike N b (h′ .flag j) (h′ .helpBuf j) (λ q. locs z p u l q .linkHelp j)) N hs noHelp k′ i hi (r .help-length) new
+        (λ j hj ne. help-same N _ (bs j ne .0) (bs j ne .1) (keeps z p u l (λ m. m .linkHelp j) (ls j ne) (us j ne)) (r .help j hj));
     words = words-same N W ws _ _ _ (r .words) _ _ _ (ap (λ c. c .3) sh) (λ q. ap (λ c. c .2) (keeps z p u l ofHelp own oth q)) (λ q. ap (λ c. c .3) (keeps z p u l ofHelp own oth q));
   }) e k
 
@@ -363,8 +365,10 @@ module _ (N W : ℕ) (x : XPlace) (ks : List BankPlace) (hs : List HelpPlace) (w
   follow line3 e = reads line3 line4 e (f .copyBuf) (g .copyBuf)
   follow line4 e =
       by-test (After line4) (h .flag p)
-      (λ t′. rw (is-0 p hp ∙ ap not t′) (ll-help p hp _ (GhostMachine.to line8 (GhostMachine.setMoment (f .readAt) (f .readVersion) (GhostMachine.setLinkHelp p true f))) (to-record line8 f) refl refl))
-      (λ t′. rw (is-0 p hp ∙ ap not t′) (ll-help p hp _ (GhostMachine.to line5 (GhostMachine.setB (h .helpBuf p) (GhostMachine.setLinkHelp p true f))) (takes line5 p hp Records.withB (GhostMachine.setB (h .helpBuf p) f) refl) refl refl))
+      (λ t′. rw (is-0 p hp ∙ ap not t′) (ll-help p hp _
+      (GhostMachine.to line8 (GhostMachine.setMoment (f .readAt) (f .readVersion) (GhostMachine.setLinkHelp p true f))) (to-record line8 f) refl refl))
+      (λ t′. rw (is-0 p hp ∙ ap not t′) (ll-help p hp _ (GhostMachine.to line5 (GhostMachine.setB (h .helpBuf p) (GhostMachine.setLinkHelp p true f)))
+      (takes line5 p hp Records.withB (GhostMachine.setB (h .helpBuf p) f) refl) refl refl))
   follow line5 e = ll-x line6
   follow line6 e = reads line6 line7 e (f .copyBuf) (g .copyBuf)
   follow line7 e =
@@ -374,11 +378,14 @@ module _ (N W : ℕ) (x : XPlace) (ks : List BankPlace) (hs : List HelpPlace) (w
   follow line7copy e = reads line7copy line8 e (f .b) (g .b)
   follow line8 e =
       by-test (After line8) (h .flag p)
-      (λ t′. rw (is-1 p hp ∙ t′) (ll-help p hp _ (GhostMachine.to line9 (GhostMachine.setC (h .helpBuf p) (GhostMachine.setLinkHelp p true f))) (takes line9 p hp Records.withC (GhostMachine.setC (h .helpBuf p) f) refl) refl refl))
+      (λ t′. rw (is-1 p hp ∙ t′) (ll-help p hp _ (GhostMachine.to line9 (GhostMachine.setC (h .helpBuf p) (GhostMachine.setLinkHelp p true f)))
+      (takes line9 p hp Records.withC (GhostMachine.setC (h .helpBuf p) f) refl) refl refl))
       (λ t′. rw (is-1 p hp ∙ t′) (ll-help p hp _ (GhostMachine.to line10 (GhostMachine.setLinkHelp p true f)) (to-record line10 f) refl refl))
   follow line9 e =
       by-test (After line9) (f .linkHelp p)
-      (λ t′. rw (r .help p hp .links .at p hp ∙ t′) (write-help p hp false (f .c) _ (GhostMachine.wHelp p false (f .c) h) (GhostMachine.to line10 (GhostMachine.setLinkHelp p false f)) (to-record line10 f) refl refl refl refl refl))
+      (λ t′. rw (r .help p hp .links .at p hp ∙ t′)
+      (write-help p hp false (f .c) _ (GhostMachine.wHelp p false (f .c) h) (GhostMachine.to line10 (GhostMachine.setLinkHelp p false f))
+      (to-record line10 f) refl refl refl refl refl))
       (λ t′. rw (r .help p hp .links .at p hp ∙ t′) (stay-help p hp _ (GhostMachine.to line10 f) (to-record line10 f) refl refl))
   follow line10 e = stay-help p hp _ (GhostMachine.to line11 (GhostMachine.setMybuf (h .helpBuf p) f)) (takes line11 p hp Records.withMybuf (GhostMachine.setMybuf (h .helpBuf p) f) refl) refl refl
   follow line11 e =
@@ -386,7 +393,8 @@ module _ (N W : ℕ) (x : XPlace) (ks : List BankPlace) (hs : List HelpPlace) (w
       let h′ : Shared = GhostMachine.wBuf (f .mybuf) (f .word) v h in
       by-test (After line11) (ltb (suc (f .word)) (halves W))
       (λ t′. rw (k+1 ∙ t′) (write _ v from _ Accepted h′ (GhostMachine.setWord (suc (f .word)) (GhostMachine.to line11 f)) (next-word line11 f e) refl refl refl refl refl))
-      (λ t′. rw (k+1 ∙ t′) (write _ v from _ (LlAnswered (f .count + 1)) (GhostMachine.wEnd p (f .linkX) (f .moment) h′) (GhostMachine.rest true (GhostMachine.setWord 0 f)) refl refl refl refl refl refl))
+      (λ t′. rw (k+1 ∙ t′) (write _ v from _ (LlAnswered (f .count + 1)) (GhostMachine.wEnd p (f .linkX) (f .moment) h′)
+      (GhostMachine.rest true (GhostMachine.setWord 0 f)) refl refl refl refl refl refl))
   follow line12 e =
       let same = ap (λ a. eqb a (f .copyBuf)) (r .bank (f .copySeq) (g .copySeq) .buf) in
       by-test (After line12) (eqb (h .bank (f .copySeq)) (f .copyBuf))
@@ -403,7 +411,9 @@ module _ (N W : ℕ) (x : XPlace) (ks : List BankPlace) (hs : List HelpPlace) (w
       (λ t′. rw (linked ∙ t′) (stay-bank (f .copySeq) (g .copySeq) _ (GhostMachine.to line14 f) (to-record line14 f) refl refl))
   follow line14 e =
       by-test (After line14) (h .flag asker)
-      (λ t′. rw (is-1 asker hu ∙ t′) (ll-help asker hu _ (GhostMachine.to line14valid (GhostMachine.setD (h .helpBuf asker) (GhostMachine.setLinkHelp asker true f))) (takes line14valid asker hu Records.withD (GhostMachine.setD (h .helpBuf asker) f) refl) refl refl))
+      (λ t′. rw (is-1 asker hu ∙ t′) (ll-help asker hu _
+      (GhostMachine.to line14valid (GhostMachine.setD (h .helpBuf asker) (GhostMachine.setLinkHelp asker true f)))
+      (takes line14valid asker hu Records.withD (GhostMachine.setD (h .helpBuf asker) f) refl) refl refl))
       (λ t′. rw (is-1 asker hu ∙ t′) (ll-help asker hu _ (GhostMachine.to line17 (GhostMachine.setLinkHelp asker true f)) (to-record line17 f) refl refl))
   follow line14valid e =
       by-test (After line14valid) (f .linkX)
@@ -430,7 +440,8 @@ module _ (N W : ℕ) (x : XPlace) (ks : List BankPlace) (hs : List HelpPlace) (w
       (λ t′. rw (add-one (f .copySeq), x-linked ∙ t′) (write-x _ _ (ScAnswered true (f .count + 1))
       (GhostMachine.wEnd p false t (GhostMachine.wX (f .mybuf) nextSeq (f .offered) t nextSeq (2 * N + p) h))
       (GhostMachine.rest (f .answered) (GhostMachine.setMybuf (f .e) (GhostMachine.setLinkX false f))) refl refl refl refl refl refl))
-      (λ t′. rw (add-one (f .copySeq), x-linked ∙ t′) (stay-x _ (ScAnswered false (f .count + 1)) (GhostMachine.wEnd p (f .linkX) t h) (GhostMachine.rest (f .answered) f) refl refl refl refl refl refl))
+      (λ t′. rw (add-one (f .copySeq), x-linked ∙ t′)
+      (stay-x _ (ScAnswered false (f .count + 1)) (GhostMachine.wEnd p (f .linkX) t h) (GhostMachine.rest (f .answered) f) refl refl refl refl refl refl))
   follow line23 e = stay-x _ (VlAnswered (linked (x .links) me) (f .count + 1)) (GhostMachine.wEnd p (f .linkX) t h) (GhostMachine.rest (f .answered) f) refl refl refl refl refl refl
 
   -- a start: p's record, and for SC its offer area; n is the number of the command

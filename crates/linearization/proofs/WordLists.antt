@@ -36,4 +36,5 @@ cells ws k = half k (getD ws (wordOf k) 0)
 pub wordsOf-halves : (w : ℕ) (f : ℕ → ℕ) → wordsOf (halves w) (λ k. half k (f (wordOf k))) ≡ tab w f
 wordsOf-halves w f =
     ap (λ n. tab n (λ k. half (2 * k) (f (wordOf (2 * k))) + half (2 * k + 1) (f (wordOf (2 * k + 1))) * halfValues)) (let z : halves w / 2 ≡ w = omega arith in z)
-    ∙ tab-ext w _ _ (λ k h. ap₂ (λ a b. half (2 * k) (f a) + half (2 * k + 1) (f b) * halfValues) (let z : 2 * k / 2 ≡ k = omega arith in z) (let z : (2 * k + 1) / 2 ≡ k = omega arith in z) ∙ halves-joined k (f k))
+    ∙ tab-ext w _ _ (λ k h. ap₂ (λ a b. half (2 * k) (f a) + half (2 * k + 1) (f b) * halfValues) (let z : 2 * k / 2 ≡ k = omega arith in z)
+    (let z : (2 * k + 1) / 2 ≡ k = omega arith in z) ∙ halves-joined k (f k))
