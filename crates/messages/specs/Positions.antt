@@ -17,9 +17,14 @@ counted n t = cond t (n + 1) n
 
 -- one byte more: a line feed begins a line; every byte is a column
 unfoldable pub onByte : ℕ → Seen → Seen
-onByte b s =
-    record
-    { feeds = counted (s .feeds) (eqb b 10); since = cond (eqb b 10) 0 (s .since + 1); spaces = counted (s .spaces) (eqb b 32); last = b; mark = cond (isDigit b) (s .mark) b; solid = cond (isGap b) (s .solid) b }
+onByte b s = record {
+  feeds = counted (s .feeds) (eqb b 10);
+  since = cond (eqb b 10) 0 (s .since + 1);
+  spaces = counted (s .spaces) (eqb b 32);
+  last = b;
+  mark = cond (isDigit b) (s .mark) b;
+  solid = cond (isGap b) (s .solid) b;
+}
 
 abbrev pub atStart : Seen
 atStart = record { feeds = 0; since = 0; spaces = 0; last = 0; mark = 0; solid = 0 }

@@ -38,11 +38,11 @@ loop-less c = omega arith
 
 loop-again : tie.Need-loop-again Inv-loop μ-loop
 loop-again c =
-    let c3 = c .before .before .before in
-    let bs = c3 .before .before .args .before .now in
-    let next = c .on-byte .ensures in
-    record
-    { within = omega (arith, c .before .before .loop-test .taken); passed = rw next (passed-more (c3 .loop .i) _ _ (c3 .loop .inv .passed)); left = c3 .loop .inv .left ∙ one-further bs (c3 .loop .i) (c3 .loop .s) (c .before .before .loop-test .taken) ∙ ap (λ (x : Seen). seenFrom (drop (c3 .loop .i + 1) bs) x) (sym next) }
+    let c2 = c .before .before in let c3 = c2 .before in
+    let bs = c3 .before .before .args .before .now in let i = c3 .loop .i in let s = c3 .loop .s in
+    let next = c .on-byte .ensures in let h = c2 .loop-test .taken in
+    let left = c3 .loop .inv .left ∙ one-further bs i s h ∙ ap (λ (x : Seen). seenFrom (drop (i + 1) bs) x) (sym next) in
+    record { within = omega (arith, h); passed = rw next (passed-more i _ _ (c3 .loop .inv .passed)); left = left }
 
 returns : tie.Need-returns Inv-loop μ-loop
 returns c =
