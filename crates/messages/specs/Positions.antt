@@ -22,12 +22,13 @@ onByte b s = record {
   since = cond (eqb b 10) 0 (s .since + 1);
   spaces = counted (s .spaces) (eqb b 32);
   last = b;
+  earlier = s .last;
   mark = cond (isDigit b) (s .mark) b;
   solid = cond (isGap b) (s .solid) b;
 }
 
 abbrev pub atStart : Seen
-atStart = record { feeds = 0; since = 0; spaces = 0; last = 0; mark = 0; solid = 0 }
+atStart = record { feeds = 0; since = 0; spaces = 0; last = 0; earlier = 0; mark = 0; solid = 0 }
 
 unfoldable pub seenFrom : List ℕ → Seen → Seen
 seenFrom [] s = s

@@ -26,11 +26,10 @@ pub fn fault(number: u8, before: &[u8], rest: &[u8]) {
     say::byte(here);
 }
 
-// A digit after a digit is wrong only where it makes the number too large.
 fn expected(s: Seen, ended: bool, here: u8) {
     if seen::is_digit(s.last) {
         if seen::is_digit(here) {
-            say::say(b"a number is at most 4,294,967,295");
+            stray_digit(s);
             return;
         }
     }
@@ -39,6 +38,17 @@ fn expected(s: Seen, ended: bool, here: u8) {
         return;
     }
     in_items(s, ended, here);
+}
+
+// A digit after a digit is wrong only after a leading zero, or where it makes the number too large.
+fn stray_digit(s: Seen) {
+    if s.last == b'0' {
+        if !seen::is_digit(s.earlier) {
+            say::say(b"a number has no leading zero");
+            return;
+        }
+    }
+    say::say(b"a number is at most 4,294,967,295");
 }
 
 // The first line is N, W and the initial number.
@@ -62,9 +72,9 @@ fn in_first_line(spaces: usize, in_number: bool) {
 fn in_items(s: Seen, ended: bool, here: u8) {
     let last = s.last;
     match last {
-        48..=57 => after_digit(s.mark, ended, here),
-        115 => say::say(b"after s comes a number"),
-        10 | 32 | 40 => before_item(s.solid, ended, here),
+        b'0'..=b'9' => after_digit(s.mark, ended, here),
+        b's' => say::say(b"after s comes a number"),
+        b'\n' | b' ' | b'(' => before_item(s.solid, ended, here),
         _ => after_item(ended, here),
     }
 }

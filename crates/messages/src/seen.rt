@@ -12,8 +12,10 @@ pub struct Seen {
     pub since: usize,
     // the spaces passed
     pub spaces: usize,
-    // the last byte, the last that is no digit, and the last that is neither space nor line feed; 0 where there is none
+    // the last byte, the one before it, the last that is no digit, and the last that is neither space nor line feed; 0
+    // where there is none
     pub last: u8,
+    pub earlier: u8,
     pub mark: u8,
     pub solid: u8,
 }
@@ -27,6 +29,7 @@ pub fn look(before: &[u8]) -> Seen
         since: 0,
         spaces: 0,
         last: 0,
+        earlier: 0,
         mark: 0,
         solid: 0,
     };
@@ -48,6 +51,7 @@ pub fn on_byte(s: Seen, b: u8) -> Seen
         since: since(s.since, b),
         spaces: counted(s.spaces, b == b' '),
         last: b,
+        earlier: s.last,
         mark: unless(is_digit(b), s.mark, b),
         solid: unless(is_gap(b), s.solid, b),
     }
