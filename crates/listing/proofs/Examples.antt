@@ -6,6 +6,7 @@ use mathlib.Core.List.{List, [], _∷_, _++_}
 use mathlib.Core.Bool.{true, false}
 use Rattle.listing.specs.Quoted.{quoted}
 use Rattle.listing.specs.Decimal.{digits, decimal}
+use Rattle.listing.specs.Divisions.{divide, divided}
 use Rattle.listing.specs.Lines.{letterS, letterV, answerHead, wordsOf, llLine, truthLine, endLine, refusedLine}
 
 -- the whole listing of case A
@@ -32,3 +33,13 @@ longest = refl
 largest : decimal 18446744073709551615 ≡ quoted "18446744073709551615"
 unfolding decimal digits
 largest = refl
+
+-- 1024 after three of its four divisions, and after all; 0 after its one
+record Divided : Type 0 where
+  three : divided 3 1024 ≡ record { rest = 1; ready = quoted "024" }
+  four : divided 4 1024 ≡ record { rest = 0; ready = quoted "1024" }
+  zero : divided 1 0 ≡ record { rest = 0; ready = quoted "0" }
+
+divided-so : Divided
+unfolding divided divide
+divided-so = record { three = refl; four = refl; zero = refl }

@@ -6,15 +6,21 @@ use mathlib.Core.Bool.{Bool}
 use native.Mathlib.Omega.{arith}
 use lib.ListN.{length, getD, take, drop}
 use Rattle.listing.specs.Decimal.{decimal, tens}
+use Rattle.listing.specs.Divisions.{divided, ReadyDigits}
 use Rattle.listing.specs.Lines.{llLine, truthLine, endLine, refusedLine}
 use Rattle.listing.specs.Writing.{Room, Wrote}
 use Rattle.listing.proofs.DecimalLaws.{at-most}
+use Rattle.listing.proofs.DivisionLaws.{ready-digits}
 use Rattle.listing.proofs.Lengths.{ll-length, truth-length, end-length, refused-length}
 use Rattle.listing.proofs.WritingLaws.{kept, stays, grows}
 
 -- a number below 10 to the k has at most k digits
 pub digits-of : (k n : ℕ) → 0 < k → n < tens k → length (decimal n) ≤ k
 digits-of k n p h = at-most k n p h
+
+-- CR 6: "after k divisions the last k digits stand ready and the rest of the number is left, down to nothing"
+pub after-divisions : (n k : ℕ) → n < 18446744073709551616 → k ≤ length (decimal n) → ReadyDigits n k (divided k n)
+after-divisions n k l h = ready-digits n l k h
 
 -- an answer line of a text run, with its process, its count of own steps and what was answered
 pub data Answer : List ℕ → Type 0 where

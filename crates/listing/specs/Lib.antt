@@ -1,4 +1,5 @@
 pub mod Quoted
 pub mod Decimal
+pub mod Divisions
 pub mod Lines
 pub mod Writing

@@ -9,6 +9,9 @@ ghost use Rattle.listing.specs.Decimal.{decimal};
 ghost use Rattle.listing.specs.Lines.{answerHead, wordsOf, llLine, truthLine, endLine, refusedLine};
 ghost use Rattle.listing.specs.Writing.{Room, Wrote};
 
+// The largest number of 64 bits has so many digits.
+const MOST_DIGITS: usize = 20;
+
 // One byte.
 pub fn put(list: &mut [u8], at: usize, b: u8) -> usize
     requires { ⌜ Room (now list) at (b ∷ []) ⌝ }
@@ -32,16 +35,25 @@ pub fn plain(list: &mut [u8], at: usize, bytes: &[u8]) -> usize
     next
 }
 
-// A number in decimal: the digits before the last, then the last.
+// A number in decimal: one division for each digit, the last digit first, and then the digits copied.
 pub fn number(list: &mut [u8], at: usize, n: u64) -> usize
     requires { ⌜ Room (now list) at (decimal n) ⌝ }
     ensures { λ r. ⌜ Wrote (now (list .entry)) at (decimal n) (now (list .exit)) r ⌝ }
 {
-    if n < 10 {
-        return put(list, at, b'0' + n as u8);
+    let mut places = [b'0'; MOST_DIGITS];
+    let mut rest = n;
+    let mut divisions = 0;
+    loop {
+        let tenth = rest / 10;
+        divisions += 1;
+        places[MOST_DIGITS - divisions] = b'0' + (rest - tenth * 10) as u8;
+        rest = tenth;
+        if rest == 0 {
+            break;
+        }
     }
-    let next = number(list, at, n / 10);
-    put(list, next, b'0' + (n % 10) as u8)
+    let from = MOST_DIGITS - divisions;
+    plain(list, at, &places[from..])
 }
 
 // A space and a number for each of w words.

@@ -32,7 +32,9 @@ fn random_texts_reach_every_count() {
 
 #[test]
 fn bench_texts_end() {
-    for kind in ["load", "store", "turns", "helped", "flat", "deep"] {
+    for kind in [
+        "load", "store", "turns", "helped", "flat", "deep", "words", "answers",
+    ] {
         for (n, w) in [(2, 1), (3, 3), (16, 64)] {
             let text = bench_text(kind, n, w).expect("a text");
             let (_, outcome, _) = listing_of(text.as_bytes(), None);

@@ -3,8 +3,8 @@
 use crate::schedule::{listing_of, ENTRY_LIMIT, TEXT_LIMIT};
 use crate::texts::repeat;
 
-pub const KINDS: [&str; 8] = [
-    "load", "store", "turns", "helped", "flat", "deep", "gaps", "numbers",
+pub const KINDS: [&str; 10] = [
+    "load", "store", "turns", "helped", "flat", "deep", "gaps", "numbers", "words", "answers",
 ];
 
 /// A text whose run ends, as near to 60,000 entries as the listing room
@@ -24,6 +24,8 @@ pub fn bench_text(kind: &str, n: u64, w: u64) -> Result<String, String> {
         "deep" => longest(|times| first.clone() + &deep(times)),
         "gaps" => return Ok(longest(|times| first.clone() + &gaps(times, first.len()))),
         "numbers" => return Ok(longest(|times| first.clone() + &numbers(n).repeat(times))),
+        "words" => return Ok(longest(|times| words(n, w) + &repeat(&loads(n), times))),
+        "answers" => return Ok(longest(|times| first.clone() + &answers(times))),
         "flat" => return Ok(longest(|times| first.clone() + &flat(n, w).repeat(times))),
         _ => return Err(format!("KIND is one of {}", KINDS.join(", "))),
     };
@@ -80,6 +82,16 @@ fn gaps(times: usize, before: usize) -> String {
 fn numbers(n: usize) -> String {
     let store = |p: usize| format!("{p}l {p}! {p}s4294967295 {p}!\n");
     (0..n).map(store).collect()
+}
+
+/// A listing of long numbers: each of the W words of an LL has ten digits.
+fn words(n: usize, w: usize) -> String {
+    format!("{n} {w} 4294967295\n")
+}
+
+/// A listing of short lines: an LL, and then VLs alone.
+fn answers(times: usize) -> String {
+    format!("0l 0! {}", repeat("0v 0!", times))
 }
 
 /// No groups, only items: the most text for its entries.
