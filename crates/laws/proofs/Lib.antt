@@ -1,2 +1,3 @@
 pub mod AndLaws
 pub mod ListLaws
+pub mod AllLaws

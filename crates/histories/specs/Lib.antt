@@ -1,0 +1,3 @@
+pub mod BenchLogs
+pub mod CallFacts
+pub mod Promises

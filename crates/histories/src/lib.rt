@@ -1,0 +1,1 @@
+// Theorems about the bench's histories and the judge's verdicts: nothing here runs.

@@ -1,0 +1,74 @@
+-- `judging::heads::passes` meets its contract.
+use mathlib.Core.Path.{refl}
+use Rattle.judging.specs.declared.heads.Test.the-variants.{Stranger, Backwards, Wrong, Clashes, Leads}
+use Rattle.judging.proofs.TestLaws.{as-test}
+use borrow.Author.Needs.{needs}
+use Rattle.judging.proofs.heads.passes.Statement.{statement}
+use Rattle.judging.proofs.heads.passes.Tie as tie
+
+enum-known-t : tie.Need-enum-known-t
+enum-known-t c = search needs
+
+enum-told : tie.Need-enum-told
+enum-told c = search needs
+
+enum-told-2 : tie.Need-enum-told-2
+enum-told-2 c = search needs
+
+wrong-requires : tie.Need-wrong-requires
+wrong-requires c κs = search needs
+
+enum-known-t-2 : tie.Need-enum-known-t-2
+enum-known-t-2 c = search needs
+
+clash-requires : tie.Need-clash-requires
+clash-requires c κs = search needs
+
+enum-known-t-3 : tie.Need-enum-known-t-3
+enum-known-t-3 c = search needs
+
+leads-requires : tie.Need-leads-requires
+leads-requires c κs = search needs
+
+returns : tie.Need-returns
+returns c =
+    let a = c .before .before .before .before .args in
+    as-test (a .t) (Stranger (c .before .before .t .given .0 .0)) (a .f) _ (c .before .before .t .given .1) refl
+
+returns-2 : tie.Need-returns-2
+returns-2 c =
+    let a = c .before .before .before .args in
+    as-test (a .t) Backwards (a .f) _ (search needs) refl
+
+returns-3 : tie.Need-returns-3
+returns-3 c =
+    let a = c .before .before .before .args in
+    as-test (a .t) Wrong (a .f) _ (search needs) (c .wrong .ensures)
+
+returns-4 : tie.Need-returns-4
+returns-4 c =
+    let a = c .before .before .before .before .args in
+    as-test (a .t) (Clashes (c .before .before .t2 .given .0 .0)) (a .f) _ (search needs) (c .clash .ensures)
+
+returns-5 : tie.Need-returns-5
+returns-5 c =
+    let a = c .before .before .before .before .args in
+    as-test (a .t) (Leads (c .before .before .t3 .given .0 .0)) (a .f) _ (search needs) (c .leads .ensures)
+
+pub passes-spec : {M : Type 1} → statement M
+passes-spec =
+    tie.close
+    (tie.spec
+    enum-known-t
+    enum-told
+    enum-told-2
+    wrong-requires
+    enum-known-t-2
+    clash-requires
+    enum-known-t-3
+    leads-requires
+    returns
+    returns-2
+    returns-3
+    returns-4
+    returns-5)
