@@ -20,7 +20,7 @@ use Rattle.linearization.proofs.Theorems.{demand-3}
 use Rattle.laws.proofs.AllLaws.{all-of, all-both, all-join, map-all}
 use Rattle.histories.specs.BenchLogs.{kindNumber, truthFor, wordsFor, entryFor, numbersOf, logFor}
 use Rattle.histories.specs.CallFacts.{InTurn, Led, WellFormed, Loggable}
-use Rattle.histories.specs.Promises.{Fits, EveryHistoryEarnsYes, LinearizedEarnsYes, YesIsRight}
+use Rattle.histories.specs.Promises.{Fits, mostCommands, places, EveryHistoryEarnsYes, LinearizedEarnsYes, YesIsRight}
 use Rattle.histories.proofs.Turns.{in-turn, end-by}
 use Rattle.histories.proofs.Offers.{OfKind, OfAnswer, offers, answered-words}
 use Rattle.histories.proofs.BenchCalls.{set-up-formed, set-up-led}
@@ -55,18 +55,18 @@ words-fit w vl a x y = zeros-fit w
 
 record Small (n : ℕ) (t : Timed) : Type 0 where
   process : t .call .process < n
-  inside : Inside 1024 t
-  end : t .call .end ≤ 2 ^ 50
+  inside : Inside places t
+  end : t .call .end ≤ mostCommands
   kind : OfKind Fits (t .call .kind)
   answer : OfAnswer Fits (t .call .answer)
 
-log-fits : (n w : ℕ) → n ≤ 16 → (ts : List Timed) → All (Small n) ts → Fits (logFor w 1024 ts)
+log-fits : (n w : ℕ) → n ≤ 16 → (ts : List Timed) → All (Small n) ts → Fits (logFor w places ts)
 log-fits n w hn [] a = tt
 log-fits n w hn (t ∷ ts) a =
     let s = a .0 in let p = s .process in let x = s .inside .after-start in let y = s .inside .by-answer in
-    let z : t .call .end * 1024 ≤ 2 ^ 50 * 1024 = mul-le-mul-right 1024 (s .end) in
+    let z : t .call .end * places ≤ mostCommands * places = mul-le-mul-right places (s .end) in
     let words = words-fit w (t .call .kind) (t .call .answer) (s .kind) (s .answer) in
-    all-join (λ k. k < 2 ^ 64) (numbersOf (entryFor w 1024 t)) (logFor w 1024 ts)
+    all-join (λ k. k < 2 ^ 64) (numbersOf (entryFor w places t)) (logFor w places ts)
     (omega arith, (kind-fits (t .call .kind), (omega arith, (omega arith, (truth-fits (t .call .answer), (omega arith, words)))))) (log-fits n w hn ts (a .1))
 
 -- a bench history, after an accepted set-up
@@ -88,13 +88,13 @@ module _ (m : Memory) (shaped : Shaped m) (n w : ℕ) (value : List ℕ) (cs : L
       }
 
   -- what holds of the calls holds of the timed calls of a linearization
-  of-timed : (P : Call → Type 0) (l : Linearization 1024 value answered) → All P answered → All (λ (t : Timed). P (t .call)) (l .timed)
+  of-timed : (P : Call → Type 0) (l : Linearization places value answered) → All P answered → All (λ (t : Timed). P (t .call)) (l .timed)
   of-timed P l a = map-all (λ (t : Timed). t .call) P (l .timed) (subst (All P) (sym (l .same-calls)) a)
 
-  fits : length cs ≤ 2 ^ 50 → n ≤ 16 → (l : Linearization 1024 value answered) → Fits value → All (λ (c : Command). Fits (c .value)) cs → Fits (logFor w 1024 (l .timed))
+  fits : length cs ≤ mostCommands → n ≤ 16 → (l : Linearization places value answered) → Fits value → All (λ (c : Command). Fits (c .value)) cs → Fits (logFor w places (l .timed))
   fits hc hn l fv fc =
       let formed = of-timed (WellFormed n w) l (loggable .formed) in let ends = of-timed (λ c. c .end ≤ length cs) l (end-by at cs) in
-      let words = answered-words Fits 1024 value answered l fv (offers Fits cs at fc) in
+      let words = answered-words Fits places value answered l fv (offers Fits cs at fc) in
       log-fits n w hn (l .timed)
       (all-of _ (Small n) (λ t z. record { process = z .0 .process; inside = z .1 .0; end = let y = z .1 .1 .0 in omega arith; kind = z .1 .1 .1 .0; answer = z .1 .1 .1 .1 }) (l .timed)
       (all-both _ _ (l .timed) formed (all-both _ _ (l .timed) (l .inside) (all-both _ _ (l .timed) ends words))))
@@ -103,11 +103,11 @@ module _ (m : Memory) (shaped : Shaped m) (n w : ℕ) (value : List ℕ) (cs : L
 pub every-history-earns-yes : EveryHistoryEarnsYes
 every-history-earns-yes m shaped n w value cs e hc hl =
     let sizes = set-up-admits m n w value e .sizes in
-    let l = demand-3 m shaped n w value cs e .linearization 1024 (omega arith) in
+    let l = demand-3 m shaped n w value cs e .linearization places (omega arith) in
     record {
       timed = l .timed;
       same-calls = l .same-calls;
-      yes = Yes.linearized-earns-yes 1024 n w value _ (omega arith) (sizes .n-low, sizes .n-high) (sizes .w-low, sizes .w-high) (set-up-admits m n w value e .value-length) hl (loggable m shaped n w value cs e) l;
+      yes = Yes.linearized-earns-yes places n w value _ (omega arith) (sizes .n-low, sizes .n-high) (sizes .w-low, sizes .w-high) (set-up-admits m n w value e .value-length) hl (loggable m shaped n w value cs e) l;
       fits = fits m shaped n w value cs e hc (sizes .n-high) l;
     }
 

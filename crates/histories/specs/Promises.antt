@@ -17,19 +17,26 @@ use Rattle.histories.specs.CallFacts.{Loggable}
 abbrev pub Fits : List ℕ → Type 0
 Fits ns = All (λ k. k < 2 ^ 64) ns
 
--- moments for the answered calls that earn a yes, "places being 1,024 times the command's number"; all numbers of the
--- log fit where those of the value and of the commands do
+-- "at most .. 2 to the 50th commands", "places being 1,024 times the command's number"
+abbrev pub mostCommands : ℕ
+mostCommands = 2 ^ 50
+
+abbrev pub places : ℕ
+places = 1024
+
+-- moments for the answered calls that earn a yes; all numbers of the log fit where those of the value and of the
+-- commands do
 pub record EarnsYes (n w : ℕ) (value : List ℕ) (commands : List Command) (answered : List Call) : Type 0 where
   pub timed : List Timed
   pub same-calls : map (λ (t : Timed). t .call) timed ≡ answered
-  pub yes : judged n w value (logFor w 1024 timed) ≡ Yes
-  pub fits : Fits value → All (λ (c : Command). Fits (c .value)) commands → Fits (logFor w 1024 timed)
+  pub yes : judged n w value (logFor w places timed) ≡ Yes
+  pub fits : Fits value → All (λ (c : Command). Fits (c .value)) commands → Fits (logFor w places timed)
 
 -- "every bench history from a set-up, of at most 512 answered calls and 2 to the 50th commands, .. has moments that
 -- earn a yes"
 abbrev pub EveryHistoryEarnsYes : Type 0
 EveryHistoryEarnsYes =
-    (m : Memory) → Shaped m → (n w : ℕ) (value : List ℕ) (cs : List Command) → setUp m n w value .0 ≡ 0 → length cs ≤ 2 ^ 50
+    (m : Memory) → Shaped m → (n w : ℕ) (value : List ℕ) (cs : List Command) → setUp m n w value .0 ≡ 0 → length cs ≤ mostCommands
     → length (calls (events (setUp m n w value .1) cs)) ≤ 512 → EarnsYes n w value cs (calls (events (setUp m n w value .1) cs))
 
 -- the same of any list of calls: what a linearization places earns a yes

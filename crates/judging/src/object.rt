@@ -72,11 +72,12 @@ fn moved(log: &[u64], w: usize, at: usize, held: Held) -> Held
     }
     let links = held.links;
     if links[p] {
-        let none = [false; 16];
+        let cleared = [false; 16];
+        let from = at + 6;
         return Held {
-            links: none,
+            links: cleared,
             first: false,
-            from: at + 6,
+            from: from,
         };
     }
     held

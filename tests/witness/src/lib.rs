@@ -5,6 +5,7 @@
 pub mod commands;
 pub mod counterexample;
 pub mod history;
+pub mod judge;
 pub mod machine;
 pub mod rng;
 pub mod schedule;

@@ -13,6 +13,10 @@ const USAGE: &str = "usage:
   witness bench-text KIND N W
   witness difference --wrong READING
   witness counterexample SEED TRIES --wrong READING
+  witness judge
+  witness log
+  witness bench-log CALLS W
+  witness compare-judge PROGRAM SEED COUNT FILE
 run, trace and history take --wrong READING too: line9, line10, line14,
 lines67 or modn";
 

@@ -6,6 +6,7 @@ mod cover;
 mod files;
 mod generate;
 mod history;
+mod judge;
 mod run;
 mod wrong;
 mod zeros;
@@ -35,6 +36,12 @@ pub fn dispatch(words: &[String]) -> Result<u8, String> {
         ["bench-text", kind, n, w] => {
             let text = bench_text(kind, number(n)?, number(w)?)?;
             run::print(text.as_bytes())
+        }
+        ["judge"] => judge::judge_text(),
+        ["log"] => judge::log(),
+        ["bench-log", calls, w] => judge::bench(number(calls)?, number(w)?),
+        ["compare-judge", program, seed, count, file] => {
+            judge::compare(program, number(seed)?, number(count)?, file)
         }
         _ => Err("no such subcommand".to_string()),
     }

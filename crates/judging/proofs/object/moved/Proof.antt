@@ -23,8 +23,8 @@ returns-2 c =
 array-read-if3 : tie.Need-array-read-if3
 array-read-if3 c = low-process _ _ _ _ (c .before .before .before .before .before .before .before .pre .0) (c .before .before .before .before .before .head-at .ensures)
 
-add-t17 : tie.Need-add-t17
-add-t17 c = search needs
+add-from : tie.Need-add-from
+add-from c = search needs
 
 returns-3 : tie.Need-returns-3
 returns-3 c =
@@ -45,6 +45,6 @@ moved-spec =
     returns
     returns-2
     array-read-if3
-    add-t17
+    add-from
     returns-3
     returns-4)
