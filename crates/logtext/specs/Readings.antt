@@ -6,7 +6,7 @@ use mathlib.Core.Bool.{true, cond}
 use lib.Dec.{ltb}
 use lib.ListN.{length, take}
 use Rattle.logtext.specs.declared.Reading.{Reading}
-use Rattle.logtext.specs.Numbers.{Scan, tooLarge}
+use Rattle.logtext.specs.Numbers.{Scan, closed, byteTaken, readNumbers, tooLarge}
 
 abbrev pub asScan : Reading → List ℕ → Scan
 asScan r ns = record { fault = r .fault; inside = r .inside; value = r .value; got = take (r .count) ns }
@@ -22,3 +22,13 @@ stoppedAt k r = record { fault = k; inside = r .inside; value = r .value; count 
 
 abbrev pub digitRead : ℕ → Reading → Reading
 digitRead d r = cond (ltb (r .value * 10 + d) (2 ^ 64)) (record { fault = 0; inside = true; value = r .value * 10 + d; count = r .count }) (stoppedAt tooLarge r)
+
+-- the reading after the end of a number, after a byte, and after a whole text
+abbrev pub Closed : Reading → List ℕ → Reading → List ℕ → Type 0
+Closed r ns t ms = Reads (closed (length ns) (asScan r ns)) (length ns) t ms
+
+abbrev pub ByteRead : Reading → ℕ → List ℕ → Reading → List ℕ → Type 0
+ByteRead r b ns t ms = Reads (byteTaken (length ns) b (asScan r ns)) (length ns) t ms
+
+abbrev pub TextRead : List ℕ → List ℕ → Reading → List ℕ → Type 0
+TextRead text ns t ms = Reads (readNumbers (length ns) text) (length ns) t ms

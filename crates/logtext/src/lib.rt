@@ -2,8 +2,8 @@
 ghost use mathlib.Core.Path.{_≡_};
 ghost use Prim.Native.Nat.{_≤_, _<_};
 ghost use lib.ListN.{length};
-ghost use Rattle.logtext.specs.Numbers.{isGap, closed, byteTaken, readNumbers, judgedNumbers};
-ghost use Rattle.logtext.specs.Readings.{asScan, Reads, stoppedAt, digitRead};
+ghost use Rattle.logtext.specs.Numbers.{isGap, judgedNumbers};
+ghost use Rattle.logtext.specs.Readings.{Closed, ByteRead, TextRead, stoppedAt, digitRead};
 use verdicts::Verdict;
 
 pub const STRAY_BYTE: u8 = 1;
@@ -59,7 +59,7 @@ fn digit(r: Reading, d: u64) -> Reading
 // The number being read, if there is one, ends here.
 fn close(r: Reading, numbers: &mut [u64]) -> Reading
     requires { ⌜ r .count ≤ length (now numbers) ⌝ }
-    ensures { λ s. ⌜ Reads (closed (length (now (numbers .entry))) (asScan r (now (numbers .entry)))) (length (now (numbers .entry))) s (now (numbers .exit)) ⌝ }
+    ensures { λ s. ⌜ Closed r (now (numbers .entry)) s (now (numbers .exit)) ⌝ }
 {
     if !r.inside {
         return r;
@@ -95,7 +95,7 @@ fn is_gap(b: u8) -> bool
 // One byte more.
 fn byte(r: Reading, b: u8, numbers: &mut [u64]) -> Reading
     requires { ⌜ r .count ≤ length (now numbers) ⌝ }
-    ensures { λ s. ⌜ Reads (byteTaken (length (now (numbers .entry))) b (asScan r (now (numbers .entry)))) (length (now (numbers .entry))) s (now (numbers .exit)) ⌝ }
+    ensures { λ s. ⌜ ByteRead r b (now (numbers .entry)) s (now (numbers .exit)) ⌝ }
 {
     if b < b'0' {
         if is_gap(b) {
@@ -111,7 +111,7 @@ fn byte(r: Reading, b: u8, numbers: &mut [u64]) -> Reading
 
 // The numbers of a text, as many as there is room for.
 pub fn read(text: &[u8], numbers: &mut [u64]) -> Reading
-    ensures { λ s. ⌜ Reads (readNumbers (length (now (numbers .entry))) (now (text .entry))) (length (now (numbers .entry))) s (now (numbers .exit)) ⌝ }
+    ensures { λ s. ⌜ TextRead (now (text .entry)) (now (numbers .entry)) s (now (numbers .exit)) ⌝ }
 {
     let mut r = Reading {
         fault: 0,
