@@ -1,7 +1,7 @@
 //! `witness judge`, `witness log`, `witness bench-log CALLS W` and
 //! `witness compare-judge PROGRAM SEED COUNT`.
 
-use std::collections::BTreeMap;
+use std::collections::{BTreeMap, BTreeSet};
 use std::fs::{self, File};
 use std::io::{stdin, Read};
 use std::path::Path;
@@ -9,8 +9,19 @@ use std::process::{Command, Stdio};
 
 use super::run::{print, text_given};
 use crate::judge::{
-    bench_log, judge, log_of_schedule, read, sample, written, Log, Sample, Verdict,
+    bench_log, judge, log_of_schedule, read, sample, written, Log, Sample, Verdict, SPOILT,
 };
+
+const VERDICTS: [&str; 8] = [
+    "yes",
+    "no",
+    "refused 1",
+    "refused 2",
+    "refused 4",
+    "refused 8",
+    "refused 16",
+    "refused 17",
+];
 
 /// The program `judge`.
 pub fn judge_text() -> Result<u8, String> {
@@ -38,13 +49,15 @@ pub fn bench(calls: u64, w: u64) -> Result<u8, String> {
     print(written(&log).as_bytes())
 }
 
-/// Another judge on the same logs; FILE is where each log is put.
+/// Another judge on the same logs; FILE is where each log is put. All
+/// verdicts must come up, and each way to spoil a log must spoil one.
 pub fn compare(program: &str, seed: u64, count: u64, file: &str) -> Result<u8, String> {
-    let mut said: BTreeMap<String, u64> = BTreeMap::new();
+    let mut verdicts: BTreeMap<String, u64> = BTreeMap::new();
+    let mut spoilt: BTreeSet<&str> = BTreeSet::new();
     for index in 0..count {
         let sample = sample(seed, index);
-        // what the numbers of the text say: a log with a short value has
-        // its first calls' numbers taken for words
+        // the judges see the text, in which a log with a short value has
+        // the first numbers of its calls for words
         let text = written(&sample.log);
         let log = read(text.as_bytes()).map_err(|fault| format!("{fault:?}"))?;
         let expected = judge(&log);
@@ -53,28 +66,33 @@ pub fn compare(program: &str, seed: u64, count: u64, file: &str) -> Result<u8, S
         let answer = answer_of(program, file)?;
         if answer != format!("{expected}\n") {
             let what = sample.what;
-            print(format!("{file} ({what}): {expected} expected, {answer}").as_bytes())?;
+            print(format!("{file} ({what}): {expected} expected, {answer}\n").as_bytes())?;
             return Ok(1);
         }
-        *said.entry(expected.to_string()).or_default() += 1;
+        *verdicts.entry(expected.to_string()).or_default() += 1;
+        if expected != Verdict::Yes {
+            spoilt.insert(sample.what);
+        }
     }
-    let wanted = ["yes", "no", "refused 1", "refused 2", "refused 4", "refused 8"];
-    let missing = wanted
+    let missing: Vec<&&str> = VERDICTS
         .iter()
-        .chain(&["refused 16", "refused 17"])
-        .find(|verdict| !said.contains_key(**verdict));
-    if let Some(verdict) = missing {
-        print(format!("no log was judged {verdict}\n").as_bytes())?;
+        .filter(|verdict| !verdicts.contains_key(**verdict))
+        .chain(SPOILT.iter().filter(|what| !spoilt.contains(*what)))
+        .collect();
+    if !missing.is_empty() {
+        print(format!("never seen, so {count} logs are too few: {missing:?}\n").as_bytes())?;
         return Ok(1);
     }
-    print(format!("judged {count} logs alike: {said:?}\n").as_bytes())
+    print(format!("judged {count} logs alike: {verdicts:?}\n").as_bytes())
 }
 
 /// A history with its own moments earns a yes, whatever either judge says.
 fn check(sample: &Sample, log: &Log, verdict: Verdict) -> Result<(), String> {
     if sample.yes && verdict != Verdict::Yes {
         let text = written(log);
-        return Err(format!("a history of the bench was judged {verdict}:\n{text}"));
+        return Err(format!(
+            "a history of the bench was judged {verdict}:\n{text}"
+        ));
     }
     Ok(())
 }

@@ -8,7 +8,7 @@ mod text;
 mod verdict;
 
 pub use logger::{log_of_schedule, Logger, PLACES};
-pub use samples::{bench_log, sample, Sample};
+pub use samples::{bench_log, sample, Sample, SPOILT};
 pub use text::{read, written, Fault};
 pub use verdict::{judge, Verdict, MOST_CALLS};
 

@@ -5,6 +5,32 @@ use super::{Log, Logger, MOST_CALLS};
 use crate::machine::Order;
 use crate::rng::Rng;
 
+/// What is done to logs to spoil them. (A moment at its answer mostly does
+/// no harm.)
+pub const SPOILT: [&str; 21] = [
+    "N out of range",
+    "W out of range",
+    "value too short",
+    "process not below N",
+    "largest process",
+    "answer at its start",
+    "largest start",
+    "kind 0",
+    "kind 4 or above",
+    "another kind",
+    "another's moment",
+    "moment at its start",
+    "moment after its answer",
+    "moment just after its start",
+    "other truth",
+    "truth of 2 or above",
+    "one bit of a word",
+    "start at another's answer",
+    "a call left out",
+    "last call cut",
+    "last call cut, its process not below N",
+];
+
 /// A log, what was done to it, and whether it must earn a yes.
 pub struct Sample {
     pub log: Log,
@@ -92,8 +118,12 @@ fn spoilt(rng: &mut Rng, mut log: Log) -> Sample {
     let width = 6 + log.w as usize;
     let rows = log.numbers.len() / width;
     let what = match rng.below(22) {
-        0 => spoil(&mut log, "N out of range", |log| log.n = [0, 17, u64::MAX][rows % 3]),
-        1 => spoil(&mut log, "W out of range", |log| log.w = [0, 65, 66][rows % 3]),
+        0 => spoil(&mut log, "N out of range", |log| {
+            log.n = [0, 17, u64::MAX][rows % 3]
+        }),
+        1 => spoil(&mut log, "W out of range", |log| {
+            log.w = [0, 65, 66][rows % 3]
+        }),
         2 => spoil(&mut log, "value too short", |log| {
             log.value.pop();
             log.numbers.clear();
