@@ -2,7 +2,6 @@
 ghost use Prim.Native.Nat.{_≤_};
 ghost use lib.ListN.{length};
 ghost use Rattle.io.specs.Counts.{Counts};
-use crate::seen;
 
 // A place of the text, at most its end: what may be lent as its beginning.
 pub fn within(place: usize, text: &[u8]) -> usize
@@ -20,7 +19,7 @@ pub fn value(text: &[u8]) -> usize {
     let mut i = 0;
     while i < text.len() {
         let b = text[i];
-        if !seen::is_digit(b) {
+        if !positions::is_digit(b) {
             break;
         }
         v = with_digit(v, b);

@@ -1,11 +1,10 @@
 // A fault of a text, 10 or 11: where it is, what was expected there, and what stands there.
 use crate::say;
-use crate::seen;
-use crate::seen::Seen;
+use positions::Seen;
 
 // The text is split at the fault's place.
 pub fn fault(number: u8, before: &[u8], rest: &[u8]) {
-    let s = seen::look(before);
+    let s = positions::look(before);
     say::say(b"line ");
     say::next(s.feeds);
     say::say(b", column ");
@@ -27,14 +26,14 @@ pub fn fault(number: u8, before: &[u8], rest: &[u8]) {
 }
 
 fn expected(s: Seen, ended: bool, here: u8) {
-    if seen::is_digit(s.last) {
-        if seen::is_digit(here) {
+    if positions::is_digit(s.last) {
+        if positions::is_digit(here) {
             stray_digit(s);
             return;
         }
     }
     if s.feeds == 0 {
-        in_first_line(s.spaces, seen::is_digit(s.last));
+        in_first_line(s.spaces, positions::is_digit(s.last));
         return;
     }
     in_items(s, ended, here);
@@ -43,7 +42,7 @@ fn expected(s: Seen, ended: bool, here: u8) {
 // A digit after a digit is wrong only after a leading zero, or where it makes the number too large.
 fn stray_digit(s: Seen) {
     if s.last == b'0' {
-        if !seen::is_digit(s.earlier) {
+        if !positions::is_digit(s.earlier) {
             say::say(b"a number has no leading zero");
             return;
         }

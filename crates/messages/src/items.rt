@@ -2,12 +2,11 @@
 use crate::calls;
 use crate::digits;
 use crate::say;
-use crate::seen;
 use tables::records::Records;
 
 // The text is split where the item begins.
 pub fn refused(number: u8, entries: usize, n: usize, all: Records, before: &[u8], rest: &[u8]) {
-    let s = seen::look(before);
+    let s = positions::look(before);
     let end = digits::within(digits::item(rest), rest);
     say::say(b"entry ");
     say::next(entries);

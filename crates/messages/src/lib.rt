@@ -1,12 +1,11 @@
 // What a program says on standard error about a run: where and why it was refused, and which calls are still open.
 // The place is the one that the run by value returns; these functions explain it.
-pub mod calls;
-pub mod digits;
-pub mod faults;
-pub mod items;
-pub mod numbers;
-pub mod say;
-pub mod seen;
+mod calls;
+mod digits;
+mod faults;
+mod items;
+mod numbers;
+mod say;
 
 use tables::records::Records;
 

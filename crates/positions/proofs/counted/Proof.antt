@@ -1,7 +1,7 @@
--- `messages::seen::counted`: one more, or not.
+-- `positions::counted`: one more, or not.
 use borrow.Author.Needs.{needs}
-use Rattle.messages.proofs.seen.counted.Statement.{statement}
-use Rattle.messages.proofs.seen.counted.Tie as tie
+use Rattle.positions.proofs.counted.Statement.{statement}
+use Rattle.positions.proofs.counted.Tie as tie
 
 add-result : tie.Need-add-result
 add-result c = search needs

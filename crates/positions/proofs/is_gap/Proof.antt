@@ -1,7 +1,7 @@
--- `messages::seen::is_gap`: a space, or else a line feed.
+-- `positions::is_gap`: a space, or else a line feed.
 use borrow.Author.Tests.{eq-eqb, ne-eqb}
-use Rattle.messages.proofs.seen.is_gap.Statement.{statement}
-use Rattle.messages.proofs.seen.is_gap.Tie as tie
+use Rattle.positions.proofs.is_gap.Statement.{statement}
+use Rattle.positions.proofs.is_gap.Tie as tie
 
 returns : tie.Need-returns
 returns c = simp (eq-eqb _ _ (c .if1 .taken))

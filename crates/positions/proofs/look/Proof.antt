@@ -1,14 +1,14 @@
--- `messages::seen::look`: the loop's invariant is that what is left to look at leads to the same.
+-- `positions::look`: the loop's invariant is that what is left to look at leads to the same.
 use Prim.Native.Nat.{ℕ, _+_, _≤_, _-_}
 use mathlib.Core.Path.{_≡_, refl, sym, ap, _∙_}
 use mathlib.Core.List.{List}
 use native.Mathlib.Omega.{arith}
 use lib.ListN.{length, drop, getD}
-use Rattle.messages.specs.declared.seen.Seen.{Seen}
-use Rattle.messages.specs.Positions.{seenFrom, seenIn}
-use Rattle.messages.proofs.PositionLaws.{Passed, passed-more, small, one-further, all-seen}
-use Rattle.messages.proofs.seen.look.Statement.{statement}
-use Rattle.messages.proofs.seen.look.Tie as tie
+use Rattle.positions.specs.declared.Seen.{Seen}
+use Rattle.positions.specs.Positions.{seenFrom, seenIn}
+use Rattle.positions.proofs.PositionLaws.{Passed, passed-more, small, one-further, all-seen}
+use Rattle.positions.proofs.look.Statement.{statement}
+use Rattle.positions.proofs.look.Tie as tie
 
 record Inv (before : List ℕ) (s : Seen) (i : ℕ) : Type 0 where
   within : i ≤ length before

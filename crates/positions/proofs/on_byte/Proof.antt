@@ -1,8 +1,8 @@
--- `messages::seen::on_byte`: each count and each byte by its own function.
+-- `positions::on_byte`: each count and each byte by its own function.
 use borrow.Author.Needs.{needs}
-use Rattle.messages.specs.Positions.{onByte}
-use Rattle.messages.proofs.seen.on_byte.Statement.{statement}
-use Rattle.messages.proofs.seen.on_byte.Tie as tie
+use Rattle.positions.specs.Positions.{onByte}
+use Rattle.positions.proofs.on_byte.Statement.{statement}
+use Rattle.positions.proofs.on_byte.Tie as tie
 
 counted-requires : tie.Need-counted-requires
 counted-requires c κs = search needs

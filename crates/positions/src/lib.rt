@@ -3,8 +3,8 @@ ghost use mathlib.Core.Path.{_≡_};
 ghost use mathlib.Core.Bool.{cond};
 ghost use Prim.Native.Nat.{_+_, _<_};
 ghost use lib.Dec.{eqb};
-ghost use Rattle.messages.specs.Positions.{onByte, seenIn, isDigit, isGap, Small};
-ghost use Rattle.messages.specs.Positions.{counted as Positions·counted};
+ghost use Rattle.positions.specs.Positions.{onByte, seenIn, isDigit, isGap, Small};
+ghost use Rattle.positions.specs.Positions.{counted as Positions·counted};
 
 // Line feeds passed, and the bytes since the last of them: one less than line and column.
 pub struct Seen {

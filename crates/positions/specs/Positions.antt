@@ -3,7 +3,7 @@ use Prim.Native.Nat.{ℕ, _+_, _<_}
 use mathlib.Core.List.{List, [], _∷_}
 use mathlib.Core.Bool.{Bool, true, false, cond}
 use lib.Dec.{eqb, leb, ltb}
-use Rattle.messages.specs.declared.seen.Seen.{Seen}
+use Rattle.positions.specs.declared.Seen.{Seen}
 
 abbrev pub isDigit : ℕ → Bool
 isDigit b = cond (ltb b 48) false (leb b 57)

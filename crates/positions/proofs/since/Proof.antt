@@ -1,8 +1,8 @@
--- `messages::seen::since`: a line feed begins a line.
+-- `positions::since`: a line feed begins a line.
 use borrow.Author.Needs.{needs}
 use borrow.Author.Tests.{eq-eqb, ne-eqb}
-use Rattle.messages.proofs.seen.since.Statement.{statement}
-use Rattle.messages.proofs.seen.since.Tie as tie
+use Rattle.positions.proofs.since.Statement.{statement}
+use Rattle.positions.proofs.since.Tie as tie
 
 returns : tie.Need-returns
 returns c = simp (eq-eqb _ _ (c .if1 .taken))

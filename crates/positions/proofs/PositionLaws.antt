@@ -8,8 +8,8 @@ use native.Mathlib.Numerals.{add-one}
 use lib.Dec.{eqb}
 use lib.ListN.{length, drop, getD}
 use lib.Seq.{drop-cons, drop-length}
-use Rattle.messages.specs.declared.seen.Seen.{Seen}
-use Rattle.messages.specs.Positions.{onByte, seenFrom, seenIn, counted, Small}
+use Rattle.positions.specs.declared.Seen.{Seen}
+use Rattle.positions.specs.Positions.{onByte, seenFrom, seenIn, counted, Small}
 
 -- no count is above the bytes passed
 pub record Passed (i : ℕ) (s : Seen) : Type 0 where

@@ -3,7 +3,7 @@ use Prim.Native.Nat.{ℕ}
 use mathlib.Core.Path.{_≡_, refl}
 use mathlib.Core.List.{[]}
 use Rattle.listing.specs.Quoted.{quoted}
-use Rattle.messages.specs.Positions.{onByte, seenFrom, seenIn, lineAfter, columnAfter}
+use Rattle.positions.specs.Positions.{onByte, seenFrom, seenIn, lineAfter, columnAfter}
 
 record Places : Type 0 where
   -- a text begins at line 1, column 1

@@ -1,7 +1,7 @@
--- `messages::seen::is_digit`: the two bounds.
+-- `positions::is_digit`: the two bounds.
 use borrow.Author.Tests.{lt-ltb, le-ltb}
-use Rattle.messages.proofs.seen.is_digit.Statement.{statement}
-use Rattle.messages.proofs.seen.is_digit.Tie as tie
+use Rattle.positions.proofs.is_digit.Statement.{statement}
+use Rattle.positions.proofs.is_digit.Tie as tie
 
 returns : tie.Need-returns
 returns c = simp (lt-ltb _ _ (c .if1 .taken))
