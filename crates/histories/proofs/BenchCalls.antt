@@ -1,6 +1,6 @@
 -- The answered calls of the bench, by the ghost machine: each is well formed, and each SC or VL has an earlier answered
 -- LL of its process.
-use mathlib.Core.Path.{_≡_, refl, sym, ap, subst, _∙_}
+use mathlib.Core.Path.{_≡_, refl, sym, ap, _∙_}
 use mathlib.Core.Bool.{Bool, true, false, cond}
 use mathlib.Core.List.{List, [], _∷_, _++_, map}
 use Prim.Native.Nat.{ℕ, zero, suc, _+_, _%_, _/_, _<_}
@@ -9,8 +9,9 @@ use lib.Dec.{ltb, eqb}
 use lib.ListN.{length}
 use borrow.Author.Tests.{ltb-true}
 use Rattle.model.specs.Sizes.{halves}
-use Rattle.model.specs.Points.{Point, idle, line1, line2, line3, line4, line5, line6, line7, line7copy, line8, line9, line10, line11, line12, line12valid, line13, line14, line14valid, line15, line17, line18, line19, line23}
-use Rattle.model.specs.Object.{Kind, ll, sc, vl, setAt}
+use Rattle.model.specs.Points.{Point, idle, line1, line2, line3, line4, line5, line6, line7, line7copy, line8, line9, line10, line11}
+use Rattle.model.specs.Points.{line12, line12valid, line13, line14, line14valid, line15, line17, line18, line19, line23}
+use Rattle.model.specs.Object.{setAt}
 use Rattle.model.specs.History.{Slot, none, running, Call}
 use Rattle.model.specs.Linearizable.{All, Timed}
 use Rattle.linearization.proofs.Updates.{upd, upd-same, upd-other, Split, same, other, split, by-test, by-test₂, contra, ifb-eq, ifb-ne}
@@ -67,7 +68,8 @@ led-from full (x ∷ xs) had up l f h = (
       (all-of _ (λ c. hadBy x had (c .process) ≡ true → Any (Leads c) full) (λ c y. by-kind c (y .0) (y .1) (needsLl (x .kind)) refl) xs (all-both _ _ xs (h .1) (f .0))),
 )
   where
-    by-kind : (c : Call) → (had (c .process) ≡ true → Any (Leads c) full) → Follows x c → (b : Bool) → needsLl (x .kind) ≡ b → cond b had (setAt (x .process) true had) (c .process) ≡ true → Any (Leads c) full
+    by-kind : (c : Call) → (had (c .process) ≡ true → Any (Leads c) full) → Follows x c → (b : Bool) → needsLl (x .kind) ≡ b
+        → cond b had (setAt (x .process) true had) (c .process) ≡ true → Any (Leads c) full
     by-kind c g w true e z = g z
     by-kind c g w false e z = go (split (c .process) (x .process))
       where
@@ -216,7 +218,8 @@ module _ (N w : ℕ) where
 
     start-marked : (y : Point) (v : ℕ → ℕ) (ok : Bool) → (pointNeeds y ≡ true → ok ≡ true → l .answered ≡ true) → Marked had (starts N W t p y v ok s)
     start-marked y v ok f =
-        let begun : ok ≡ true → Marked had (noisy s p (GhostMachine.wStart p t (s .sh)) (λ l. l) (GhostMachine.begin y v l)) = λ z. on-write had _ (λ l. l) (GhostMachine.begin y v l) (λ _. refl) (λ _. refl) (λ q x. x) (m .marked p) (λ x. f x z) in
+        let k = GhostMachine.begin y v l in
+        let begun : ok ≡ true → Marked had (noisy s p (GhostMachine.wStart p t (s .sh)) (λ l. l) k) = λ z. on-write had _ (λ l. l) k (λ _. refl) (λ _. refl) (λ q x. x) (m .marked p) (λ x. f x z) in
         by-test (Marked had) (ltb p N) (λ _. by-test (Marked had) (isIdle (l .point)) (λ _. by-test (Marked had) ok begun (λ _. m)) (λ _. m)) (λ _. m)
 
   -- a command, and a list of them

@@ -1,8 +1,8 @@
--- What holds of the words that commands bring holds of the words that answered SCs offered, and with the set-up value of
--- the words that LLs answered.
+-- What holds of the words that commands bring holds of the words that answered SCs offered, and, with the set-up value,
+-- of the words that LLs answered.
 use mathlib.Core.Path.{_≡_, ap, sym, subst}
 use mathlib.Core.Bool.{Bool, true, false, cond}
-use mathlib.Core.List.{List, [], _∷_, _++_, map}
+use mathlib.Core.List.{List, [], _∷_, map}
 use Prim.Native.Nat.{ℕ, _+_}
 use lib.Dec.{leb}
 use lib.ListN.{getD, drop}
@@ -57,14 +57,17 @@ module _ (P : List ℕ → Type 0) where
       go p (same z) = rw (ifb-eq q p (slotAfter k (e .command) (e .said) (slots p)) (slots q) z) (slot-words k (e .command) (e .said) (slots p) b (a p))
       go p (other ne) = rw (ifb-ne q p (slotAfter k (e .command) (e .said) (slots p)) (slots q) ne) (a q)
 
-  offers-from : (cs : List Command) (m : Memory) (k : ℕ) (slots : ℕ → Slot) → All (λ (c : Command). P (c .value)) cs → ((q : ℕ) → OfSlot (slots q)) → All (λ (c : Call). OfKind (c .kind)) (callsFrom k (events m cs) slots)
+  abbrev OfCalls : List Call → Type 0
+  OfCalls cs = All (λ (c : Call). OfKind (c .kind)) cs
+
+  offers-from : (cs : List Command) (m : Memory) (k : ℕ) (slots : ℕ → Slot) → All (λ (c : Command). P (c .value)) cs → ((q : ℕ) → OfSlot (slots q)) → OfCalls (callsFrom k (events m cs) slots)
   unfolding callsFrom events
   offers-from [] m k slots b a = tt
   offers-from (c ∷ cs) m k slots b a =
       let said = eventOf m c .said in
       all-join _ (callOf k c said (slots (c .process))) _ (call-words k c said (slots (c .process)) (a (c .process))) (offers-from cs _ (k + 1) _ (b .1) (slots-words k (eventOf m c) slots (b .0) a))
 
-  pub offers : (cs : List Command) (m : Memory) → All (λ (c : Command). P (c .value)) cs → All (λ (c : Call). OfKind (c .kind)) (calls (events m cs))
+  pub offers : (cs : List Command) (m : Memory) → All (λ (c : Command). P (c .value)) cs → OfCalls (calls (events m cs))
   offers cs m b = offers-from cs m 1 (λ p. none) b (λ q. tt)
 
   -- what the object answers
@@ -106,9 +109,10 @@ all-sorted : (Q : Timed → Type 0) (ts us : List Timed) → All Q (sortInto ts 
 all-sorted Q [] us a = (tt, a)
 all-sorted Q (t ∷ ts) us a = let z = all-sorted Q ts (insert t us) a in let y = insert-all Q t us (z .1) in ((y .0, z .0), y .1)
 
-pub answered-words : (P : List ℕ → Type 0) (places : ℕ) (value : List ℕ) (cs : List Call) (l : Linearization places value cs) → P value → All (λ (c : Call). OfKind P (c .kind)) cs → All (λ (t : Timed). OfKind P (t .call .kind) × OfAnswer P (t .call .answer)) (l .timed)
+pub answered-words : (P : List ℕ → Type 0) (places : ℕ) (value : List ℕ) (cs : List Call) (l : Linearization places value cs) → P value → OfCalls P cs
+    → All (λ (t : Timed). OfKind P (t .call .kind) × OfAnswer P (t .call .answer)) (l .timed)
 answered-words P places value cs l a b =
     let ts = l .timed in
-    let k : All (λ (t : Timed). OfKind P (t .call .kind)) ts = map-all (λ (t : Timed). t .call) (λ (c : Call). OfKind P (c .kind)) ts (subst (All (λ (c : Call). OfKind P (c .kind))) (sym (l .same-calls)) b) in
+    let k : All (λ (t : Timed). OfKind P (t .call .kind)) ts = map-all (λ (t : Timed). t .call) (λ (c : Call). OfKind P (c .kind)) ts (subst (OfCalls P) (sym (l .same-calls)) b) in
     let served = served-words P (inMomentOrder ts) (fresh value) a (sorted-all _ ts [] k tt) (l .served) in
     all-both _ _ ts k (all-sorted (λ (t : Timed). OfAnswer P (t .call .answer)) ts [] served .0)

@@ -1,7 +1,7 @@
 -- A log that was written call by call is read back call by call.
 use mathlib.Core.Path.{_≡_, refl, ap, ap₂, _∙_}
 use mathlib.Core.List.{List, [], _∷_, _++_, map}
-use Prim.Native.Nat.{ℕ, zero, suc, _+_, _*_, _/_, _%_, _<_}
+use Prim.Native.Nat.{ℕ, zero, suc, _+_, _*_, _/_, _%_}
 use native.Mathlib.Nat.{mul-div-cancel, mul-mod-left, suc-mul, div-eq-of-lt, add-mul-div-right}
 use native.Mathlib.Omega.{arith}
 use lib.ListN.{length, take, drop, length-append, length-replicate}
@@ -73,5 +73,5 @@ module _ (w places : ℕ) where
     pub log-begun : begun w (log ts) ≡ map (entryFor w places) ts
     log-begun =
         let total : length (log ts) + (5 + w) ≡ (5 + w) + length ts * width w = let z = log-length ts a in omega (arith, z) in
-        let none : (5 + w) / width w ≡ 0 = div-eq-of-lt (omega arith) in
-        so-many ((length (log ts) + (5 + w)) / width w) (ap (_/ width w) total ∙ add-mul-div-right (5 + w) (length ts) (omega arith) ∙ (let z : (5 + w) / width w + length ts ≡ length ts = omega (arith, none) in z))
+        let none : (5 + w) / width w + length ts ≡ length ts = let z : (5 + w) / width w ≡ 0 = div-eq-of-lt (omega arith) in omega (arith, z) in
+        so-many ((length (log ts) + (5 + w)) / width w) (ap (_/ width w) total ∙ add-mul-div-right (5 + w) (length ts) (omega arith) ∙ none)

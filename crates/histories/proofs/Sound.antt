@@ -1,8 +1,8 @@
 -- A yes is given exactly where nothing refuses and the conditions hold, and then the moments are a linearization.
-use mathlib.Core.Path.{_≡_, refl, sym, ap, subst, _∙_}
-use mathlib.Core.Bool.{Bool, true, false, _&&_, cond}
+use mathlib.Core.Path.{_≡_, refl, sym, ap, subst}
+use mathlib.Core.Bool.{Bool, true, false, cond}
 use mathlib.Core.List.{List, [], _∷_, map}
-use Prim.Native.Nat.{ℕ, _*_, _≤_, _<_}
+use Prim.Native.Nat.{ℕ, _≤_, _<_}
 use native.Mathlib.Omega.{arith}
 use lib.Dec.{eqb, ltb}
 use borrow.Author.Tests.{eqb-true, eqb-false, ltb-true, leb-true, not-true}
@@ -27,22 +27,25 @@ module _ (n w : ℕ) (value log : List ℕ) where
   abbrev earned : Bool
   earned = earnsYes value (entries w log)
 
+  abbrev number : ℕ
+  number = logRefusal n w value log
+
   -- a yes: no refusal, and every condition
-  pub yes-means : judged n w value log ≡ Yes → (logRefusal n w value log ≡ 0) × (earned ≡ true)
+  pub yes-means : judged n w value log ≡ Yes → (number ≡ 0) × (earned ≡ true)
   unfolding judged
-  yes-means e = go (eqb (logRefusal n w value log) 0) refl earned refl e
+  yes-means e = go (eqb number 0) refl earned refl e
     where
-      go : (a : Bool) → eqb (logRefusal n w value log) 0 ≡ a → (b : Bool) → earned ≡ b → cond a (cond b Yes No) (Refused (logRefusal n w value log)) ≡ Yes → (logRefusal n w value log ≡ 0) × (earned ≡ true)
+      go : (a : Bool) → eqb number 0 ≡ a → (b : Bool) → earned ≡ b → cond a (cond b Yes No) (Refused number) ≡ Yes → (number ≡ 0) × (earned ≡ true)
       go true x true y e = (eqb-true _ 0 x, y)
       go true x false y e = absurd (contra {b = false} (ap isYes e) refl)
       go false x b y e = absurd (contra {b = false} (ap isYes e) refl)
 
   -- the number that a verdict says is that of the refusal
-  pub number-said : numberOf (judged n w value log) ≡ logRefusal n w value log
+  pub number-said : numberOf (judged n w value log) ≡ number
   unfolding judged
-  number-said = go (eqb (logRefusal n w value log) 0) refl earned
+  number-said = go (eqb number 0) refl earned
     where
-      go : (a : Bool) → eqb (logRefusal n w value log) 0 ≡ a → (b : Bool) → numberOf (cond a (cond b Yes No) (Refused (logRefusal n w value log))) ≡ logRefusal n w value log
+      go : (a : Bool) → eqb number 0 ≡ a → (b : Bool) → numberOf (cond a (cond b Yes No) (Refused number)) ≡ number
       go true x true = sym (eqb-true _ 0 x)
       go true x false = sym (eqb-true _ 0 x)
       go false x b = refl

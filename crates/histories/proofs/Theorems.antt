@@ -1,5 +1,5 @@
 -- The theorems about the judge, each about model's and verdicts' own definitions.
-use mathlib.Core.Path.{_≡_, sym, ap, subst}
+use mathlib.Core.Path.{_≡_, sym, subst}
 use mathlib.Core.Bool.{Bool, true, false, cond}
 use mathlib.Core.List.{List, [], _∷_, map}
 use Prim.Native.Nat.{ℕ, zero, suc, _*_, _^_, _≤_, _<_}
@@ -102,12 +102,12 @@ module _ (m : Memory) (shaped : Shaped m) (n w : ℕ) (value : List ℕ) (cs : L
 -- EVERY BENCH HISTORY, within the request's bounds, HAS MOMENTS THAT EARN A YES.
 pub every-history-earns-yes : EveryHistoryEarnsYes
 every-history-earns-yes m shaped n w value cs e hc hl =
-    let sizes = set-up-admits m n w value e .sizes in
+    let admits = set-up-admits m n w value e in let sizes = admits .sizes in let facts = loggable m shaped n w value cs e in
     let l = demand-3 m shaped n w value cs e .linearization places (omega arith) in
     record {
       timed = l .timed;
       same-calls = l .same-calls;
-      yes = Yes.linearized-earns-yes places n w value _ (omega arith) (sizes .n-low, sizes .n-high) (sizes .w-low, sizes .w-high) (set-up-admits m n w value e .value-length) hl (loggable m shaped n w value cs e) l;
+      yes = Yes.linearized-earns-yes places n w value _ (omega arith) (sizes .n-low, sizes .n-high) (sizes .w-low, sizes .w-high) (admits .value-length) hl facts l;
       fits = fits m shaped n w value cs e hc (sizes .n-high) l;
     }
 

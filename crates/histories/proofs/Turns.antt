@@ -12,7 +12,7 @@ use Rattle.model.specs.Replies.{Said, Answer, refused, accepted, answered}
 use Rattle.model.specs.History.{Command, Event, events, Slot, none, running, Call, callOf, ended, slotAfter, slotsAfter, ordered, callsFrom, calls}
 use Rattle.model.specs.Linearizable.{All}
 use Rattle.linearization.proofs.Updates.{Split, same, other, split, ifb-eq, ifb-ne}
-use Rattle.laws.proofs.AllLaws.{all-of, all-join, Pairs}
+use Rattle.laws.proofs.AllLaws.{all-of, all-join}
 use Rattle.histories.specs.CallFacts.{Follows, InTurn}
 
 -- the next call that a slot brings does not start before this; k is the next command
@@ -110,7 +110,8 @@ unfolding callsFrom
 ends-from [] k slots = tt
 ends-from (e ∷ es) k slots =
     all-join _ (callOf k (e .command) (e .said) (slots (e .command .process))) _ (own (e .said))
-    (all-of _ _ (λ (c : Call) (z : c .end < k + 1 + length es). let y : c .end < k + suc (length es) = omega arith in y) (callsFrom (k + 1) es (slotsAfter k e slots)) (ends-from es (k + 1) (slotsAfter k e slots)))
+    (all-of _ _ (λ (c : Call) (z : c .end < k + 1 + length es). let y : c .end < k + suc (length es) = omega arith in y)
+    (callsFrom (k + 1) es (slotsAfter k e slots)) (ends-from es (k + 1) (slotsAfter k e slots)))
   where
     at-slot : (a : Answer) (n : ℕ) (s : Slot) → ended (e .command .process) k a n s .end < k + suc (length es)
     at-slot a n s = let z = ends (e .command .process) k a n s .0 in omega (arith, z)
@@ -127,4 +128,6 @@ events-length (c ∷ cs) m = ap suc (events-length cs (command m (c .process) (c
 
 -- no call ends after the last command
 pub end-by : (m : Memory) (cs : List Command) → All (λ (c : Call). c .end ≤ length cs) (calls (events m cs))
-end-by m cs = all-of _ _ (λ (c : Call) (z : c .end < 1 + length (events m cs)). let y = events-length cs m in let x : c .end ≤ length cs = omega (arith, y) in x) (calls (events m cs)) (ends-from (events m cs) 1 (λ p. none))
+end-by m cs =
+    let es = events m cs in
+    all-of _ _ (λ (c : Call) (z : c .end < 1 + length es). let y = events-length cs m in let x : c .end ≤ length cs = omega (arith, y) in x) (calls es) (ends-from es 1 (λ p. none))

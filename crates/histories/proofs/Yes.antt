@@ -1,7 +1,7 @@
--- THE YES-LEMMA: answered calls that have a linearization, of which those of one process do not overlap and each SC or VL
--- has an earlier LL, have a log that earns a yes.
+-- THE YES-LEMMA: answered calls that have a linearization, of which those of one process do not overlap and each SC or
+-- VL has an earlier LL, have a log that earns a yes.
 use mathlib.Core.Path.{_≡_, refl, sym, ap, ap₂, subst, _∙_}
-use mathlib.Core.Bool.{Bool, true, false, not, _&&_, _||_, cond}
+use mathlib.Core.Bool.{Bool, true, false, not, _||_, cond}
 use mathlib.Core.List.{List, [], _∷_, map}
 use Prim.Native.Nat.{ℕ, _*_, _≤_, _<_}
 use native.Mathlib.Nat.{mul-lt-mul-of-pos-right}
@@ -12,15 +12,17 @@ use borrow.Author.Tests.{eq-eqb, ne-eqb, lt-ltb, le-ltb, le-leb, lt-leb}
 use Rattle.model.specs.Replies.{Answer, llWords, scTruth, vlTruth}
 use Rattle.model.specs.Object.{Kind, ll, sc, vl, fresh, serve}
 use Rattle.model.specs.History.{Call}
-use Rattle.model.specs.Linearizable.{All, Timed, Distinct, Inside, Linearization, inMomentOrder, fed}
+use Rattle.model.specs.Linearizable.{All, Timed, Distinct, Inside, inMomentOrder, fed}
 use Rattle.model.specs.Refusals.{Row, first, every, some, between}
 use Rattle.linearization.proofs.Updates.{Split, same, other, split, contra}
-use Rattle.laws.proofs.AllLaws.{and-both, or-left, or-right, all-of, all-both, all-map, map-all, map-pairs, pairs-map, pairs-of, all-every, all-none, Any, any-of, any-map, map-any, any-some, all-any, Pairs, map-map}
+use Rattle.laws.proofs.AllLaws.{and-both, or-left, or-right, all-of, all-both, all-map, map-all, all-every, all-none, map-map}
+use Rattle.laws.proofs.AllLaws.{Pairs, map-pairs, pairs-map, pairs-of, Any, any-of, any-map, map-any, any-some, all-any}
 use Rattle.verdicts.specs.declared.Verdict.the-variants.{Refused, Yes, No}
 use Rattle.verdicts.specs.Log.{Entry, entries}
-use Rattle.verdicts.specs.Verdicts.{timedOf, kindOf, answerOf, eachTwo, kindKnown, apart, differ, inside, truthTold, servedAlike, inOrder, answersOf, leads, llBefore, conditions, earnsYes, logRows, logRefusal, judged}
+use Rattle.verdicts.specs.Verdicts.{timedOf, eachTwo, kindKnown, apart, differ, inside, truthTold, servedAlike, inOrder, answersOf, leads, llBefore}
+use Rattle.verdicts.specs.Verdicts.{conditions, earnsYes, logRows, logRefusal, judged}
 use Rattle.histories.specs.BenchLogs.{kindNumber, truthFor, wordsFor, entryFor, logFor}
-use Rattle.histories.specs.CallFacts.{Formed, WellFormed, Follows, needsLl, Leads, Led, Loggable}
+use Rattle.histories.specs.CallFacts.{Formed, WellFormed, Follows, needsLl, Leads, Led}
 use Rattle.histories.specs.Promises.{LinearizedEarnsYes}
 use Rattle.histories.proofs.Offers.{sorted-all}
 use Rattle.histories.proofs.Rows.{Wide, words-wide, log-whole, log-entries, log-begun}
@@ -155,6 +157,9 @@ module _ (places : ℕ) (pos : 0 < places) (n w : ℕ) (value : List ℕ) (ts : 
           or-right (eqb (kindNumber (t .call .kind)) 1) (any-some (leads (entry t)) (any-map entry (λ f. leads (entry t) f ≡ true) (any-of _ _ (found t i) both)))
       go t i f false e = or-left _ (is-one (t .call .kind) e)
 
+  forward : (t : Timed) → Inside places t → leb (t .call .end * places) (t .call .start * places) ≡ false
+  forward t i = lt-leb (t .call .end * places) (t .call .start * places) (let x = i .after-start in let y = i .by-answer in omega arith)
+
   refuses-not : (1 ≤ n) × (n ≤ 16) → (1 ≤ w) × (w ≤ 64) → length value ≡ w → length ts ≤ 512 → logRefusal n w value log ≡ 0
   unfolding logRefusal
   refuses-not hn hw hv hl =
@@ -162,13 +167,13 @@ module _ (places : ℕ) (pos : 0 < places) (n w : ℕ) (value : List ℕ) (ts : 
       let not-4 = ap (some (λ (e : Entry). leb n (e .process))) (log-begun w places ts wide) ∙ on-no _ _ (λ t f. lt-leb _ _ (f .process)) formed in
       let not-8 = ap₂ (λ a b. not a || not b) (eq-eqb _ _ hv) (eq-eqb _ 0 (log-whole w places ts wide)) in
       let not-16 = ap (λ es. ltb 512 (length es)) is ∙ le-ltb 512 (length es) (let z = length-map ts entry in omega arith) in
-      let forward : (t : Timed) → Inside places t → leb (t .call .end * places) (t .call .start * places) ≡ false = λ t i. lt-leb (t .call .end * places) (t .call .start * places) (let x = i .after-start in let y = i .by-answer in omega arith) in
       let not-17 = ap (some (λ (e : Entry). leb (e .answer) (e .start))) is ∙ on-no _ (Inside places) forward within in
       let not-1 = ap not (and-both (le-leb _ _ (hn .0)) (le-leb _ _ (hn .1))) in
       let not-2 = ap not (and-both (le-leb _ _ (hw .0)) (le-leb _ _ (hw .1))) in
       first-none (logRows n w value log) (not-1, (not-2, (not-4, (not-8, (not-16, (not-17, tt))))))
 
-  earns : Pairs (λ t u. Follows (toCall t) (toCall u)) ts → Distinct (map (λ (t : Timed). t .moment) ts) → serve (fresh value) (map fed (inMomentOrder ts)) ≡ answersOf (inMomentOrder ts) → All HasLl ts → earnsYes value es ≡ true
+  earns : Pairs (λ t u. Follows (toCall t) (toCall u)) ts → Distinct (map (λ (t : Timed). t .moment) ts)
+      → serve (fresh value) (map fed (inMomentOrder ts)) ≡ answersOf (inMomentOrder ts) → All HasLl ts → earnsYes value es ≡ true
   unfolding earnsYes
   earns p d s b =
       let kinds = on-each kindKnown _ (λ t f. known (t .call .kind)) formed in
@@ -178,7 +183,8 @@ module _ (places : ℕ) (pos : 0 < places) (n w : ℕ) (value : List ℕ) (ts : 
 -- from the calls to the timed calls
 led-back : (ts : List Timed) → Led (map toCall ts) → All (λ t. needsLl (t .call .kind) ≡ true → Any (λ u. Leads (toCall t) (toCall u)) ts) ts
 led-back ts a =
-    all-of (λ t. needsLl (t .call .kind) ≡ true → Any (Leads (toCall t)) (map toCall ts)) _ (λ t g z. map-any toCall (Leads (toCall t)) ts (g z)) ts (map-all toCall (λ c. needsLl (c .kind) ≡ true → Any (Leads c) (map toCall ts)) ts a)
+    all-of (λ t. needsLl (t .call .kind) ≡ true → Any (Leads (toCall t)) (map toCall ts)) _ (λ t g z. map-any toCall (Leads (toCall t)) ts (g z)) ts
+    (map-all toCall (λ c. needsLl (c .kind) ≡ true → Any (Leads c) (map toCall ts)) ts a)
 
 pub linearized-earns-yes : LinearizedEarnsYes
 unfolding judged

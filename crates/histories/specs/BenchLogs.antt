@@ -14,7 +14,7 @@ kindNumber ll = 1
 kindNumber (sc offered) = 2
 kindNumber vl = 3
 
--- "words offered or answered": those of an LL's answer, those that an SC offers; a VL has none, and zeros stand for them
+-- "words offered or answered": those of an LL's answer, those that an SC offers; of a VL, which has none, zeros
 abbrev pub answeredWords : ℕ → Answer → List ℕ
 answeredWords w (llWords words) = words
 answeredWords w (scTruth t) = replicate w 0

@@ -1,7 +1,7 @@
 -- What the yes-lemma asks of a list of answered calls, beside a linearization.
 use mathlib.Core.Path.{_≡_}
 use mathlib.Core.Bool.{Bool, true, false}
-use mathlib.Core.List.{List, [], _∷_}
+use mathlib.Core.List.{List}
 use Prim.Native.Nat.{ℕ, _<_}
 use lib.ListN.{length}
 use Rattle.model.specs.Replies.{Answer, llWords, scTruth, vlTruth}

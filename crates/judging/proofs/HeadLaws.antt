@@ -1,7 +1,7 @@
 -- Rows of a log read place by place.
 use mathlib.Core.Path.{_≡_, ap, ap₂, _∙_}
 use Prim.Native.Nat.{ℕ, zero, suc, _+_, _-_, _*_, _≤_, _<_}
-use mathlib.Core.List.{List, [], _∷_}
+use mathlib.Core.List.{List, _∷_}
 use mathlib.Core.Bool.{true, false, _||_}
 use native.Mathlib.Omega.{arith}
 use native.Mathlib.Nat.{suc-mul, add-zero}
@@ -12,7 +12,8 @@ use Rattle.judging.specs.declared.heads.Test.{Test}
 use Rattle.judging.specs.Heads.{headOf, testOf, someRow, Fit}
 
 pub head-at : (log : List ℕ) (at : ℕ)
-    → record { process = getD log at 0; kind = getD log (at + 1) 0; start = getD log (at + 2) 0; answer = getD log (at + 3) 0; truth = getD log (at + 4) 0; moment = getD log (at + 5) 0 } ≡ headOf (drop at log)
+    → record { process = getD log at 0; kind = getD log (at + 1) 0; start = getD log (at + 2) 0; answer = getD log (at + 3) 0; truth = getD log (at + 4) 0; moment = getD log (at + 5) 0 }
+    ≡ headOf (drop at log)
 head-at log at = rw (getD-drop at log 0 0, getD-drop at log 1 0, getD-drop at log 2 0, getD-drop at log 3 0, getD-drop at log 4 0, getD-drop at log 5 0, add-zero at)
 
 module _ (w at : ℕ) (log : List ℕ) where

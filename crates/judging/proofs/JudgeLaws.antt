@@ -3,7 +3,6 @@ use mathlib.Core.Path.{_≡_, refl, sym, ap, ap₂, _∙_}
 use Prim.Native.Nat.{ℕ}
 use mathlib.Core.List.{List, [], _∷_}
 use mathlib.Core.Bool.{Bool, true, false, not, _&&_, _||_, cond}
-use lib.Dec.{eqb}
 use borrow.Author.Tests.{eq-eqb, ne-eqb}
 use Rattle.model.specs.Object.{fresh}
 use Rattle.model.specs.Refusals.{every, some}
@@ -47,7 +46,8 @@ wrong-not es = ap (λ b. every kindKnown es && b) (join-every inside truthTold e
 clash-not : (es : List Entry) → (eachTwo apart es && eachTwo differ es) ≡ not (clashes es)
 clash-not [] = refl
 clash-not (e ∷ es) =
-    across (every (apart e) es) (every (differ e) es) (eachTwo apart es) (eachTwo differ es) ∙ ap₂ _&&_ (every-both (apart e) (differ e) es) (clash-not es) ∙ both-not (someRow (Clashes (head e)) es) (clashes es)
+    across (every (apart e) es) (every (differ e) es) (eachTwo apart es) (eachTwo differ es)
+    ∙ ap₂ _&&_ (every-both (apart e) (differ e) es) (clash-not es) ∙ both-not (someRow (Clashes (head e)) es) (clashes es)
 
 led-not : (all es : List Entry) → every (llBefore all) es ≡ not (unled all es)
 led-not all [] = refl

@@ -1,7 +1,7 @@
 -- Figure 1's object as the code holds it.
 use mathlib.Core.Path.{_≡_, refl, sym, ap, ap₂, subst, _∙_, fun-ext}
 use Prim.Native.Nat.{ℕ, zero, suc, _+_, _-_, _≤_, _<_}
-use mathlib.Core.List.{List, [], _∷_}
+use mathlib.Core.List.{List, _∷_}
 use mathlib.Core.Bool.{Bool, true, false, not, _&&_, cond}
 use native.Mathlib.Omega.{arith}
 use native.Mathlib.Nat.{add-zero}
@@ -14,12 +14,12 @@ use Rattle.model.specs.Replies.{llWords, scTruth, vlTruth}
 use Rattle.model.specs.Object.{ll, sc, vl, Object, fresh, setAt, tell, feed}
 use Rattle.model.specs.Linearizable.{All}
 use Rattle.verdicts.specs.Log.{Entry, width, entryOf}
-use Rattle.verdicts.specs.Verdicts.{kindOf, sameWords, sameTruth, sameAnswer}
+use Rattle.verdicts.specs.Verdicts.{sameWords, sameTruth, sameAnswer}
 use Rattle.judging.specs.declared.heads.Head.{Head}
 use Rattle.judging.specs.declared.object.Held.{Held}
 use Rattle.judging.specs.Heads.{headOf}
 use Rattle.judging.specs.Orders.{Good}
-use Rattle.judging.specs.Objects.{objectOf, Sane, tellsAlike, feedEntry, toldAlike, MovedOn, allAlike}
+use Rattle.judging.specs.Objects.{objectOf, Sane, feedEntry, toldAlike, MovedOn, allAlike}
 use Rattle.judging.proofs.OrderLaws.{all-at}
 
 -- words, one after the other

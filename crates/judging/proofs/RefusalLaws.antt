@@ -1,13 +1,13 @@
 -- The causes over a whole log, and what it means that none holds.
 use mathlib.Core.Path.{_≡_, refl, sym, ap, _∙_}
 use Prim.Native.Nat.{ℕ, zero, suc, _+_, _*_, _/_, _%_, _≤_, _<_}
-use mathlib.Core.List.{List, [], _∷_}
+use mathlib.Core.List.{List}
 use mathlib.Core.Bool.{Bool, true, false, not, _||_}
 use native.Mathlib.Omega.{arith}
 use native.Mathlib.Decide.{decLt}
 use native.Mathlib.Nat.{add-zero, suc-mul, div-mul-le-self, div-eq-of-lt-le, div-add-mod', lt-div-mul-add}
 use native.Mathlib.Numerals.{add-one}
-use lib.Dec.{eqb, ltb, leb}
+use lib.Dec.{eqb, leb}
 use lib.ListN.{length, getD, drop}
 use lib.Seq.{getD-drop, drop-drop}
 use borrow.Author.Tests.{eqb-true, ltb-false, leb-false, lt-leb, not-false}
@@ -15,7 +15,7 @@ use Rattle.model.specs.Refusals.{row1, row2, first, some}
 use Rattle.rows.proofs.RowLaws.{cleared, n-in, w-in}
 use Rattle.laws.proofs.AllLaws.{all-of, all-none, none-all, or-none}
 use Rattle.verdicts.specs.Log.{Entry, width, entryOf, rows, entries, begun}
-use Rattle.verdicts.specs.Verdicts.{row4log, row8log, row16, row17, logRefusal}
+use Rattle.verdicts.specs.Verdicts.{row4log, row8log, row16, logRefusal}
 use Rattle.judging.specs.Heads.{Fit}
 use Rattle.judging.specs.Orders.{SortFit}
 

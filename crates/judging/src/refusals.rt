@@ -1,7 +1,6 @@
 // The causes for which a log is refused, and their order: 1, 2, 4, 8, 16, 17.
 ghost use mathlib.Core.Path.{_≡_};
 ghost use Prim.Native.Nat.{_+_, _≤_};
-ghost use lib.ListN.{length};
 ghost use Rattle.verdicts.specs.Log.{entries, begun};
 ghost use Rattle.verdicts.specs.Verdicts.{row4log, row8log, row16, row17, logRefusal};
 use crate::heads::Test;

@@ -12,7 +12,7 @@ use borrow.Author.Tests.{eq-eqb, ne-eqb, lt-ltb, le-ltb, le-leb, lt-leb}
 use Rattle.verdicts.specs.declared.Verdict.{Verdict}
 use Rattle.verdicts.specs.Verdicts.{judged}
 use Rattle.logtext.specs.declared.Reading.{Reading}
-use Rattle.logtext.specs.Numbers.{Scan, begin, stopped, isDigit, isGap, digitTaken, closed, byteTaken, scan, readNumbers, judgedNumbers}
+use Rattle.logtext.specs.Numbers.{Scan, stopped, isDigit, isGap, digitTaken, closed, byteTaken, scan, readNumbers, judgedNumbers}
 use Rattle.logtext.specs.Readings.{asScan, Reads, stoppedAt, digitRead}
 
 pub gap-last : (b : ℕ) → (b ≡ 32 → ⊥) → (b ≡ 10 → ⊥) → (b ≡ 9 → ⊥) → eqb b 13 ≡ isGap b

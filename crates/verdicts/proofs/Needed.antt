@@ -1,4 +1,4 @@
--- Each of the six conditions is needed: a log of which it alone fails, by computation. N and W are 2 and 1, the value 5.
+-- Each of the six conditions is needed: a log of which it alone fails, by computation. N is 2, W is 1, the value 5.
 use mathlib.Core.Path.{_≡_, refl}
 use mathlib.Core.List.{List, [], _∷_, _++_}
 use mathlib.Core.Bool.{Bool, true, false}

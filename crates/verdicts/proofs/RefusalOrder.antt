@@ -6,7 +6,7 @@ use Prim.Native.Nat.{ℕ, zero, suc, _+_, _*_}
 use Rattle.verdicts.specs.declared.Verdict.the-variants.{Refused, Yes}
 use Rattle.verdicts.specs.Verdicts.{earnsYes, logRefusal, judged}
 
--- LLs of process p, numbered from k on, W being 1; all answered in turn, or all where they start
+-- n LLs of process p, one after the other, W being 1; and one that is answered where it starts
 abbrev lls : ℕ → ℕ → ℕ → List ℕ
 lls zero p k = []
 lls (suc n) p k = p ∷ 1 ∷ (k * 10) ∷ (k * 10 + 9) ∷ 0 ∷ (k * 10 + 9) ∷ 5 ∷ lls n p (suc k)
@@ -14,13 +14,13 @@ lls (suc n) p k = p ∷ 1 ∷ (k * 10) ∷ (k * 10 + 9) ∷ 0 ∷ (k * 10 + 9) �
 abbrev backward : ℕ → List ℕ
 backward p = p ∷ 1 ∷ 10 ∷ 10 ∷ 0 ∷ 10 ∷ 5 ∷ []
 
-pub one-first : judged 0 65 [] (backward 0) ≡ Refused 1
+pub one-before-two : judged 0 65 [] (backward 0) ≡ Refused 1
 unfolding judged logRefusal
-one-first = refl
+one-before-two = refl
 
-pub two-then : judged 17 0 [] [] ≡ Refused 1
+pub seventeen-processes : judged 17 0 [] [] ≡ Refused 1
 unfolding judged logRefusal
-two-then = refl
+seventeen-processes = refl
 
 pub two-before-four : judged 1 65 (5 ∷ []) (backward 1) ≡ Refused 2
 unfolding judged logRefusal
@@ -40,7 +40,7 @@ pub cut-call : judged 2 1 (5 ∷ []) (backward 0 ++ 1 ∷ []) ≡ Refused 8
 unfolding judged logRefusal
 cut-call = refl
 
--- 512 calls are judged; with one more, whose answer is where it starts, and with no word for the value
+-- 512 calls are judged, one more is too many: whatever its places are, but not where the value has no word
 pub most-calls : judged 2 1 (5 ∷ []) (lls 512 0 1) ≡ Yes
 unfolding judged logRefusal earnsYes
 most-calls = refl

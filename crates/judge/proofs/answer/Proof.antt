@@ -1,4 +1,4 @@
--- `judge::answer` meets its contract, which only says that it is safe and ends: the first numbers are as many as were read.
+-- `judge::answer` meets its contract, which only says that it is safe and ends: there are as many numbers as were read.
 use mathlib.Core.Path.{sym}
 use native.Mathlib.Omega.{arith}
 use lib.Seq.{length-take-le}

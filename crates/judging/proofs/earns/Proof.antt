@@ -1,4 +1,4 @@
--- `judging::earns` meets its contract: no entry is wrong, no two clash, none lacks its LL, and the object answers alike.
+-- `judging::earns` meets its contract: no entry is wrong, no two clash, none lacks its LL, the object answers alike.
 use mathlib.Core.Path.{_∙_}
 use borrow.Author.Needs.{needs}
 use Rattle.verdicts.specs.Log.{rows}

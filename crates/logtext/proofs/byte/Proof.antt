@@ -1,6 +1,5 @@
 -- `logtext::byte` meets its contract: a digit, a gap, or neither.
-use mathlib.Core.Path.{refl, sym, _∙_}
-use native.Mathlib.Omega.{arith}
+use mathlib.Core.Path.{sym, _∙_}
 use Rattle.logtext.proofs.ReadingLaws.{byte-gap, byte-digit, byte-low, byte-high}
 use borrow.Author.Needs.{needs}
 use Rattle.logtext.proofs.byte.Statement.{statement}
@@ -35,13 +34,17 @@ digit-requires : tie.Need-digit-requires
 digit-requires c κs = search needs
 
 returns-3 : tie.Need-returns-3
-returns-3 c = byte-digit (c .before .before .before .before .args .r) (c .before .before .before .before .args .numbers .now) (search needs) (c .before .before .before .before .args .b) (search needs) (search needs) _ (c .digit .ensures)
+returns-3 c =
+    let s = c .before .before .before .before in let a = s .args in
+    byte-digit (a .r) (a .numbers .now) (search needs) (a .b) (search needs) (search needs) _ (c .digit .ensures)
 
 stopped-requires-2 : tie.Need-stopped-requires-2
 stopped-requires-2 c κs = search needs
 
 returns-4 : tie.Need-returns-4
-returns-4 c = byte-high (c .before .before .before .before .args .r) (c .before .before .before .before .args .numbers .now) (search needs) (c .before .before .before .before .args .b) (search needs) _ (c .stopped2 .ensures)
+returns-4 c =
+    let s = c .before .before .before .before in let a = s .args in
+    byte-high (a .r) (a .numbers .now) (search needs) (a .b) (search needs) _ (c .stopped2 .ensures)
 
 pub byte-spec : {M : Type 1} → statement M
 byte-spec =

@@ -12,7 +12,9 @@ stopped-requires : tie.Need-stopped-requires
 stopped-requires c κs = search needs
 
 returns-2 : tie.Need-returns-2
-returns-2 c = close-full (c .before .before .before .before .before .args .r) (c .before .before .before .before .before .args .numbers .now) (search needs) (not-false _ (c .before .before .if1 .left)) (search needs) _ (c .stopped .ensures)
+returns-2 c =
+    let v = c .before .before in let s = v .before .before .before in
+    close-full (s .args .r) (s .args .numbers .now) (search needs) (not-false _ (v .if1 .left)) (search needs) _ (c .stopped .ensures)
 
 mul-numbers : tie.Need-mul-numbers
 mul-numbers c = search needs

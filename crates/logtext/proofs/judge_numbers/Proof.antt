@@ -1,7 +1,5 @@
 -- `logtext::judge_numbers` meets its contract: the parts of the numbers.
-use native.Mathlib.Omega.{arith}
 use mathlib.Core.Path.{sym}
-use lib.ListN.{length, drop, length-drop, length-take}
 use lib.Seq.{length-take-le}
 use Rattle.logtext.proofs.ReadingLaws.{judged-whole, judged-short}
 use borrow.Author.Needs.{needs}

@@ -23,7 +23,9 @@ add-same-words-2 : tie.Need-add-same-words-2
 add-same-words-2 c = search needs
 
 same-words-requires-2 : tie.Need-same-words-requires-2
-same-words-requires-2 c κs = (c .before .before .before .before .before .before .pre .1 .0 .inside (c .if2 .left), let z = c .before .before .before .before .before .before .pre .0 .inside in omega arith)
+same-words-requires-2 c κs =
+    let s = c .before .before .before .before .before .before in
+    (s .pre .1 .0 .inside (c .if2 .left), let z = s .pre .0 .inside in omega arith)
 
 returns-2 : tie.Need-returns-2
 returns-2 c =

@@ -13,7 +13,8 @@ array-write-links c = low-process _ _ _ _ (c .before .before .before .before .be
 returns : tie.Need-returns
 returns c =
     let a = c .before .before .before .before .before .args in
-    moved-ll (a .log .now) (a .w) (a .at) (a .held) (search needs) _ (c .before .before .before .head-at .ensures) (search needs) (search needs) (low-process _ _ _ _ (c .before .before .before .before .before .pre .0) (c .before .before .before .head-at .ensures))
+    moved-ll (a .log .now) (a .w) (a .at) (a .held) (search needs) _ (c .before .before .before .head-at .ensures) (search needs) (search needs)
+    (low-process _ _ _ _ (c .before .before .before .before .before .pre .0) (c .before .before .before .head-at .ensures))
 
 returns-2 : tie.Need-returns-2
 returns-2 c =

@@ -23,13 +23,15 @@ array-read-p c = omega arith
 
 alike-requires : tie.Need-alike-requires Inv-loop μ-loop
 alike-requires c κs =
-    let a = c .before .before .before .before .before .args in
-    (good-at (a .log .now) (a .value .now) (a .w) (a .order .at) (a .order .count) (search needs) (search needs) (c .before .loop .i) (c .loop-test .taken) (c .before .before .before .before .before .pre .0 .all), (c .before .loop .inv .sane, search needs))
+    let s = c .before .before .before .before .before in let a = s .args in (
+      good-at (a .log .now) (a .value .now) (a .w) (a .order .at) (a .order .count) (search needs) (search needs) (c .before .loop .i) (c .loop-test .taken) (s .pre .0 .all),
+      (c .before .loop .inv .sane, search needs),
+    )
 
 moved-requires : tie.Need-moved-requires Inv-loop μ-loop
 moved-requires c κs =
-    let a = c .before .before .before .before .before .before .before .args in
-    (good-at (a .log .now) (a .value .now) (a .w) (a .order .at) (a .order .count) (search needs) (search needs) (c .before .before .before .loop .i) (search needs) (c .before .before .before .before .before .before .before .pre .0 .all), c .before .before .before .loop .inv .sane)
+    let v = c .before .before .before in let s = v .before .before .before .before in let a = s .args in
+    (good-at (a .log .now) (a .value .now) (a .w) (a .order .at) (a .order .count) (search needs) (search needs) (v .loop .i) (search needs) (s .pre .0 .all), v .loop .inv .sane)
 
 add-i : tie.Need-add-i Inv-loop μ-loop
 add-i c = omega arith
@@ -40,12 +42,14 @@ loop-less c = omega arith
 loop-again : tie.Need-loop-again Inv-loop μ-loop
 loop-again c =
     let a = c .before .before .before .before .before .before .before .before .args in
-    serve-go (a .log .now) (a .value .now) (a .w) (a .order .at) (a .order .count) (search needs) (search needs) _ (c .before .before .before .before .loop .i) (c .before .before .before .before .loop .inv) (search needs) _ (c .before .before .alike .ensures) (c .before .if1 .taken) _ (c .moved .ensures)
+    serve-go (a .log .now) (a .value .now) (a .w) (a .order .at) (a .order .count) (search needs) (search needs) _ (c .before .before .before .before .loop .i)
+    (c .before .before .before .before .loop .inv) (search needs) _ (c .before .before .alike .ensures) (c .before .if1 .taken) _ (c .moved .ensures)
 
 returns : tie.Need-returns Inv-loop μ-loop
 returns c =
     let a = c .before .before .before .before .before .before .before .args in
-    serve-stop (a .log .now) (a .value .now) (a .w) (a .order .at) (a .order .count) (search needs) (search needs) _ (c .before .before .before .loop .i) (c .before .before .before .loop .inv) (search needs) _ (c .before .alike .ensures) (c .if1 .left)
+    serve-stop (a .log .now) (a .value .now) (a .w) (a .order .at) (a .order .count) (search needs) (search needs) _ (c .before .before .before .loop .i)
+    (c .before .before .before .loop .inv) (search needs) _ (c .before .alike .ensures) (c .if1 .left)
 
 returns-2 : tie.Need-returns-2 Inv-loop μ-loop
 returns-2 c =

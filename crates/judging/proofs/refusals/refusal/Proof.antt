@@ -19,8 +19,8 @@ w-out-of-range-requires c κs = search needs
 returns-2 : tie.Need-returns-2
 unfolding logRefusal
 returns-2 c =
-    let at1 = c .before .before in
-    over _ 1 (sym (at1 .before .n-out-of-range .ensures) ∙ at1 .if1 .left) (here _ 2 _ (sym (c .before .w-out-of-range .ensures) ∙ c .if2 .taken))
+    let at1 = c .before .before in let no1 = sym (at1 .before .n-out-of-range .ensures) ∙ at1 .if1 .left in
+    over _ 1 no1 (here _ 2 _ (sym (c .before .w-out-of-range .ensures) ∙ c .if2 .taken))
 
 no-such-process-requires : tie.Need-no-such-process-requires
 no-such-process-requires c κs = let at2 = c in w-in _ (sym (at2 .before .w-out-of-range .ensures) ∙ at2 .if2 .left) .1
@@ -28,9 +28,9 @@ no-such-process-requires c κs = let at2 = c in w-in _ (sym (at2 .before .w-out-
 returns-3 : tie.Need-returns-3
 unfolding logRefusal
 returns-3 c =
-    let at2 = c .before .before in
-    let at1 = at2 .before .before in
-    over _ 1 (sym (at1 .before .n-out-of-range .ensures) ∙ at1 .if1 .left) (over _ 2 (sym (at2 .before .w-out-of-range .ensures) ∙ at2 .if2 .left) (here _ 4 _ (sym (c .before .no-such-process .ensures) ∙ c .if3 .taken)))
+    let at2 = c .before .before in let no2 = sym (at2 .before .w-out-of-range .ensures) ∙ at2 .if2 .left in
+    let at1 = at2 .before .before in let no1 = sym (at1 .before .n-out-of-range .ensures) ∙ at1 .if1 .left in
+    over _ 1 no1 (over _ 2 no2 (here _ 4 _ (sym (c .before .no-such-process .ensures) ∙ c .if3 .taken)))
 
 not-w-words-requires : tie.Need-not-w-words-requires
 not-w-words-requires c κs = let at2 = c .before .before in w-in _ (sym (at2 .before .w-out-of-range .ensures) ∙ at2 .if2 .left) .1
@@ -38,10 +38,10 @@ not-w-words-requires c κs = let at2 = c .before .before in w-in _ (sym (at2 .be
 returns-4 : tie.Need-returns-4
 unfolding logRefusal
 returns-4 c =
-    let at3 = c .before .before in
-    let at2 = at3 .before .before in
-    let at1 = at2 .before .before in
-    over _ 1 (sym (at1 .before .n-out-of-range .ensures) ∙ at1 .if1 .left) (over _ 2 (sym (at2 .before .w-out-of-range .ensures) ∙ at2 .if2 .left) (over _ 4 (sym (at3 .before .no-such-process .ensures) ∙ at3 .if3 .left) (here _ 8 _ (sym (c .before .not-w-words .ensures) ∙ c .if4 .taken))))
+    let at3 = c .before .before in let no4 = sym (at3 .before .no-such-process .ensures) ∙ at3 .if3 .left in
+    let at2 = at3 .before .before in let no2 = sym (at2 .before .w-out-of-range .ensures) ∙ at2 .if2 .left in
+    let at1 = at2 .before .before in let no1 = sym (at1 .before .n-out-of-range .ensures) ∙ at1 .if1 .left in
+    over _ 1 no1 (over _ 2 no2 (over _ 4 no4 (here _ 8 _ (sym (c .before .not-w-words .ensures) ∙ c .if4 .taken))))
 
 too-many-requires : tie.Need-too-many-requires
 too-many-requires c κs = let at2 = c .before .before .before .before in w-in _ (sym (at2 .before .w-out-of-range .ensures) ∙ at2 .if2 .left) .1
@@ -49,11 +49,11 @@ too-many-requires c κs = let at2 = c .before .before .before .before in w-in _ 
 returns-5 : tie.Need-returns-5
 unfolding logRefusal
 returns-5 c =
-    let at4 = c .before .before in
-    let at3 = at4 .before .before in
-    let at2 = at3 .before .before in
-    let at1 = at2 .before .before in
-    over _ 1 (sym (at1 .before .n-out-of-range .ensures) ∙ at1 .if1 .left) (over _ 2 (sym (at2 .before .w-out-of-range .ensures) ∙ at2 .if2 .left) (over _ 4 (sym (at3 .before .no-such-process .ensures) ∙ at3 .if3 .left) (over _ 8 (sym (at4 .before .not-w-words .ensures) ∙ at4 .if4 .left) (here _ 16 _ (sym (c .before .too-many .ensures) ∙ c .if5 .taken)))))
+    let at4 = c .before .before in let no8 = sym (at4 .before .not-w-words .ensures) ∙ at4 .if4 .left in
+    let at3 = at4 .before .before in let no4 = sym (at3 .before .no-such-process .ensures) ∙ at3 .if3 .left in
+    let at2 = at3 .before .before in let no2 = sym (at2 .before .w-out-of-range .ensures) ∙ at2 .if2 .left in
+    let at1 = at2 .before .before in let no1 = sym (at1 .before .n-out-of-range .ensures) ∙ at1 .if1 .left in
+    over _ 1 no1 (over _ 2 no2 (over _ 4 no4 (over _ 8 no8 (here _ 16 _ (sym (c .before .too-many .ensures) ∙ c .if5 .taken)))))
 
 not-after-start-requires : tie.Need-not-after-start-requires
 not-after-start-requires c κs = let at2 = c .before .before .before .before .before .before in w-in _ (sym (at2 .before .w-out-of-range .ensures) ∙ at2 .if2 .left) .1
@@ -61,22 +61,23 @@ not-after-start-requires c κs = let at2 = c .before .before .before .before .be
 returns-6 : tie.Need-returns-6
 unfolding logRefusal
 returns-6 c =
-    let at5 = c .before .before in
-    let at4 = at5 .before .before in
-    let at3 = at4 .before .before in
-    let at2 = at3 .before .before in
-    let at1 = at2 .before .before in
-    over _ 1 (sym (at1 .before .n-out-of-range .ensures) ∙ at1 .if1 .left) (over _ 2 (sym (at2 .before .w-out-of-range .ensures) ∙ at2 .if2 .left) (over _ 4 (sym (at3 .before .no-such-process .ensures) ∙ at3 .if3 .left) (over _ 8 (sym (at4 .before .not-w-words .ensures) ∙ at4 .if4 .left) (over _ 16 (sym (at5 .before .too-many .ensures) ∙ at5 .if5 .left) (here _ 17 _ (sym (c .before .not-after-start .ensures) ∙ c .if6 .taken))))))
+    let at5 = c .before .before in let no16 = sym (at5 .before .too-many .ensures) ∙ at5 .if5 .left in
+    let at4 = at5 .before .before in let no8 = sym (at4 .before .not-w-words .ensures) ∙ at4 .if4 .left in
+    let at3 = at4 .before .before in let no4 = sym (at3 .before .no-such-process .ensures) ∙ at3 .if3 .left in
+    let at2 = at3 .before .before in let no2 = sym (at2 .before .w-out-of-range .ensures) ∙ at2 .if2 .left in
+    let at1 = at2 .before .before in let no1 = sym (at1 .before .n-out-of-range .ensures) ∙ at1 .if1 .left in
+    over _ 1 no1 (over _ 2 no2 (over _ 4 no4 (over _ 8 no8 (over _ 16 no16 (here _ 17 _ (sym (c .before .not-after-start .ensures) ∙ c .if6 .taken))))))
 
 returns-7 : tie.Need-returns-7
 unfolding logRefusal
 returns-7 c =
-    let at5 = c .before .before in
-    let at4 = at5 .before .before in
-    let at3 = at4 .before .before in
-    let at2 = at3 .before .before in
-    let at1 = at2 .before .before in
-    over _ 1 (sym (at1 .before .n-out-of-range .ensures) ∙ at1 .if1 .left) (over _ 2 (sym (at2 .before .w-out-of-range .ensures) ∙ at2 .if2 .left) (over _ 4 (sym (at3 .before .no-such-process .ensures) ∙ at3 .if3 .left) (over _ 8 (sym (at4 .before .not-w-words .ensures) ∙ at4 .if4 .left) (over _ 16 (sym (at5 .before .too-many .ensures) ∙ at5 .if5 .left) (over _ 17 (sym (c .before .not-after-start .ensures) ∙ c .if6 .left) refl)))))
+    let no17 = sym (c .before .not-after-start .ensures) ∙ c .if6 .left in
+    let at5 = c .before .before in let no16 = sym (at5 .before .too-many .ensures) ∙ at5 .if5 .left in
+    let at4 = at5 .before .before in let no8 = sym (at4 .before .not-w-words .ensures) ∙ at4 .if4 .left in
+    let at3 = at4 .before .before in let no4 = sym (at3 .before .no-such-process .ensures) ∙ at3 .if3 .left in
+    let at2 = at3 .before .before in let no2 = sym (at2 .before .w-out-of-range .ensures) ∙ at2 .if2 .left in
+    let at1 = at2 .before .before in let no1 = sym (at1 .before .n-out-of-range .ensures) ∙ at1 .if1 .left in
+    over _ 1 no1 (over _ 2 no2 (over _ 4 no4 (over _ 8 no8 (over _ 16 no16 (over _ 17 no17 refl)))))
 
 pub refusal-spec : {M : Type 1} → statement M
 refusal-spec =

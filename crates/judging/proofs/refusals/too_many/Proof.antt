@@ -1,6 +1,4 @@
 -- `judging::refusals::too_many` meets its contract: there are as many entries as whole rows.
-use mathlib.Core.Path.{sym, ap}
-use lib.Dec.{ltb}
 use borrow.Author.Needs.{needs}
 use Rattle.judging.proofs.RefusalLaws.{rows-length}
 use Rattle.judging.proofs.refusals.too_many.Statement.{statement}
