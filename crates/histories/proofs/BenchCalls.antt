@@ -22,7 +22,8 @@ use Rattle.linearization.proofs.WordLists.{tab, wordsOf}
 use Rattle.linearization.proofs.Slots.{slotOf}
 use Rattle.linearization.proofs.GhostRuns
 use Rattle.linearization.proofs.GhostRuns.{Cmd, starts, exec, callAt, callF, callsF, setup}
-use Rattle.laws.proofs.AllLaws.{all-of, all-both, all-map, all-join, Any, here, there}
+use Rattle.laws.specs.Lists.{Any, here, there}
+use Rattle.laws.proofs.AllLaws.{all-of, all-both, all-map, all-join}
 use Rattle.histories.specs.CallFacts.{WellFormed, Follows, InTurn, needsLl, Leads, Led}
 
 abbrev toCall : Timed → Call

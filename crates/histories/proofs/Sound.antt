@@ -10,7 +10,8 @@ use Rattle.model.specs.Linearizable.{All, Timed, Distinct, Inside, Linearizatio
 use Rattle.model.specs.Refusals.{every}
 use Rattle.linearization.proofs.Updates.{contra}
 use Rattle.laws.proofs.AndLaws.{left, right}
-use Rattle.laws.proofs.AllLaws.{all-of, all-map, every-all, Pairs, pairs-of, pairs-map, map-map}
+use Rattle.laws.specs.Lists.{Pairs}
+use Rattle.laws.proofs.AllLaws.{all-of, all-map, every-all, pairs-of, pairs-map, map-map}
 use Rattle.verdicts.specs.declared.Verdict.{Verdict}
 use Rattle.verdicts.specs.declared.Verdict.the-variants.{Refused, Yes, No}
 use Rattle.verdicts.specs.Log.{Entry, entries}

@@ -16,7 +16,8 @@ use Rattle.model.specs.Linearizable.{All, Timed, Distinct, Inside, inMomentOrde
 use Rattle.model.specs.Refusals.{Row, first, every, some, between}
 use Rattle.linearization.proofs.Updates.{Split, same, other, split, contra}
 use Rattle.laws.proofs.AllLaws.{and-both, or-left, or-right, all-of, all-both, all-map, map-all, all-every, all-none, map-map}
-use Rattle.laws.proofs.AllLaws.{Pairs, map-pairs, pairs-map, pairs-of, Any, any-of, any-map, map-any, any-some, all-any}
+use Rattle.laws.specs.Lists.{Pairs, Any}
+use Rattle.laws.proofs.AllLaws.{map-pairs, pairs-map, pairs-of, any-of, any-map, map-any, any-some, all-any}
 use Rattle.verdicts.specs.declared.Verdict.the-variants.{Refused, Yes, No}
 use Rattle.verdicts.specs.Log.{Entry, entries}
 use Rattle.verdicts.specs.Verdicts.{timedOf, eachTwo, kindKnown, apart, differ, inside, truthTold, servedAlike, inOrder, answersOf, leads, llBefore}

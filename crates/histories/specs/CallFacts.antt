@@ -8,7 +8,7 @@ use Rattle.model.specs.Replies.{Answer, llWords, scTruth, vlTruth}
 use Rattle.model.specs.Object.{Kind, ll, sc, vl}
 use Rattle.model.specs.History.{Call}
 use Rattle.model.specs.Linearizable.{All}
-use Rattle.laws.proofs.AllLaws.{Any, Pairs}
+use Rattle.laws.specs.Lists.{Any, Pairs}
 
 -- an answer of the call's kind, and W words where it has words
 abbrev pub Formed : ℕ → Kind → Answer → Type 0

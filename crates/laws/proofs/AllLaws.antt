@@ -4,6 +4,7 @@ use mathlib.Core.Bool.{Bool, true, false, _&&_, _||_}
 use mathlib.Core.List.{List, [], _∷_, _++_, map}
 use Rattle.model.specs.Refusals.{every, some}
 use Rattle.model.specs.Linearizable.{All}
+use Rattle.laws.specs.Lists.{Any, here, there, Pairs}
 use Rattle.laws.proofs.AndLaws.{left, right}
 
 pub and-both : {a b : Bool} → a ≡ true → b ≡ true → (a && b) ≡ true
@@ -49,11 +50,6 @@ module _ {A : Type 0} where
   none-all f [] e = tt
   none-all f (x ∷ xs) e = let z = or-none (f x) _ e in (z .0, none-all f xs (z .1))
 
-  -- one of the list has the property
-  pub data Any (P : A → Type 0) : List A → Type 0 where
-    here : {x : A} {xs : List A} → P x → Any P (x ∷ xs)
-    there : {x : A} {xs : List A} → Any P xs → Any P (x ∷ xs)
-
   pub any-of : (P Q : A → Type 0) → ((a : A) → P a → Q a) → {xs : List A} → Any P xs → Any Q xs
   any-of P Q f (here {x} p) = here (f x p)
   any-of P Q f (there a) = there (any-of P Q f a)
@@ -65,11 +61,6 @@ module _ {A : Type 0} where
   pub any-some : (f : A → Bool) {xs : List A} → Any (λ a. f a ≡ true) xs → some f xs ≡ true
   any-some f (here {x} {xs} p) = or-left (some f xs) p
   any-some f (there {x} {xs} a) = or-right (f x) (any-some f a)
-
-  -- holds of each two, the earlier first
-  abbrev pub Pairs : (A → A → Type 0) → List A → Type 0
-  Pairs R [] = Unit {0}
-  Pairs R (x ∷ xs) = All (R x) xs × Pairs R xs
 
   pub pairs-of : (R S : A → A → Type 0) → ((a b : A) → R a b → S a b) → (xs : List A) → Pairs R xs → Pairs S xs
   pairs-of R S f [] p = tt

