@@ -9,6 +9,7 @@ const USAGE: &str = "usage:
   witness cover DIR
   witness compare PROGRAM DIR
   witness compare-trace PROGRAM DIR
+  witness compare-faults PROGRAM DIR
   witness history SEED COUNT
   witness bench-text KIND N W
   witness difference --wrong READING

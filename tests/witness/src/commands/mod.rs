@@ -2,6 +2,7 @@
 
 mod bench_text;
 mod compare;
+mod compare_faults;
 mod cover;
 mod files;
 mod generate;
@@ -28,6 +29,7 @@ pub fn dispatch(words: &[String]) -> Result<u8, String> {
         ["cover", dir] => cover::cover(dir),
         ["compare", program, dir] => compare::compare(program, dir),
         ["compare-trace", program, dir] => compare::compare_trace(program, dir),
+        ["compare-faults", program, dir] => compare_faults::compare_faults(program, dir),
         ["history", seed, count] => history::history(number(seed)?, number(count)?, wrong),
         ["difference"] => wrong::difference(wrong.ok_or(NO_READING)?),
         ["counterexample", seed, tries] => {
