@@ -53,7 +53,7 @@ module _ (n w p : ℕ) (ws : List ℕ) (h : p < n) (b : Below (5 * n * w) ws) wh
   abbrev area : List ℕ
   area = returnArea n w (record { 0 = p }) ws
 
-  area-at : (i : ℕ) (t : Bool) → ltb i w ≡ t → getD area i 0 ≤ largest
+  pub area-at : (i : ℕ) (t : Bool) → ltb i w ≡ t → getD area i 0 ≤ largest
   area-at i true t =
       let k = ltb-true i w t in
       let l = within {b = 3 * n + p} {c = 5 * n} {k = i} {w = w} (omega arith) k in
@@ -88,7 +88,7 @@ module _ (b : Bench) (list : List Process) (len p : ℕ) (o : Order) (v ws : Lis
     pub few : numberOf (x .0 .reply) ≤ 15
 
   module _ (sixteen : length list ≡ 16) where
-    own-count : Cleared b list len p o (length v) (length ws) → getD list p noProcess .count ≤ busyMost (b .w)
+    pub own-count : Cleared b list len p o (length v) (length ws) → getD list p noProcess .count ≤ busyMost (b .w)
     unfolding inRange
     own-count c =
         let e : every (processOk (b .n) (b .w)) (take (b .n) list) ≡ true = right (benchOk b) (every (processOk (b .n) (b .w)) (take (b .n) list)) (c .range) in
