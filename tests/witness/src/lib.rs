@@ -9,4 +9,5 @@ pub mod judge;
 pub mod machine;
 pub mod rng;
 pub mod schedule;
+pub mod season;
 pub mod texts;

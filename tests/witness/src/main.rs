@@ -18,6 +18,9 @@ const USAGE: &str = "usage:
   witness log
   witness bench-log CALLS W
   witness compare-judge PROGRAM SEED COUNT FILE
+  witness fractions N W FILE...
+  witness compare-fractions PROGRAM SEED COUNT DIR
+  witness bench-listing KIND N W
 run, trace and history take --wrong READING too: line9, line10, line14,
 lines67 or modn";
 

@@ -3,8 +3,10 @@
 mod bench_text;
 mod compare;
 mod compare_faults;
+mod compare_fractions;
 mod cover;
 mod files;
+mod fractions;
 mod generate;
 mod history;
 mod judge;
@@ -44,6 +46,13 @@ pub fn dispatch(words: &[String]) -> Result<u8, String> {
         ["bench-log", calls, w] => judge::bench(number(calls)?, number(w)?),
         ["compare-judge", program, seed, count, file] => {
             judge::compare(program, number(seed)?, number(count)?, file)
+        }
+        ["fractions", n, w, files @ ..] => fractions::fractions(number(n)?, number(w)?, files),
+        ["compare-fractions", program, seed, count, dir] => {
+            compare_fractions::compare_fractions(program, number(seed)?, number(count)?, dir)
+        }
+        ["bench-listing", kind, n, w] => {
+            fractions::print_bench_listing(kind, number(n)?, number(w)?)
         }
         _ => Err("no such subcommand".to_string()),
     }

@@ -1,0 +1,4 @@
+pub mod Shape
+pub mod Gains
+pub mod Readers
+pub mod Ranges

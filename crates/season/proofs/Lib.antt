@@ -1,0 +1,4 @@
+pub mod CommandLines
+pub mod RunListing
+pub mod TextSmall
+pub mod Theorems

@@ -1,0 +1,128 @@
+-- The theorems of CR 2.
+use Prim.Native.Nat.{ℕ, zero, suc, _+_, _≤_, _<_, _∣_}
+use mathlib.Core.Path.{_≡_, refl, sym, ap, subst, _∙_}
+use mathlib.Core.List.{List, [], _∷_, List·Permᴰ}
+use mathlib.Core.Bool.{Bool, true, false, _&&_, cond, true≢false}
+use native.Mathlib.Omega.{arith}
+use native.Mathlib.Nat.{dvd-zero}
+use borrow.Author.Tests.{leb-true, lt-ltb, ne-eqb}
+use lib.Dec.{leb, eqb}
+use lib.ListN.{length, getD, replicate}
+use Rattle.answers.specs.declared.Sum.{Sum}
+use Rattle.answers.specs.Shape.{Right}
+use Rattle.answers.specs.Gains.{noSum, gained}
+use Rattle.answers.specs.Readers.{Read, listingIn}
+use Rattle.answers.proofs.Theorems.{reads-shaped}
+use Rattle.sums.specs.declared.Sums.{Sums}
+use Rattle.sums.specs.declared.Fraction.{Fraction}
+use Rattle.sums.specs.declared.Row.{Row}
+use Rattle.sums.specs.declared.Table.{Table}
+use Rattle.sums.specs.Season.{emptySums, mostListings, allSmall, sumsRefusal, isRight, listingRefusal, addRefusal, taking, added, addAll}
+use Rattle.sums.specs.Fractions.{none, lowest, Lowest, rowOf, noRow, rowsOf, table}
+use Rattle.sums.proofs.GcdLaws.{lowest-terms, no-calls}
+use Rattle.sums.proofs.RefusalLaws.{Passes, passes, and-true}
+use Rattle.sums.proofs.RowLaws.{row-below, row-past}
+use Rattle.sums.proofs.Order.{right-of, of-right, Fine, empty-fine, fine-right, all-fine, same-sums}
+
+-- Row 18 is exact: a listing is taken exactly if it is of 01's shape, with N, W and numbers as CR 2 says,
+pub right-exactly : (n w : ℕ) (bs : List ℕ) → n ≤ 16 → (isRight n w bs ≡ true → Right n w bs) × (Right n w bs → isRight n w bs ≡ true)
+right-exactly n w bs few = (right-of n w bs few, of-right n w bs few)
+
+-- and then the sums gain what its answers add.
+pub gains-answers : (s : Sums) (bs : List ℕ) → s .n ≤ 16 → (r : Right (s .n) (s .w) bs) → taking s bs .each ≡ gained (s .each) (r .shaped .answers)
+unfolding taking
+gains-answers s bs few r = ap (λ (x : Read). x .each) (reads-shaped (s .n) (s .w) (s .each) few (r .shaped))
+
+-- A right listing is taken by sums that rows 1, 2, 9 and 19 leave alone.
+pub right-taken : (s : Sums) (bs : List ℕ) → sumsRefusal s ≡ 0 → s .taken < mostListings → Right (s .n) (s .w) bs → added s bs .number ≡ 0
+unfolding added addRefusal
+right-taken s bs e h r = simp (e, lt-ltb (s .taken) mostListings h, of-right (s .n) (s .w) bs (passes s e .few) r)
+
+-- Row 9 never strikes sums that began empty, whatever listings were added: neither their table
+pub never-nine : (n w : ℕ) (xs : List (List ℕ)) → 1 ≤ n → n ≤ 16 → 1 ≤ w → w ≤ 64 → table (addAll (emptySums n w) xs) .number ≡ 0
+unfolding table
+never-nine n w xs a b c d = fine-right (addAll (emptySums n w) xs) (all-fine xs (emptySums n w) (empty-fine n w a b c d))
+
+-- nor the adding of a further one, which rows 19 and 18 alone can stop.
+pub never-nine-adding : (n w : ℕ) (xs : List (List ℕ)) (bs : List ℕ) → 1 ≤ n → n ≤ 16 → 1 ≤ w → w ≤ 64
+    → added (addAll (emptySums n w) xs) bs .number ≡ listingRefusal (addAll (emptySums n w) xs) bs
+unfolding added addRefusal
+never-nine-adding n w xs bs a b c d =
+    let s : Sums = addAll (emptySums n w) xs in simp (fine-right s (all-fine xs (emptySums n w) (empty-fine n w a b c d)))
+
+-- "the sums stay"
+pub sums-stay : (s : Sums) (bs : List ℕ) → (added s bs .number ≡ 0 → ⊥) → added s bs .sums ≡ s
+unfolding added
+sums-stay s bs h = simp (ne-eqb (addRefusal s bs) 0 h)
+
+-- At rows 1, 2 and 9 they stay whatever is added.
+stuck : (s : Sums) → eqb (sumsRefusal s) 0 ≡ false → (xs : List (List ℕ)) → addAll s xs ≡ s
+unfolding addAll added addRefusal
+stuck s e [] = refl
+stuck s e (x ∷ xs) = ap (λ (z : Sums). addAll z xs) (simp (e)) ∙ stuck s e xs
+
+module _ (n w : ℕ) where
+  abbrev rightN : Bool
+  rightN = leb 1 n && leb n 16
+
+  abbrev rightW : Bool
+  rightW = leb 1 w && leb w 64
+
+  out-n : rightN ≡ false → eqb (sumsRefusal (emptySums n w)) 0 ≡ false
+  unfolding sumsRefusal emptySums
+  out-n e = simp (e)
+
+  out-w : rightN ≡ true → rightW ≡ false → eqb (sumsRefusal (emptySums n w)) 0 ≡ false
+  unfolding sumsRefusal emptySums
+  out-w e f = simp (e, f)
+
+  in-range : rightN ≡ true → rightW ≡ true → Fine (emptySums n w)
+  in-range e f =
+      let p = and-true (leb 1 n) (leb n 16) e in
+      let q = and-true (leb 1 w) (leb w 64) f in
+      empty-fine n w (leb-true 1 n (p .0)) (leb-true n 16 (p .1)) (leb-true 1 w (q .0)) (leb-true w 64 (q .1))
+
+  order-pick : {xs ys : List (List ℕ)} → List·Permᴰ xs ys → length xs ≤ mostListings → (t u : Bool) → rightN ≡ t → rightW ≡ u
+      → addAll (emptySums n w) xs ≡ addAll (emptySums n w) ys
+  unfolding emptySums
+  order-pick {xs} {ys} p h false u e f = let s = emptySums n w in stuck s (out-n e) xs ∙ sym (stuck s (out-n e) ys)
+  order-pick {xs} {ys} p h true false e f = let s = emptySums n w in stuck s (out-w e f) xs ∙ sym (stuck s (out-w e f) ys)
+  order-pick p h true true e f = same-sums p (emptySums n w) (in-range e f) (omega arith)
+
+-- "Adding at most 4,096 listings to empty sums in another order must give the same table, shown over all processes and
+-- both fractions together." Any listings, right or not, and any N and W.
+pub any-order : (n w : ℕ) {xs ys : List (List ℕ)} → List·Permᴰ xs ys → length xs ≤ mostListings
+    → table (addAll (emptySums n w) xs) ≡ table (addAll (emptySums n w) ys)
+any-order n w p h = ap table (order-pick n w p h (rightN n w) (rightW n w) refl refl)
+
+-- The table: a process below N has its two fractions, the others have 0 over 0,
+rows-are : (s : Sums) → sumsRefusal s ≡ 0 → table s .rows ≡ rowsOf (s .each) (s .n)
+unfolding table
+rows-are s e = simp (e)
+
+pub own-row : (s : Sums) (p : ℕ) → table s .number ≡ 0 → p < s .n → getD (table s .rows) p noRow ≡ rowOf (getD (s .each) p noSum)
+unfolding table
+own-row s p e h = ap (λ (l : List Row). getD l p noRow) (rows-are s e) ∙ row-below (s .each) (s .n) p h (passes s e .few)
+
+pub other-row : (s : Sums) (p : ℕ) → table s .number ≡ 0 → s .n ≤ p → p < 16 → getD (table s .rows) p noRow ≡ noRow
+unfolding table
+other-row s p e h k = ap (λ (l : List Row). getD l p noRow) (rows-are s e) ∙ row-past (s .each) (s .n) p h k
+
+-- "as fractions in lowest terms": the cross products are equal, and no number but 1 divides both;
+pub in-lowest-terms : (a b : ℕ) → 0 < b → Lowest a b (lowest a b .over) (lowest a b .under)
+in-lowest-terms a b h = lowest-terms a b h
+
+-- "A process with no such call gets 0 over 0",
+pub none-answered : (a : ℕ) → lowest a 0 ≡ none
+none-answered a = no-calls a
+
+-- and no other does.
+pub some-answered : (a b : ℕ) → lowest a b ≡ none → b ≡ 0
+some-answered a zero e = refl
+some-answered a (suc b) e =
+    let l = lowest-terms a (suc b) (omega arith) in
+    let c = l .coprime 2 (both (ap (λ (f : Fraction). f .over) e)) (both (ap (λ (f : Fraction). f .under) e)) in
+    absurd (omega (arith, c))
+  where
+    both : {x : ℕ} → x ≡ 0 → 2 ∣ x
+    both z = subst (λ (y : ℕ). 2 ∣ y) (sym z) (dvd-zero 2)
