@@ -18,7 +18,7 @@ use Rattle.sums.specs.declared.Fraction.{Fraction}
 use Rattle.sums.specs.declared.Row.{Row}
 use Rattle.sums.specs.declared.Table.{Table}
 use Rattle.sums.specs.Season.{emptySums, mostListings, allSmall, sumsRefusal, isRight, listingRefusal, addRefusal, taking, added, addAll}
-use Rattle.sums.specs.Fractions.{none, lowest, Lowest, rowOf, noRow, rowsOf, table}
+use Rattle.sums.specs.Fractions.{none, lowest, Exact, rowOf, noRow, rowsOf, table}
 use Rattle.sums.proofs.GcdLaws.{lowest-terms, no-calls}
 use Rattle.sums.proofs.RefusalLaws.{Passes, passes, and-true}
 use Rattle.sums.proofs.RowLaws.{row-below, row-past}
@@ -108,21 +108,31 @@ pub other-row : (s : Sums) (p : ℕ) → table s .number ≡ 0 → s .n ≤ p �
 unfolding table
 other-row s p e h k = ap (λ (l : List Row). getD l p noRow) (rows-are s e) ∙ row-past (s .each) (s .n) p h k
 
--- "as fractions in lowest terms": the cross products are equal, and no number but 1 divides both;
-pub in-lowest-terms : (a b : ℕ) → 0 < b → Lowest a b (lowest a b .over) (lowest a b .under)
-in-lowest-terms a b h = lowest-terms a b h
+-- "as fractions in lowest terms. A process with no such call gets 0 over 0", and no other does.
+two-zeros : {x : ℕ} → x ≡ 0 → 2 ∣ x
+two-zeros z = subst (λ (y : ℕ). 2 ∣ y) (sym z) (dvd-zero 2)
 
--- "A process with no such call gets 0 over 0",
-pub none-answered : (a : ℕ) → lowest a 0 ≡ none
-none-answered a = no-calls a
-
--- and no other does.
-pub some-answered : (a b : ℕ) → lowest a b ≡ none → b ≡ 0
-some-answered a zero e = refl
-some-answered a (suc b) e =
+only-none : (a b : ℕ) → lowest a b ≡ none → b ≡ 0
+only-none a zero e = refl
+only-none a (suc b) e =
     let l = lowest-terms a (suc b) (omega arith) in
-    let c = l .coprime 2 (both (ap (λ (f : Fraction). f .over) e)) (both (ap (λ (f : Fraction). f .under) e)) in
-    absurd (omega (arith, c))
-  where
-    both : {x : ℕ} → x ≡ 0 → 2 ∣ x
-    both z = subst (λ (y : ℕ). 2 ∣ y) (sym z) (dvd-zero 2)
+    let over = two-zeros (ap (λ (f : Fraction). f .over) e) in
+    let under = two-zeros (ap (λ (f : Fraction). f .under) e) in
+    absurd (omega (arith, l .coprime 2 over under))
+
+exact : (a b : ℕ) → Exact a b (lowest a b)
+exact a b = record {
+  some = lowest-terms a b;
+  noCall = λ z. ap (lowest a) z ∙ no-calls a;
+  only = only-none a b;
+}
+
+-- So for each process below N and both fractions of its row.
+pub exact-rows : (s : Sums) (p : ℕ) → table s .number ≡ 0 → p < s .n
+    → let r = getD (table s .rows) p noRow in let t = getD (s .each) p noSum in
+    Exact (t .successes) (t .scs) (r .successes) × Exact (t .steps) (t .lls) (r .steps)
+unfolding rowOf
+exact-rows s p e h =
+    let t : Sum = getD (s .each) p noSum in
+    subst (λ (r : Row). Exact (t .successes) (t .scs) (r .successes) × Exact (t .steps) (t .lls) (r .steps)) (sym (own-row s p e h))
+    (exact (t .successes) (t .scs), exact (t .steps) (t .lls))

@@ -1,5 +1,5 @@
 -- The table of a season: two fractions in lowest terms for each process (CR 2).
-use Prim.Native.Nat.{ℕ, zero, suc, _*_, _/_, _%_, _∣_}
+use Prim.Native.Nat.{ℕ, zero, suc, _*_, _/_, _%_, _<_, _∣_}
 use mathlib.Core.Path.{_≡_}
 use mathlib.Core.List.{List}
 use mathlib.Core.Bool.{Bool, cond}
@@ -32,6 +32,12 @@ lowest a b = cond (eqb b 0) none (record { over = a / gcd a b; under = b / gcd a
 pub record Lowest (a b x y : ℕ) : Type 0 where
   pub cross : x * b ≡ a * y
   pub coprime : (d : ℕ) → d ∣ x → d ∣ y → d ≡ 1
+
+-- a fraction f of a parts in b calls: lowest terms, and 0 over 0 exactly where there was no such call
+pub record Exact (a b : ℕ) (f : Fraction) : Type 0 where
+  pub some : 0 < b → Lowest a b (f .over) (f .under)
+  pub noCall : b ≡ 0 → f ≡ none
+  pub only : f ≡ none → b ≡ 0
 
 -- "successful SCs over SCs answered, and the total of LL steps over LLs answered"
 unfoldable pub rowOf : Sum → Row
