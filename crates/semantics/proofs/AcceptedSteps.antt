@@ -80,6 +80,10 @@ module _ {m : Memory} (r : Reached m) (p : ℕ) (z : refusal m p order.Step [] �
       let c6 = cleared (isIdle q) 5 0 (c4 .1) in
       record { row-1 = c1 .0; row-2 = c2 .0; row-3 = c3 .0; row-9 = c9 .0; process = leb-false n p (c4 .0); busy = c6 .0 }
 
+  -- its process is one of N, and busy
+  pub stepped-busy : (p < n) × (isIdle q ≡ false)
+  stepped-busy = (passed .process, passed .busy)
+
   ready : Ready n w q (record { 0 = p }) (m .words)
   ready =
       let n-range = n-in n (passed .row-1) in

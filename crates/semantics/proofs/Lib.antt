@@ -6,4 +6,7 @@ pub mod CommandFrame
 pub mod TextFrame
 pub mod TableLengths
 pub mod AcceptedSteps
+pub mod OpenCalls
+pub mod SingleEntries
+pub mod NeverThirteen
 pub mod TraceTruth

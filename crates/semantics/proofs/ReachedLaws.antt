@@ -17,7 +17,7 @@ use Rattle.linearization.proofs.Theorems.{never-for-its-own-doing}
 use Rattle.semantics.specs.Reached.{Reached}
 
 -- one command more
-after-one : (m : Memory) (cs : List Command) (c : Command) → after m (cs ++ c ∷ []) ≡ command (after m cs) (c .process) (c .order) (c .value) .1
+pub after-one : (m : Memory) (cs : List Command) (c : Command) → after m (cs ++ c ∷ []) ≡ command (after m cs) (c .process) (c .order) (c .value) .1
 unfolding after
 after-one m [] c = refl
 after-one m (d ∷ cs) c = after-one (command m (d .process) (d .order) (d .value) .1) cs c
@@ -26,7 +26,7 @@ pub reached-set-up : (m : Memory) → Shaped m → (n w : ℕ) (value : List ℕ
 unfolding after
 reached-set-up m s n w value e = record { lent = m; shaped = s; n = n; w = w; value = value; accepted = e; commands = []; is = refl }
 
-pub reached-command : {m : Memory} → Reached m → (p : ℕ) (o : Order) (value : List ℕ) → Reached (command m p o value .1)
+unfoldable pub reached-command : {m : Memory} → Reached m → (p : ℕ) (o : Order) (value : List ℕ) → Reached (command m p o value .1)
 reached-command r p o value = record {
   lent = r .lent;
   shaped = r .shaped;

@@ -8,14 +8,13 @@ use native.Mathlib.Omega.{arith}
 use lib.Dec.{eqb, ltb, leb}
 use lib.ListN.{length, replicate}
 use lib.Seq.{sets}
-use borrow.Author.Tests.{eq-eqb, ne-eqb}
+use borrow.Author.Tests.{ne-eqb}
 use Rattle.model.specs.declared.Order.the-variants as order
-use Rattle.model.specs.declared.Reply.{Reply}
 use Rattle.model.specs.Records.{recordAt}
 use Rattle.model.specs.Points.{pointOf}
 use Rattle.model.specs.Words.{offerWord, bufferWord, wordOf, half}
 use Rattle.model.specs.Machine.{Memory, Shaped, obey}
-use Rattle.model.specs.Command.{command, refusal, obeyed}
+use Rattle.model.specs.Command.{refusal, obeyed}
 use Rattle.model.specs.SetUp.{setUp}
 use Rattle.model.specs.Replies.{numberOf}
 use Rattle.words.proofs.WordLaws.{within}
@@ -32,6 +31,7 @@ use Rattle.semantics.specs.Reached.{Reached}
 use Rattle.semantics.specs.TextRun.{Progress, stopped, mostEntries, roomNeeded, processOf, orderOf, valueOf, lineOf, accessNow}
 use Rattle.semantics.specs.TextRun.{traceLine, linesOf, counted, commanded, single, unanswered, steps, carry, carryAll, begun}
 use Rattle.semantics.proofs.ReachedLaws.{reached-set-up, reached-command}
+use Rattle.semantics.proofs.SingleEntries.{outcome, made-commanded}
 use Rattle.semantics.proofs.AcceptedSteps.{unrefused, left-by, stepped, at-work}
 
 -- What the trace line of an entry says of its command, which found the memory m and left m′.
@@ -49,10 +49,6 @@ EntryTrue (StartVl p) m m′ = StartTrue m m′
 EntryTrue (StartSc p k) m m′ = StartTrue m m′
 EntryTrue (Step p) m m′ = StepTrue p m m′
 EntryTrue (Finish p) m m′ = StepTrue p m m′
-
--- the command of an entry, on a run in progress: its reply and the memory after it
-abbrev pub outcome : Entry → Progress → Reply × Memory
-outcome e s = command (s .memory) (processOf e) (orderOf e) (valueOf (s .memory .bench .w) e)
 
 -- An accepted entry ("one line for each command"). What it writes is its trace line, made of the memory that its
 -- command found, and the line of its answer, if any; and the trace line is true of that memory and the one that the
@@ -128,7 +124,7 @@ module _ {s : Progress} (h : Traced s) where
 
   module _ (e : Entry) (z : numberOf (outcome e s .0) ≡ 0) where
     goes-on : commanded e s ≡ counted s (outcome e s .1) (linesOf s e (outcome e s))
-    goes-on = simp (eq-eqb (numberOf (outcome e s .0)) 0 z)
+    goes-on = made-commanded e s z
 
     -- `trace-is-true` for a command of a text run
     pub line-is-true : TrueLine e s
