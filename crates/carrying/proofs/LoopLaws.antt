@@ -1,10 +1,9 @@
 -- A turn of the run's loop, over what the code has in its hands: the entry, its process, the record and the places taken out.
 use mathlib.Core.Path.{_≡_, refl, sym, ap, subst, _∙_}
 use mathlib.Core.Bool.{Bool, true, false, cond}
-use mathlib.Core.List.{List, map}
+use mathlib.Core.List.{List}
 use Prim.Native.Nat.{ℕ, _+_, _-_, _≤_, _<_}
 use native.Mathlib.Omega.{arith}
-use native.Mathlib.Nat.{mod-lt}
 use lib.Dec.{eqb, ltb}
 use lib.ListN.{length, getD, set, take, length-map, length-take, List·getD-map}
 use lib.Seq.{getD-take, getD-set-other}
@@ -14,7 +13,6 @@ use Rattle.model.specs.declared.ProcessNumber.{ProcessNumber}
 use Rattle.model.specs.declared.Bench.{Bench}
 use Rattle.model.specs.declared.Process.{Process}
 use Rattle.model.specs.declared.Order.{Order}
-use Rattle.model.specs.Sizes.{llMost}
 use Rattle.model.specs.Records.{noProcess, recordAt}
 use Rattle.model.specs.Points.{pointOf}
 use Rattle.lines.specs.Ranges.{Sized}
@@ -33,8 +31,8 @@ use Rattle.semantics.specs.TextRun.{roomNeeded, processOf, orderOf, single}
 use Rattle.entry.specs.RunState.{RunState, stateOf, stoppedRun, Sound, Becomes, Small}
 use Rattle.entry.specs.Turned.{refusalOf, placeOf, Turnable, Turns, staysAt}
 use Rattle.carrying.specs.Carried.{entriesIn, Carrying, OthersKept, Carries}
-use Rattle.entry.proofs.EntryLaws.{entry-refused, entry-ready, process-small, place-same, seen-own, one-more-small, entry-turnable, entry-made, own-line}
-use Rattle.carrying.proofs.CarryingLaws.{carrying-none, carrying-all, ends-refused, goes-over, goes-further, ends-unanswered}
+use Rattle.entry.proofs.EntryLaws.{entry-refused, entry-ready, process-small, place-same, one-more-small, entry-turnable, entry-made, own-line}
+use Rattle.carrying.proofs.CarryingLaws.{carrying-none, carrying-all, ends-refused, goes-over, goes-further}
 
 -- the numbers of a kept entry are small
 either-small : (t : Bool) (a b : Entry) → Small a → Small b → Small (cond t a b)
@@ -69,9 +67,9 @@ abbrev pub goingRun : Bench → Records → ℕ → ℕ → Bool → Run
 goingRun b all written done traced = record { bench = b; all = all; written = written; entries = done; stop = 0; traced = traced }
 
 -- at the head of the loop, after what h was before it
-pub record Head (count : ℕ) (entries : List ℕ) (len n w needed : ℕ) (h : RunState) (at left : ℕ) (h₁ : RunState) : Type 0 where
+pub record Head (count : ℕ) (entries : List ℕ) (len n w needed : ℕ) (h : RunState) (at : ℕ) (h₁ : RunState) : Type 0 where
   pub fits : count ≤ length entries
-  pub carrying : Carrying len (entriesIn count entries) h at left h₁
+  pub carrying : Carrying len (entriesIn count entries) h at h₁
   pub n-is : n ≡ h₁ .run .bench .n
   pub w-is : w ≡ h₁ .run .bench .w
   pub w-most : w ≤ 64
@@ -86,7 +84,7 @@ from-run {len} {r} {ws} {list} {es} {h} {at} z x = subst (λ (k : ℕ). Carries 
 
 pub first-head : {len count n w needed : ℕ} {entries : List ℕ} {r : Run} {ws list : List ℕ} → let h = stateOf (goingRun (r .bench) (r .all) (r .written) (r .entries) (r .traced)) ws list in
     count ≤ length entries → Sound len (stateOf r ws list) → r .stop ≡ 0 → n ≡ r .bench .n → w ≡ r .bench .w
-    → needed ≡ roomNeeded (r .traced) → Head count entries len n w needed h 0 (llMost (r .bench .w)) h
+    → needed ≡ roomNeeded (r .traced) → Head count entries len n w needed h 0 h
 first-head {len} {count} {entries = entries} {r = r} {ws = ws} {list = list} l s z en ew er = record {
   fits = l;
   carrying = carrying-none (entriesIn count entries) (subst (λ (k : ℕ). Sound len (stateOf (stoppedRun r k) ws list)) z s) refl;
@@ -99,12 +97,12 @@ first-head {len} {count} {entries = entries} {r = r} {ws = ws} {list = list} l s
 }
 
 -- behind the last entry
-pub head-all : {len count n w needed at left : ℕ} {entries : List ℕ} {h h₁ : RunState} → Head count entries len n w needed h at left h₁ → count ≤ at → Carries len (entriesIn count entries) h h₁ at
+pub head-all : {len count n w needed at : ℕ} {entries : List ℕ} {h h₁ : RunState} → Head count entries len n w needed h at h₁ → count ≤ at → Carries len (entriesIn count entries) h h₁ at
 head-all {count = count} {entries = entries} x l = carrying-all (x .carrying) (x .others) (omega (arith, l, count-entries count entries (x .fits)))
 
 -- with an entry to carry out: what the code has in its hands
-pub record Looking (count : ℕ) (entries : List ℕ) (len n w needed : ℕ) (h : RunState) (at left : ℕ) (h₁ : RunState) (e : Entry) (p k : ℕ) (q : Process) (o : Order) : Type 0 where
-  pub head : Head count entries len n w needed h at left h₁
+pub record Looking (count : ℕ) (entries : List ℕ) (len n w needed : ℕ) (h : RunState) (at : ℕ) (h₁ : RunState) (e : Entry) (p k : ℕ) (q : Process) (o : Order) : Type 0 where
+  pub head : Head count entries len n w needed h at h₁
   pub more : at < count
   pub entry-is : e ≡ entryIn (getD entries at 0)
   pub process-is : p ≡ processOf e
@@ -112,18 +110,18 @@ pub record Looking (count : ℕ) (entries : List ℕ) (len n w needed : ℕ) (h 
   pub record-is : q ≡ getD (h₁ .run .all .list) k noProcess
   pub order-is : o ≡ orderOf e
 
-pub looking : {count : ℕ} {entries : List ℕ} {len n w needed at left p k : ℕ} {h h₁ : RunState} {e : Entry} {o : Order} → Head count entries len n w needed h at left h₁ → at < count
-    → e ≡ entryIn (getD entries at 0) → p ≡ processOf e → k ≡ placeOf p → o ≡ orderOf e → Looking count entries len n w needed h at left h₁ e p k (getD (h₁ .run .all .list) k noProcess) o
+pub looking : {count : ℕ} {entries : List ℕ} {len n w needed at p k : ℕ} {h h₁ : RunState} {e : Entry} {o : Order} → Head count entries len n w needed h at h₁ → at < count
+    → e ≡ entryIn (getD entries at 0) → p ≡ processOf e → k ≡ placeOf p → o ≡ orderOf e → Looking count entries len n w needed h at h₁ e p k (getD (h₁ .run .all .list) k noProcess) o
 looking x m a b c d = record { head = x; more = m; entry-is = a; process-is = b; place-is = c; record-is = refl; order-is = d }
 
-module _ {count : ℕ} {entries : List ℕ} {len n w needed at left p k : ℕ} {h h₁ : RunState} {e : Entry} {q : Process} {o : Order} (x : Looking count entries len n w needed h at left h₁ e p k q o) where
+module _ {count : ℕ} {entries : List ℕ} {len n w needed at p k : ℕ} {h h₁ : RunState} {e : Entry} {q : Process} {o : Order} (x : Looking count entries len n w needed h at h₁ e p k q o) where
   abbrev b : Bench
   b = h₁ .run .bench
 
   abbrev list : List Process
   list = h₁ .run .all .list
 
-  abbrev c : Carrying len (entriesIn count entries) h at left h₁
+  abbrev c : Carrying len (entriesIn count entries) h at h₁
   c = x .head .carrying
 
   abbrev s : Sound len h₁
@@ -234,8 +232,8 @@ module _ {count : ℕ} {entries : List ℕ} {len n w needed at left p k : ℕ} {
               let apart : processOf e < h .run .bench .n = omega (arith, x .head .first-n, x .head .n-is, ready .lent .process) in
               getD-set-other list (processOf e) j (r .process) noProcess (λ z. omega (arith, z)) ∙ x .head .others j m
 
-          headed : {at′ left′ : ℕ} → Carrying len es h at′ left′ (afterAt (processOf e)) → Head count entries len n w needed h at′ left′ (afterAt k)
-          headed {at′} {left′} y = stored (λ d. Head count entries len n w needed h at′ left′ d)
+          headed : {at′ : ℕ} → Carrying len es h at′ (afterAt (processOf e)) → Head count entries len n w needed h at′ (afterAt k)
+          headed {at′} y = stored (λ d. Head count entries len n w needed h at′ d)
               (record {
                 fits = x .head .fits;
                 carrying = y;
@@ -247,14 +245,8 @@ module _ {count : ℕ} {entries : List ℕ} {len n w needed at left p k : ℕ} {
                 others = others-kept;
               })
 
-          pub loop-over : staysAt e (r .process .line) ≡ false → Head count entries len n w needed h (at + 1) (llMost w) (afterAt k)
-          loop-over y =
-              let same : w ≡ h .run .bench .w = x .head .w-is ∙ c .width in
-              subst (λ (m : ℕ). Head count entries len n w needed h (at + 1) (llMost m) (afterAt k)) (sym same) (headed (goes-over c inside (entryIn 0) made refl refl line (same-stay ∙ y)))
+          pub loop-over : staysAt e (r .process .line) ≡ false → Head count entries len n w needed h (at + 1) (afterAt k)
+          loop-over y = headed (goes-over c inside (entryIn 0) made refl line (same-stay ∙ y))
 
-          pub loop-further : staysAt e (r .process .line) ≡ true → (left - 1 ≡ 0 → ⊥) → Head count entries len n w needed h at (left - 1) (afterAt k)
-          loop-further y m = headed (goes-further c inside (entryIn 0) made refl refl line (same-stay ∙ y) m)
-
-          pub loop-unanswered : staysAt e (r .process .line) ≡ true → left - 1 ≡ 0 → Carries len es h (stateOf (stoppedRun (afterAt k .run) 13) ws lst) at
-          loop-unanswered y m =
-              stored (λ d. Carries len es h (stateOf (stoppedRun (d .run) 13) ws lst) at) (ends-unanswered c inside (entryIn 0) made refl refl line others-kept (same-stay ∙ y) m)
+          pub loop-further : staysAt e (r .process .line) ≡ true → Head count entries len n w needed h at (afterAt k)
+          loop-further y = headed (goes-further c inside (entryIn 0) made refl line (same-stay ∙ y))

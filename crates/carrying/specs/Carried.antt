@@ -1,17 +1,14 @@
 -- The list of entries in the middle of its loop: what is left to do, and what the loop answers.
 -- Inner: `CarryingLaws` and `LoopLaws` prove that the loop is `carryAll` of `semantics/specs/TextRun` and stops at
 -- `stopIndex` of `StopPlaces`.
-use Prim.Native.Nat.{ℕ, suc, _+_, _≤_, _<_}
+use Prim.Native.Nat.{ℕ, _+_, _≤_}
 use mathlib.Core.Path.{_≡_}
-use mathlib.Core.List.{List, [], _∷_, map}
-use mathlib.Core.Bool.{cond}
-use lib.Dec.{eqb}
+use mathlib.Core.List.{List, map}
 use lib.ListN.{getD, take, drop}
 use Rattle.model.specs.Records.{noProcess}
 use Rattle.notation.specs.declared.Entry.{Entry}
-use Rattle.notation.specs.declared.Entry.the-variants.{StartLl, StartVl, StartSc, Step, Finish}
 use Rattle.notation.specs.EntryWords.{entryIn, placeIn}
-use Rattle.semantics.specs.TextRun.{Progress, single, steps, carryAll}
+use Rattle.semantics.specs.TextRun.{carryAll}
 use Rattle.semantics.specs.StopPlaces.{stopIndex}
 use Rattle.entry.specs.RunState.{RunState, progress, Kept, Becomes}
 
@@ -23,26 +20,6 @@ entriesIn count list = map entryIn (take count list)
 abbrev pub placesIn : ℕ → List ℕ → List ℕ
 placesIn count list = map placeIn (take count list)
 
--- an entry of which `left` steps may follow, and the entries behind it
-abbrev pub resumed : ℕ → Entry → Progress → Progress
-resumed left (StartLl p) s = single (StartLl p) s
-resumed left (StartVl p) s = single (StartVl p) s
-resumed left (StartSc p k) s = single (StartSc p k) s
-resumed left (Step p) s = single (Step p) s
-resumed left (Finish p) s = steps 13 left p s
-
-unfoldable pub onward : ℕ → List Entry → Progress → Progress
-onward left [] s = s
-onward left (e ∷ es) s = carryAll es (resumed left e s)
-
--- how many of them are carried out whole, once the first has left the run so
-abbrev pub indexAfter : List Entry → Progress → ℕ
-indexAfter es s = cond (eqb (s .stop) 0) (suc (stopIndex es s)) 0
-
-unfoldable pub onwardIndex : ℕ → List Entry → Progress → ℕ
-onwardIndex left [] s = 0
-onwardIndex left (e ∷ es) s = indexAfter es (resumed left e s)
-
 -- the records from N on are what they were
 abbrev pub OthersKept : RunState → RunState → Type 0
 OthersKept h h′ = (j : ℕ) → h .run .bench .n ≤ j → getD (h′ .run .all .list) j noProcess ≡ getD (h .run .all .list) j noProcess
@@ -53,11 +30,9 @@ pub record Carries (len : ℕ) (es : List Entry) (h h′ : RunState) (at : ℕ) 
   pub index : at ≡ stopIndex es (progress len h)
   pub others : OthersKept h h′
 
--- A run in the middle of its list: what is left to do comes to what the whole list does.
-pub record Carrying (len : ℕ) (es : List Entry) (h : RunState) (at left : ℕ) (h′ : RunState) : Type 0 where
-  pub same : onward left (drop at es) (progress len h′) ≡ carryAll es (progress len h)
-  pub index : at + onwardIndex left (drop at es) (progress len h′) ≡ stopIndex es (progress len h)
+-- A run in the middle of its list, also in the middle of a `!`: what is left to do comes to what the whole list does.
+pub record Carrying (len : ℕ) (es : List Entry) (h : RunState) (at : ℕ) (h′ : RunState) : Type 0 where
+  pub same : carryAll (drop at es) (progress len h′) ≡ carryAll es (progress len h)
+  pub index : at + stopIndex (drop at es) (progress len h′) ≡ stopIndex es (progress len h)
   pub kept : Kept len h h′
   pub goes : h′ .run .stop ≡ 0
-  pub some : 0 < left
-  pub width : h′ .run .bench .w ≡ h .run .bench .w

@@ -5,13 +5,11 @@ ghost use lib.ListN.{length};
 ghost use Rattle.entry.specs.RunState.{stateOf, Sound};
 ghost use Rattle.carrying.specs.Carried.{entriesIn, Carries};
 use entry::entries;
-use entry::limits;
 use entry::refusals;
 use entry::state;
 use entry::state::Run;
 use entry::turn;
 use model::ProcessNumber;
-use model::sizes;
 use notation::entry_words;
 
 // The run after its list, and its place in it: that of the entry that stopped the run, or the end.
@@ -37,14 +35,12 @@ pub fn carry_out(
     let w = run.bench.w;
     let traced = run.traced;
     let needed = state::room_needed(traced);
-    let most = sizes::ll_most(w);
     let mut bench = run.bench;
     let mut all = run.all;
     let mut written = run.written;
     let mut done = run.entries;
     let mut stop = 0;
     let mut at = 0;
-    let mut left = most;
     while at < count {
         let e = entry_words::entry_in(entries[at]);
         let p = entries::process_of(e);
@@ -70,16 +66,10 @@ pub fn carry_out(
         bench.help[j] = help;
         all.list[k] = next;
         written = turn.written;
-        if !entries::stays(e, next.line) {
-            at += 1;
-            left = most;
+        if entries::stays(e, next.line) {
             continue;
         }
-        left -= 1;
-        if left == 0 {
-            stop = limits::UNANSWERED;
-            break;
-        }
+        at += 1;
     }
     let run = Run {
         bench,

@@ -26,7 +26,8 @@ use Rattle.semantics.specs.TextRun.{mostEntries, processOf, orderOf, valueOf}
 use Rattle.entry.specs.RunState.{answerLine, shownLine}
 
 -- what refuses an entry of a run that goes on, where no row that speaks of the lent memory holds: "before each entry
--- 12, then 14", then rows 4, 5, 6, 7. (Row 8 can't hold: a text's SC brings W words.) 0 for nothing.
+-- 12, then 14", then rows 4, 5, 6, 7; 0 for nothing. They are said out, and not by the late rows of a command
+-- (`lateNumber`, crate `rows`), among which is 8: a text's SC brings W words, so the code does not look at it.
 abbrev pub refusalOf : Order → ℕ → ℕ → ℕ → ℕ → ℕ → Process → ℕ
 refusalOf o entries room needed n p q =
     cond (leb mostEntries entries) 12 (cond (ltb room needed) 14 (first (row4 n p ∷ row5 o q ∷ row6 o q ∷ row7 o q ∷ [])))

@@ -13,6 +13,4 @@ pub const DEEPEST: usize = 8;
 
 pub const TOO_MUCH: u8 = 12;
 
-pub const UNANSWERED: u8 = 13;
-
 pub const NO_ROOM: u8 = 14;

@@ -28,7 +28,6 @@ pub fn refused(number: u8, entries: usize, n: usize, all: Records, before: &[u8]
 fn limit(number: u8) {
     match number {
         12 => say::say(b"60,000 entries are done, which is the most; "),
-        13 => say::say(b"the call is not answered; "),
         14 => say::say(b"there is no room for another line; "),
         _ => {}
     }

@@ -1,24 +1,23 @@
 -- A command and a set-up look at and change only the first sixteen records: what stands behind them stays.
-use mathlib.Core.Path.{_≡_, refl, sym, ap, ap₂, subst, _∙_}
+use mathlib.Core.Path.{_≡_, refl, sym, ap, ap₂, _∙_}
 use mathlib.Core.Bool.{Bool, true, false, not, _&&_, _||_, cond}
 use mathlib.Core.List.{List, [], _∷_, _++_, map}
 use Prim.Native.Nat.{ℕ, zero, suc, _+_, _*_, _≤_, _<_}
-use native.Mathlib.Decide.{decLt, decLe}
+use native.Mathlib.Decide.{decLe}
 use native.Mathlib.Omega.{arith}
 use lib.Dec.{eqb, ltb, leb}
-use borrow.Author.Tests.{le-leb, lt-leb, leb-true, leb-false, lt-ltb, le-ltb, eqb-true, eqb-false}
-use lib.ListN.{length, getD, set, take, drop, length-append, length-set, length-map, List·getD-append}
+use borrow.Author.Tests.{le-leb, lt-leb, leb-true, leb-false, le-ltb, eqb-true, eqb-false}
+use lib.ListN.{length, set, length-append, length-set, length-map, List·getD-append}
 use lib.Seq.{take-append-le, set-append-left, sets, length-sets}
 use Rattle.model.specs.Replies.{numberOf}
-use Rattle.model.specs.declared.Bench.{Bench}
 use Rattle.model.specs.declared.Process.{Process}
 use Rattle.model.specs.declared.Order.{Order}
 use Rattle.model.specs.declared.Reply.{Reply}
 use Rattle.model.specs.declared.Reply.the-variants.{Refused}
 use Rattle.model.specs.Records.{recordAt, noProcess}
 use Rattle.model.specs.Machine.{Memory, obey}
-use Rattle.model.specs.Refusals.{Row, first, inRange, between, isIdle, row1, row2, row3, row4, row5, row6, row7, row8, row9, row8always, commandRows, setUpRows}
-use Rattle.model.specs.SetUp.{numbers, processAtSetUp, recordsAtSetUp, atSetUp, setUpRefusal, setUp}
+use Rattle.model.specs.Refusals.{Row, first, inRange, between, row1, row2, row3, row4, row5, row6, row7, row8, row9, row8always, commandRows, setUpRows}
+use Rattle.model.specs.SetUp.{numbers, processAtSetUp, atSetUp, setUpRefusal, setUp}
 use Rattle.model.specs.Command.{refusal, command, obeyed}
 
 -- memory with the records rs

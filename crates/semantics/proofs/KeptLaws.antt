@@ -9,7 +9,6 @@ use lib.ListN.{length, take}
 use borrow.Author.Tests.{eqb-true, eqb-false, leb-false, le-leb, ne-eqb}
 use Rattle.model.specs.declared.Order.{Order}
 use Rattle.model.specs.declared.Reply.{Reply}
-use Rattle.model.specs.Sizes.{llMost}
 use Rattle.model.specs.Machine.{Memory}
 use Rattle.model.specs.Refusals.{inRange, row1, row2, row3, row9}
 use Rattle.model.specs.Command.{refusal, command}
@@ -18,7 +17,7 @@ use Rattle.notation.specs.declared.Entry.{Entry}
 use Rattle.notation.specs.declared.Entry.the-variants.{StartLl, StartVl, StartSc, Step, Finish}
 use Rattle.notation.specs.EntryWords.{keptProcess, keptEntry}
 use Rattle.rows.proofs.RowLaws.{n-in}
-use Rattle.semantics.specs.TextRun.{Progress, stopped, mostEntries, roomNeeded, processOf, orderOf, valueOf, replied, commanded, single, unanswered, steps, carry, carryAll}
+use Rattle.semantics.specs.TextRun.{Progress, stopped, mostEntries, roomNeeded, processOf, orderOf, valueOf, replied, commanded, single, unanswered, steps, finish, carry, carryAll}
 use Rattle.semantics.specs.StopPlaces.{stopIndex}
 
 -- what holds of both arms of a test, each where it is taken
@@ -68,10 +67,10 @@ far-stops e s h =
     let k : early (s .memory) ≡ commanded e s .stop = ap (λ (x : Progress). x .stop) (sym (far-commanded e s h)) in
     ne-eqb (single e s .stop) 0 (single-goes e s (λ x. ⊥) (λ b l z. early-some (s .memory) (k ∙ z)))
 
-far-steps : (k left p : ℕ) (s : Progress) → 16 ≤ p → steps k left 16 s ≡ steps k left p s
+far-steps : (left p : ℕ) (s : Progress) → 16 ≤ p → steps left 16 s ≡ steps left p s
 unfolding steps
-far-steps k zero p s h = refl
-far-steps k (suc left) p s h =
+far-steps zero p s h = refl
+far-steps (suc left) p s h =
     simp (far-stops (Step 16) s (omega arith), far-stops (Step p) s h) (far-single (Step 16) (Step p) s (omega arith) h)
 
 kept-process : (f : ℕ → Progress) (p : ℕ) → (16 ≤ p → f 16 ≡ f p) → f (keptProcess p) ≡ f p
@@ -84,7 +83,7 @@ kept-carry (StartVl p) s = kept-process (λ x. single (StartVl x) s) p (far-sing
 kept-carry (StartSc p k) s = kept-process (λ x. single (StartSc x k) s) p (far-single (StartSc 16 k) (StartSc p k) s (omega arith))
 kept-carry (Step p) s = kept-process (λ x. single (Step x) s) p (far-single (Step 16) (Step p) s (omega arith))
 kept-carry (Finish p) s =
-    kept-process (λ x. carry (Finish x) s) p (λ h. ap (λ (x : Progress). cond (eqb (s .stop) 0) x s) (far-steps 13 (llMost (s .memory .bench .w)) p s h))
+    kept-process (λ x. carry (Finish x) s) p (λ h. ap (λ (x : Progress). cond (eqb (s .stop) 0) x s) (far-steps (suc (mostEntries - s .entries)) p s h))
 
 -- a run that goes on after an entry has done one more or several, and at most 60,000
 record More (s after : Progress) : Type 0 where
@@ -102,14 +101,29 @@ replied-more s e out b l =
 single-more : (e : Entry) (s : Progress) → Goes s (single e s)
 single-more e s = single-goes e s (More s) (replied-more s e (command (s .memory) (processOf e) (orderOf e) (valueOf (s .memory .bench .w) e)))
 
-steps-more : (k left p : ℕ) (s : Progress) → (k ≡ 0 → ⊥) → Goes s (steps k left p s)
+-- steps that go on have done none or several
+record Least (s after : Progress) : Type 0 where
+  before : s .stop ≡ 0
+  least : s .entries ≤ after .entries
+  few : s .entries ≤ mostEntries → after .entries ≤ mostEntries
+
+steps-least : (left p : ℕ) (s : Progress) → steps left p s .stop ≡ 0 → Least s (steps left p s)
 unfolding steps
-steps-more k zero p s n = λ z. absurd (n z)
-steps-more k (suc left) p s n =
+steps-least zero p s = λ z. record { before = z; least = omega arith; few = λ l. l }
+steps-least (suc left) p s =
+    let one = single-more (Step p) s in
+    either (λ (t : Progress). t .stop ≡ 0 → Least s t) (unanswered p (single (Step p) s)) (λ q z.
+    let b = steps-least left p (single (Step p) s) z in
+    let a = one (b .before) in record { before = a .before; least = omega (arith, a .more, b .least); few = λ l. b .few (a .few) })
+    (λ q z. let a = one z in record { before = a .before; least = omega (arith, a .more); few = λ l. a .few })
+
+finish-more : (p : ℕ) (s : Progress) → Goes s (finish p s)
+unfolding steps
+finish-more p s =
     let one = single-more (Step p) s in
     either (Goes s) (unanswered p (single (Step p) s)) (λ q z.
-    let b = steps-more k left p (single (Step p) s) n z in
-    let a = one (b .before) in record { before = a .before; more = omega (arith, a .more, b .more); few = b .few })
+    let b = steps-least (mostEntries - s .entries) p (single (Step p) s) z in
+    let a = one (b .before) in record { before = a .before; more = omega (arith, a .more, b .least); few = b .few (a .few) })
     (λ q. one)
 
 carry-more : (e : Entry) (s : Progress) → Goes s (carry e s)
@@ -118,7 +132,7 @@ carry-more (StartLl p) s = single-more (StartLl p) s
 carry-more (StartVl p) s = single-more (StartVl p) s
 carry-more (StartSc p k) s = single-more (StartSc p k) s
 carry-more (Step p) s = single-more (Step p) s
-carry-more (Finish p) s = either (Goes s) (eqb (s .stop) 0) (λ q. steps-more 13 (llMost (s .memory .bench .w)) p s (λ y. omega (arith, y))) (λ q z. absurd (eqb-false (s .stop) 0 q z))
+carry-more (Finish p) s = either (Goes s) (eqb (s .stop) 0) (λ q. finish-more p s) (λ q z. absurd (eqb-false (s .stop) 0 q z))
 
 -- "After a refused entry nothing more runs."
 carry-stays : (e : Entry) (s : Progress) → (s .stop ≡ 0 → ⊥) → carry e s ≡ s

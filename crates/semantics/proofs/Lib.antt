@@ -8,5 +8,5 @@ pub mod TableLengths
 pub mod AcceptedSteps
 pub mod OpenCalls
 pub mod SingleEntries
-pub mod NeverThirteen
+pub mod FinishLaws
 pub mod TraceTruth

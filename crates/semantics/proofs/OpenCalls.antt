@@ -11,8 +11,6 @@ use lib.ListN.{length}
 use borrow.Author.Tests.{eq-eqb}
 use Rattle.model.specs.declared.Process.{Process}
 use Rattle.model.specs.declared.Order.the-variants as order
-use Rattle.model.specs.declared.Reply.{Reply}
-use Rattle.model.specs.declared.Reply.the-variants.{Refused, Accepted, LlAnswered, ScAnswered, VlAnswered}
 use Rattle.model.specs.Sizes.{halves}
 use Rattle.model.specs.Points.{Point, lineNumber, idle, line1, line2, line3, line4, line5, line6, line7, line7copy, line8, line9, line10}
 use Rattle.model.specs.Points.{line11, line12, line12valid, line13, line14, line14valid, line15, line17, line18, line19, line23}
@@ -21,7 +19,7 @@ use Rattle.model.specs.Machine.{Memory}
 use Rattle.model.specs.Refusals.{isIdle}
 use Rattle.model.specs.Command.{command, refusal}
 use Rattle.model.specs.SetUp.{setUp}
-use Rattle.model.specs.Replies.{Said, Answer, refused, accepted, answered, says, numberOf}
+use Rattle.model.specs.Replies.{Said, Answer, accepted, answered}
 use Rattle.model.specs.Object.{Kind, ll, sc, vl}
 use Rattle.model.specs.History.{Command, eventOf, events, Slot, none, running, slotAfter, slotsAfter, slotsFrom, slots}
 use Rattle.model.specs.Linearizable.{OpenCounted}
@@ -110,18 +108,6 @@ says-step W line18 f = goes
 says-step W line19 f = answers _ _
 says-step W line23 f = answers _ _
 
-abbrev numberSaid : Said → ℕ
-numberSaid (refused k) = k
-numberSaid accepted = 0
-numberSaid (answered a n) = 0
-
-says-number : (m : Memory) (p : ℕ) (x : Reply) → numberSaid (says m (record { 0 = p }) x) ≡ numberOf x
-says-number m p (Refused k) = refl
-says-number m p Accepted = refl
-says-number m p (LlAnswered k) = refl
-says-number m p (ScAnswered t k) = refl
-says-number m p (VlAnswered t k) = refl
-
 -- the open calls with one command more
 slots-more : (k : ℕ) (m : Memory) (cs : List Command) (c : Command) (f : ℕ → Slot)
     → slotsFrom k (events m (cs ++ c ∷ [])) f ≡ slotsAfter (k + length cs) (eventOf (after m cs) c) (slotsFrom k (events m cs) f)
@@ -141,7 +127,7 @@ module _ {m : Memory} (r : Reached m) where
   abbrev first : Memory
   first = setUp (r .lent) (r .n) (r .w) (r .value) .1
 
-  pub wide : 0 < halves (r .w)
+  wide : 0 < halves (r .w)
   wide = set-up-halves (r .lent) (r .n) (r .w) (r .value) (r .accepted)
 
   abbrev ghost : State
@@ -160,9 +146,6 @@ module _ {m : Memory} (r : Reached m) where
 
   pub reached-n : m .bench .n ≡ r .n
   reached-n = ap (λ (x : Memory). x .bench .n) (r .is) ∙ holds .related .n
-
-  pub reached-w : m .bench .w ≡ r .w
-  reached-w = ap (λ (x : Memory). x .bench .w) (r .is) ∙ holds .related .w
 
   -- "open calls have fewer than their kind's largest"
   pub open-fewer : (p : ℕ) → OpenCounted (r .w) (openIn r p)
@@ -198,17 +181,6 @@ module _ {m : Memory} (r : Reached m) where
         by (refusedWith k x) = absurd (x .not-0 (sym (x .number) ∙ free))
         by (started x) = let zero-one : _≡_ {A = ℕ} 0 1 = ap (λ (t : Bool). cond t 1 0) (x .start) in absurd (let w : ⊥ = omega arith in w)
         by (stepped x) = subst SaysStep (sym (x .said)) (says-step (halves (r .w)) (ghost .loc p .point) (ghost .loc p))
-
-    -- it is not refused
-    pub step-number : numberOf (command m p order.Step [] .0) ≡ 0
-    step-number = sym (says-number (command m p order.Step [] .1) p (command m p order.Step [] .0)) ∙ by same said-step
-      where
-        same : eventOf m c .said ≡ eventOf (after first (r .commands)) c .said
-        same = ap (λ (x : Memory). eventOf x c .said) (r .is)
-
-        by : {t u : Said} → u ≡ t → SaysStep t → numberSaid u ≡ 0
-        by e goes = ap numberSaid e
-        by e (answers a n) = ap numberSaid e
 
     -- its slot after what the step said
     abbrev after-said : Said → Slot

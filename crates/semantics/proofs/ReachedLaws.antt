@@ -6,8 +6,7 @@ use Prim.Native.Nat.{ℕ}
 use lib.ListN.{length}
 use Rattle.model.specs.declared.Order.{Order}
 use Rattle.model.specs.Machine.{Memory, Shaped}
-use Rattle.model.specs.Records.{recordAt}
-use Rattle.model.specs.Refusals.{first, inRange, row1, row2, row3, row4, row5, row6, row7, row8, row9}
+use Rattle.model.specs.Refusals.{inRange, row1, row2, row3, row9}
 use Rattle.model.specs.Command.{refusal, command}
 use Rattle.model.specs.SetUp.{setUp}
 use Rattle.model.specs.History.{Command}

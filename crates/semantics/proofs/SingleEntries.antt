@@ -1,9 +1,9 @@
 -- An entry that is one command, of a run that goes on: accepted, it has left what its command left, with one entry more.
 use mathlib.Core.Path.{_≡_, refl, sym, ap, _∙_}
 use mathlib.Core.Bool.{Bool, true, false, cond}
-use Prim.Native.Nat.{ℕ, zero, suc, _-_, _<_}
+use Prim.Native.Nat.{ℕ, zero, suc, _+_, _-_, _<_, _≤_}
 use native.Mathlib.Omega.{arith}
-use lib.Dec.{ltb, leb}
+use lib.Dec.{eqb, ltb, leb}
 use lib.ListN.{length}
 use borrow.Author.Tests.{eq-eqb, ne-eqb, leb-false}
 use Rattle.model.specs.declared.Reply.{Reply}
@@ -36,6 +36,29 @@ command-accepted e s g = by (numberOf (outcome e s .0)) refl
         let halted : commanded e s ≡ stopped (numberOf (outcome e s .0)) s = simp (ne-eqb (numberOf (outcome e s .0)) 0 (λ y. omega (arith, y, z))) in
         let stop : numberOf (outcome e s .0) ≡ 0 = sym (ap (λ (t : Progress). t .stop) halted) ∙ g in
         omega (arith, stop, z)
+
+-- a run that goes on after it went on before it
+pub single-stays : (e : Entry) (s : Progress) → single e s .stop ≡ 0 → s .stop ≡ 0
+unfolding single
+single-stays e s g = by (s .stop) refl g
+  where
+    by : (k : ℕ) → s .stop ≡ k → single e s .stop ≡ 0 → k ≡ 0
+    by zero z g = refl
+    by (suc k) z g = let same : s .stop ≡ 0 = simp (ne-eqb (s .stop) 0 (λ y. omega (arith, y, z))) at g in omega (arith, same, z)
+
+-- it makes one entry or none
+pub single-entries : (e : Entry) (s : Progress) → single e s .entries ≤ s .entries + 1
+unfolding single
+single-entries e s = by (eqb (s .stop) 0) (leb mostEntries (s .entries)) (ltb (length (s .listing) - s .written) (roomNeeded (s .traced))) (eqb (numberOf (outcome e s .0)) 0)
+  where
+    by : (a b c d : Bool)
+        → cond a (cond b (stopped 12 s) (cond c (stopped 14 s) (cond d (counted s (outcome e s .1) (linesOf s e (outcome e s))) (stopped (numberOf (outcome e s .0)) s)))) s .entries
+        ≤ s .entries + 1
+    by false b c d = omega arith
+    by true true c d = omega arith
+    by true false true d = omega arith
+    by true false false true = omega arith
+    by true false false false = omega arith
 
 module _ (e : Entry) (s : Progress) (z : s .stop ≡ 0) where
   abbrev full : Bool

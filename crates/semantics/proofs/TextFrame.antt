@@ -1,15 +1,14 @@
 -- A text run looks at and changes only the first sixteen records.
-use mathlib.Core.Path.{_≡_, refl, sym, ap, ap₂, subst, _∙_}
+use mathlib.Core.Path.{_≡_, refl, sym, ap, ap₂, _∙_}
 use mathlib.Core.Bool.{Bool, true, false, not, _&&_, cond}
 use mathlib.Core.List.{List, [], _∷_, _++_}
-use Prim.Native.Nat.{ℕ, zero, suc, _+_, _-_, _*_, _≤_, _<_}
+use Prim.Native.Nat.{ℕ, zero, suc, _+_, _-_, _≤_, _<_}
 use native.Mathlib.Decide.{decLe}
 use native.Mathlib.Omega.{arith}
 use lib.Dec.{eqb, ltb, leb}
 use borrow.Author.Tests.{eqb-true, eqb-false}
 use lib.ListN.{length, take, drop, take-append-drop, drop-of-length-le, replicate}
 use lib.Seq.{length-take-le, take-all}
-use Rattle.model.specs.Sizes.{llMost}
 use Rattle.model.specs.Replies.{numberOf}
 use Rattle.model.specs.declared.Process.{Process}
 use Rattle.model.specs.declared.Reply.{Reply}
@@ -119,27 +118,27 @@ module _ (t : List Process) where
       go false e = refl
       go true e = ap (λ q. not (isIdle q)) (same-record (s .memory) t h p (orderOf (Step p)) [] (below (eqb-true _ 0 e)))
 
-  steps-frame : (k left p : ℕ) (s : Progress) → Sixteen s → steps k left p (longer t s) ≡ longer t (steps k left p s)
+  steps-frame : (left p : ℕ) (s : Progress) → Sixteen s → steps left p (longer t s) ≡ longer t (steps left p s)
   unfolding steps
-  steps-frame k zero p s h = refl
-  steps-frame k (suc left) p s h =
-      ap (λ z. cond (unanswered p z) (steps k left p z) z) (single-frame s h (Step p))
-      ∙ ap (λ b. cond b (steps k left p (longer t next)) (longer t next)) (same-unanswered p next (single-sixteen s h (Step p)) (going-on s h (Step p)))
-      ∙ go (unanswered p next) (steps-frame k left p next (single-sixteen s h (Step p)))
+  steps-frame zero p s h = refl
+  steps-frame (suc left) p s h =
+      ap (λ z. cond (unanswered p z) (steps left p z) z) (single-frame s h (Step p))
+      ∙ ap (λ b. cond b (steps left p (longer t next)) (longer t next)) (same-unanswered p next (single-sixteen s h (Step p)) (going-on s h (Step p)))
+      ∙ go (unanswered p next) (steps-frame left p next (single-sixteen s h (Step p)))
     where
       next : Progress
       next = single (Step p) s
 
-      go : (b : Bool) → steps k left p (longer t next) ≡ longer t (steps k left p next) → cond b (steps k left p (longer t next)) (longer t next) ≡ longer t (cond b (steps k left p next) next)
+      go : (b : Bool) → steps left p (longer t next) ≡ longer t (steps left p next) → cond b (steps left p (longer t next)) (longer t next) ≡ longer t (cond b (steps left p next) next)
       go true e = e
       go false e = refl
 
-  steps-sixteen : (k left p : ℕ) (s : Progress) → Sixteen s → Sixteen (steps k left p s)
+  steps-sixteen : (left p : ℕ) (s : Progress) → Sixteen s → Sixteen (steps left p s)
   unfolding steps
-  steps-sixteen k zero p s h = h
-  steps-sixteen k (suc left) p s h = go (unanswered p (single (Step p) s)) (steps-sixteen k left p (single (Step p) s) (single-sixteen s h (Step p)))
+  steps-sixteen zero p s h = h
+  steps-sixteen (suc left) p s h = go (unanswered p (single (Step p) s)) (steps-sixteen left p (single (Step p) s) (single-sixteen s h (Step p)))
     where
-      go : (b : Bool) → Sixteen (steps k left p (single (Step p) s)) → Sixteen (cond b (steps k left p (single (Step p) s)) (single (Step p) s))
+      go : (b : Bool) → Sixteen (steps left p (single (Step p) s)) → Sixteen (cond b (steps left p (single (Step p) s)) (single (Step p) s))
       go true x = x
       go false x = single-sixteen s h (Step p)
 
@@ -151,8 +150,8 @@ module _ (t : List Process) where
   carry-frame (Step p) s h = single-frame s h (Step p)
   carry-frame (Finish p) s h = go (eqb (s .stop) 0)
     where
-      go : (b : Bool) → cond b (finish (llMost (s .memory .bench .w)) p (longer t s)) (longer t s) ≡ longer t (cond b (finish (llMost (s .memory .bench .w)) p s) s)
-      go true = steps-frame 13 (llMost (s .memory .bench .w)) p s h
+      go : (b : Bool) → cond b (finish p (longer t s)) (longer t s) ≡ longer t (cond b (finish p s) s)
+      go true = steps-frame (suc (mostEntries - s .entries)) p s h
       go false = refl
 
   carry-sixteen : (e : Entry) (s : Progress) → Sixteen s → Sixteen (carry e s)
@@ -163,8 +162,8 @@ module _ (t : List Process) where
   carry-sixteen (Step p) s h = single-sixteen s h (Step p)
   carry-sixteen (Finish p) s h = go (eqb (s .stop) 0)
     where
-      go : (b : Bool) → Sixteen (cond b (finish (llMost (s .memory .bench .w)) p s) s)
-      go true = steps-sixteen 13 (llMost (s .memory .bench .w)) p s h
+      go : (b : Bool) → Sixteen (cond b (finish p s) s)
+      go true = steps-sixteen (suc (mostEntries - s .entries)) p s h
       go false = h
 
   carry-all-frame : (es : List Entry) (s : Progress) → Sixteen s → carryAll es (longer t s) ≡ longer t (carryAll es s)

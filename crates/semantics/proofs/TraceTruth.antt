@@ -176,10 +176,10 @@ module _ {s : Progress} where
   either-told true g f = g
   either-told false g f = f
 
-  steps-told : (k left p : ℕ) {t : Progress} → Goes s t → Goes s (steps k left p t)
+  steps-told : (left p : ℕ) {t : Progress} → Goes s t → Goes s (steps left p t)
   unfolding steps
-  steps-told k zero p g = halts k g
-  steps-told k (suc left) p {t} g = let next = single-told (Step p) g in either-told (unanswered p (single (Step p) t)) (steps-told k left p next) next
+  steps-told zero p g = g
+  steps-told (suc left) p {t} g = let next = single-told (Step p) g in either-told (unanswered p (single (Step p) t)) (steps-told left p next) next
 
   carry-told : (e : Entry) {t : Progress} → Goes s t → Goes s (carry e t)
   unfolding carry
@@ -187,7 +187,7 @@ module _ {s : Progress} where
   carry-told (StartVl p) g = single-told (StartVl p) g
   carry-told (StartSc p k) g = single-told (StartSc p k) g
   carry-told (Step p) g = single-told (Step p) g
-  carry-told (Finish p) {t} g = either-told (eqb (t .stop) 0) (steps-told 13 _ p g) g
+  carry-told (Finish p) {t} g = either-told (eqb (t .stop) 0) (steps-told _ p g) g
 
   all-told : (es : List Entry) {t : Progress} → Goes s t → Goes s (carryAll es t)
   unfolding carryAll

@@ -1,3 +1,4 @@
 pub mod TextRun
 pub mod StopPlaces
+pub mod Finishing
 pub mod Reached

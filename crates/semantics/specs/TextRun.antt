@@ -1,6 +1,6 @@
 -- The meaning of a text run (01, "When the bench says no" and "Schedule text and listing"), in two styles: the listing,
 -- and the trace, which has a line for each accepted command.
-use Prim.Native.Nat.{ℕ, zero, suc, _+_, _-_, _*_}
+use Prim.Native.Nat.{ℕ, zero, suc, _+_, _-_}
 use mathlib.Core.List.{List, [], _∷_, _++_}
 use mathlib.Core.Bool.{Bool, true, false, not, _&&_, cond}
 use lib.Dec.{eqb, ltb, leb}
@@ -10,7 +10,6 @@ use Rattle.model.specs.declared.Order.{Order}
 use Rattle.model.specs.declared.Order.the-variants
 use Rattle.model.specs.declared.Reply.{Reply}
 use Rattle.model.specs.declared.Reply.the-variants.{Refused, Accepted, LlAnswered, ScAnswered, VlAnswered}
-use Rattle.model.specs.Sizes.{llMost}
 use Rattle.model.specs.Words.{returnArea}
 use Rattle.model.specs.Records.{recordAt}
 use Rattle.model.specs.Points.{pointOf}
@@ -134,15 +133,15 @@ single e s =
 abbrev pub unanswered : ℕ → Progress → Bool
 unanswered p s = eqb (s .stop) 0 && not (isIdle (recordAt (s .memory .records) (record { 0 = p })))
 
--- steps of p until its call answers; `left` is how many may follow, k the number of the refusal where none of them
--- answers, 0 for none
-unfoldable pub steps : ℕ → ℕ → ℕ → Progress → Progress
-steps k zero p s = stopped k s
-steps k (suc left) p s = cond (unanswered p (single (Step p) s)) (steps k left p (single (Step p) s)) (single (Step p) s)
+-- steps of p until its call answers, `left` of them at the most
+unfoldable pub steps : ℕ → ℕ → Progress → Progress
+steps zero p s = s
+steps (suc left) p s = cond (unanswered p (single (Step p) s)) (steps left p (single (Step p) s)) (single (Step p) s)
 
--- row 13: "`!` unanswered after 8W+7 steps"
-abbrev pub finish : ℕ → ℕ → Progress → Progress
-finish left p s = steps 13 left p s
+-- A recursion needs an end: there is a step for each entry that the run has left, and one that 12 refuses. So this end
+-- is never met, and `!` is steps until the call answers (`Finishing`).
+abbrev pub finish : ℕ → Progress → Progress
+finish p s = steps (suc (mostEntries - s .entries)) p s
 
 -- "An entry is one command; `!` is an entry for each of its steps."
 unfoldable pub carry : Entry → Progress → Progress
@@ -150,7 +149,7 @@ carry (StartLl p) s = single (StartLl p) s
 carry (StartVl p) s = single (StartVl p) s
 carry (StartSc p k) s = single (StartSc p k) s
 carry (Step p) s = single (Step p) s
-carry (Finish p) s = cond (eqb (s .stop) 0) (finish (llMost (s .memory .bench .w)) p s) s
+carry (Finish p) s = cond (eqb (s .stop) 0) (finish p s) s
 
 unfoldable pub carryAll : List Entry → Progress → Progress
 carryAll [] s = s

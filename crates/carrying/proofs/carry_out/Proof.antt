@@ -3,22 +3,19 @@ use mathlib.Core.Path.{_≡_, refl, sym, _∙_}
 use native.Mathlib.Omega.{arith}
 use Prim.Native.Nat.{_+_, _-_, _<_, _≤_}
 use borrow.Author.Needs.{needs}
-use borrow.Author.Tests.{not-true, not-false}
-use Rattle.model.specs.Sizes.{llMost}
 use Rattle.entry.specs.RunState.{stateOf}
 use Rattle.carrying.proofs.LoopLaws.{goingRun, Head, from-run, first-head, head-all, looking, place-small, loop-refused}
 use Rattle.carrying.proofs.LoopLaws.{loop-sized, loop-process, loop-more, loop-bank, loop-help, loop-turnable, loop-over, loop-further}
-use Rattle.carrying.proofs.LoopLaws.{loop-unanswered}
 use Rattle.carrying.proofs.carry_out.Statement.{statement}
 use Rattle.carrying.proofs.carry_out.Tie as tie
 
 abbrev Inv-loop : tie.InvT-loop
-Inv-loop len entries count words₀ list₀ n w traced needed most bench₀ all₀ written₀ done₀ stop₀ at₀ left₀ words list bench all written done stop at left =
-    Head count entries len n w needed (stateOf (goingRun bench₀ all₀ written₀ done₀ traced) words₀ list₀) at left
-    (stateOf (goingRun bench all written done traced) words list) × (stop ≡ 0) × (most ≡ llMost w)
+Inv-loop len entries count words₀ list₀ n w traced needed bench₀ all₀ written₀ done₀ stop₀ at₀ words list bench all written done stop at =
+    Head count entries len n w needed (stateOf (goingRun bench₀ all₀ written₀ done₀ traced) words₀ list₀) at
+    (stateOf (goingRun bench all written done traced) words list) × (stop ≡ 0)
 
 abbrev μ-loop : tie.MeasureT-loop
-μ-loop len entries count words₀ list₀ n w traced needed most bench₀ all₀ written₀ done₀ stop₀ at₀ left₀ words list bench all written done stop at left = 60001 - done
+μ-loop len entries count words₀ list₀ n w traced needed bench₀ all₀ written₀ done₀ stop₀ at₀ words list bench all written done stop at = 60001 - done
 
 -- the record of the entry is one of sixteen
 own-small : (c : tie.After-place-of Inv-loop μ-loop) → c .place-of .result < 16
@@ -57,26 +54,18 @@ help-small c =
 room-needed-requires : tie.Need-room-needed-requires Inv-loop μ-loop
 room-needed-requires c κs = search needs
 
-ll-most-requires : tie.Need-ll-most-requires Inv-loop μ-loop
-ll-most-requires c κs =
-    let c4 = c .before .before .before .before in
-    omega (arith, c4 .pre .1 .going (c4 .pre .2) .width)
-
 loop-holds : tie.Need-loop-holds Inv-loop μ-loop
 loop-holds c =
-    let c3 = c .before .before .before in let c7 = c3 .before .before .before .before in (
-      rw (c .before .before .ll-most .ensures) (first-head (c7 .pre .0) (c7 .pre .1) (c7 .pre .2) refl refl (c3 .room-needed .ensures)),
-      refl,
-      c .before .before .ll-most .ensures,
-    )
+    let c6 = c .before .before .before .before .before .before in
+    (first-head (c6 .pre .0) (c6 .pre .1) (c6 .pre .2) refl refl (c .before .before .room-needed .ensures), refl)
 
 mul-entry-in : tie.Need-mul-entry-in Inv-loop μ-loop
 mul-entry-in c = search needs
 
 shared-slice-read-entry-in : tie.Need-shared-slice-read-entry-in Inv-loop μ-loop
 shared-slice-read-entry-in c =
-    let c10 = c .before .before .before .before .before .before .before .before .before .before in
-    omega (arith, c .before .loop-test .taken, c10 .pre .0)
+    let c9 = c .before .before .before .before .before .before .before .before .before in
+    omega (arith, c .before .loop-test .taken, c9 .pre .0)
 
 entry-in-requires : tie.Need-entry-in-requires Inv-loop μ-loop
 entry-in-requires c κs = search needs
@@ -116,8 +105,8 @@ bank-index-requires c κs =
 cast-i : tie.Need-cast-i Inv-loop μ-loop
 cast-i c = search needs
 
-cast-t44 : tie.Need-cast-t44 Inv-loop μ-loop
-cast-t44 c =
+cast-t42 : tie.Need-cast-t42 Inv-loop μ-loop
+cast-t42 c =
     let c3 = c .before .before .before in let c4 = c3 .before in let c6 = c4 .before .before in let c7 = c6 .before in
     let c8 = c7 .before in let c10 = c8 .before .before in let c11 = c10 .before in
     let x = looking (c11 .loop .inv .0) (c10 .loop-test .taken) (c8 .entry-in .ensures) (c7 .process-of .ensures) (c6 .place-of .ensures)
@@ -173,46 +162,47 @@ carry-requires c κs =
 
 mul-bank : tie.Need-mul-bank Inv-loop μ-loop
 mul-bank c =
-    let c17 = c .before .before .before .before .before .before .before .before .before .before .before .before .before .before .before .before .before in
+    let c12 = c .before .before .before .before .before .before .before .before .before .before .before .before in
+    let c17 = c12 .before .before .before .before .before in
     omega (arith, bank-small (c17))
 
 element-set-from-bank : tie.Need-element-set-from-bank Inv-loop μ-loop
 element-set-from-bank c =
-    let c17 = c .before .before .before .before .before .before .before .before .before .before .before .before .before .before .before .before .before in
+    let c12 = c .before .before .before .before .before .before .before .before .before .before .before .before in
+    let c17 = c12 .before .before .before .before .before in
     omega (arith, bank-small (c17))
 
 mul-help : tie.Need-mul-help Inv-loop μ-loop
 mul-help c =
-    let c17 = c .before .before .before .before .before .before .before .before .before .before .before .before .before .before .before .before .before in
+    let c12 = c .before .before .before .before .before .before .before .before .before .before .before .before in
+    let c17 = c12 .before .before .before .before .before in
     omega (arith, help-small (c17))
 
 element-set-from-help : tie.Need-element-set-from-help Inv-loop μ-loop
 element-set-from-help c =
-    let c17 = c .before .before .before .before .before .before .before .before .before .before .before .before .before .before .before .before .before in
+    let c12 = c .before .before .before .before .before .before .before .before .before .before .before .before in
+    let c17 = c12 .before .before .before .before .before in
     omega (arith, help-small (c17))
 
 mul-next : tie.Need-mul-next Inv-loop μ-loop
 mul-next c =
-    let c24 = c .before .before .before .before .before .before .before .before .before .before .before .before .before .before .before .before .before .before .before .before .before .before .before .before in
+    let c12 = c .before .before .before .before .before .before .before .before .before .before .before .before in
+    let c24 = c12 .before .before .before .before .before .before .before .before .before .before .before .before in
     omega (arith, own-small (c24))
 
 element-set-from-next : tie.Need-element-set-from-next Inv-loop μ-loop
 element-set-from-next c =
-    let c24 = c .before .before .before .before .before .before .before .before .before .before .before .before .before .before .before .before .before .before .before .before .before .before .before .before in
+    let c12 = c .before .before .before .before .before .before .before .before .before .before .before .before in
+    let c24 = c12 .before .before .before .before .before .before .before .before .before .before .before .before in
     omega (arith, own-small (c24))
 
 stays-requires : tie.Need-stays-requires Inv-loop μ-loop
 stays-requires c κs = search needs
 
-add-at : tie.Need-add-at Inv-loop μ-loop
-add-at c =
-    let c30 = c .before .before .before .before .before .before .before .before .before .before .before .before .before .before .before .before .before .before .before .before .before .before .before .before .before .before .before .before .before .before in
-    let c39 = c30 .before .before .before .before .before .before .before .before .before in
-    omega (arith, c30 .loop-test .taken, c39 .fits .count)
-
 loop-less : tie.Need-loop-less Inv-loop μ-loop
 loop-less c =
-    let c22 = c .before .before .before .before .before .before .before .before .before .before .before .before .before .before .before .before .before .before .before .before .before .before in
+    let c12 = c .before .before .before .before .before .before .before .before .before .before .before .before in
+    let c22 = c12 .before .before .before .before .before .before .before .before .before .before in
     omega (arith, one-more (c22))
 
 loop-again : tie.Need-loop-again Inv-loop μ-loop
@@ -224,35 +214,37 @@ loop-again c =
     let x = looking (c31 .loop .inv .0) (c30 .loop-test .taken) (c28 .entry-in .ensures) (c27 .process-of .ensures) (c26 .place-of .ensures)
     (c24 .order-of .ensures) in
     let f = sym (c23 .refusal .ensures) ∙ c22 .if1 .left in (
-      rw (c31 .loop .inv .2) (loop-over x f (c21 .bank-index .ensures) (c19 .help-index .ensures) (c14 .places .ensures)
-          (c11 .carry .ensures) (sym (c .before .stays .ensures) ∙ not-true _ (c .if2 .taken))),
+      loop-further x f (c21 .bank-index .ensures) (c19 .help-index .ensures) (c14 .places .ensures)
+          (c11 .carry .ensures) (sym (c .before .stays .ensures) ∙ c .if2 .taken),
       c22 .if1 .left,
-      c31 .loop .inv .2,
     )
 
-sub-left : tie.Need-sub-left Inv-loop μ-loop
-sub-left c =
-    let c31 = c .before .before .before .before .before .before .before .before .before .before .before .before .before .before .before .before .before .before .before .before .before .before .before .before .before .before .before .before .before .before .before in
-    omega (arith, c31 .loop .inv .0 .carrying .some)
+add-at : tie.Need-add-at Inv-loop μ-loop
+add-at c =
+    let c12 = c .before .before .before .before .before .before .before .before .before .before .before .before in
+    let c24 = c12 .before .before .before .before .before .before .before .before .before .before .before .before in
+    let c30 = c24 .before .before .before .before .before .before in
+    let c38 = c30 .before .before .before .before .before .before .before .before in
+    omega (arith, c30 .loop-test .taken, c38 .fits .count)
 
 loop-less-2 : tie.Need-loop-less-2 Inv-loop μ-loop
 loop-less-2 c =
-    let c23 = c .before .before .before .before .before .before .before .before .before .before .before .before .before .before .before .before .before .before .before .before .before .before .before in
-    omega (arith, one-more (c23))
+    let c12 = c .before .before .before .before .before .before .before .before .before .before .before .before in
+    let c22 = c12 .before .before .before .before .before .before .before .before .before .before in
+    omega (arith, one-more (c22))
 
 loop-again-2 : tie.Need-loop-again-2 Inv-loop μ-loop
 loop-again-2 c =
-    let c12 = c .before .before .before .before .before .before .before .before .before .before .before .before in
-    let c15 = c12 .before .before .before in let c20 = c15 .before .before .before .before .before in let c22 = c20 .before .before in
-    let c23 = c22 .before in let c24 = c23 .before in let c25 = c24 .before in let c27 = c25 .before .before in
-    let c28 = c27 .before in let c29 = c28 .before in let c31 = c29 .before .before in let c32 = c31 .before in
-    let x = looking (c32 .loop .inv .0) (c31 .loop-test .taken) (c29 .entry-in .ensures) (c28 .process-of .ensures) (c27 .place-of .ensures)
-    (c25 .order-of .ensures) in
-    let f = sym (c24 .refusal .ensures) ∙ c23 .if1 .left in (
-      loop-further x f (c22 .bank-index .ensures) (c20 .help-index .ensures) (c15 .places .ensures) (c12 .carry .ensures)
-          (sym (c .before .before .stays .ensures) ∙ not-false _ (c .before .if2 .left)) (c .if3 .left),
-      c23 .if1 .left,
-      c32 .loop .inv .2,
+    let c11 = c .before .before .before .before .before .before .before .before .before .before .before in
+    let c14 = c11 .before .before .before in let c19 = c14 .before .before .before .before .before in let c21 = c19 .before .before in
+    let c22 = c21 .before in let c23 = c22 .before in let c24 = c23 .before in let c26 = c24 .before .before in
+    let c27 = c26 .before in let c28 = c27 .before in let c30 = c28 .before .before in let c31 = c30 .before in
+    let x = looking (c31 .loop .inv .0) (c30 .loop-test .taken) (c28 .entry-in .ensures) (c27 .process-of .ensures) (c26 .place-of .ensures)
+    (c24 .order-of .ensures) in
+    let f = sym (c23 .refusal .ensures) ∙ c22 .if1 .left in (
+      loop-over x f (c21 .bank-index .ensures) (c19 .help-index .ensures) (c14 .places .ensures)
+          (c11 .carry .ensures) (sym (c .before .stays .ensures) ∙ c .if2 .left),
+      c22 .if1 .left,
     )
 
 same-length : tie.Need-same-length Inv-loop μ-loop
@@ -263,8 +255,8 @@ same-length-2 c = (head-all (c .before .loop .inv .0) (c .loop-test .left)) .bec
 
 returns : tie.Need-returns Inv-loop μ-loop
 returns c =
-    let c9 = c .before .before .before .before .before .before .before .before .before in
-    from-run (c9 .pre .2) (rw (c .before .loop .inv .1) (head-all (c .before .loop .inv .0) (c .loop-test .left)))
+    let c8 = c .before .before .before .before .before .before .before .before in
+    from-run (c8 .pre .2) (rw (c .before .loop .inv .1) (head-all (c .before .loop .inv .0) (c .loop-test .left)))
 
 same-length-3 : tie.Need-same-length-3 Inv-loop μ-loop
 same-length-3 c =
@@ -285,47 +277,10 @@ same-length-4 c =
 returns-2 : tie.Need-returns-2 Inv-loop μ-loop
 returns-2 c =
     let c4 = c .before .before .before .before in let c5 = c4 .before in let c6 = c5 .before in let c8 = c6 .before .before in
-    let c9 = c8 .before in let c17 = c9 .before .before .before .before .before .before .before .before in
+    let c9 = c8 .before in let c16 = c9 .before .before .before .before .before .before .before in
     let x = looking (c9 .loop .inv .0) (c8 .loop-test .taken) (c6 .entry-in .ensures) (c5 .process-of .ensures) (c4 .place-of .ensures)
     (c .before .before .order-of .ensures) in
-    from-run (c17 .pre .2) (loop-refused x (c .before .refusal .ensures) (c .if1 .taken))
-
-same-length-5 : tie.Need-same-length-5 Inv-loop μ-loop
-same-length-5 c =
-    let c12 = c .before .before .before .before .before .before .before .before .before .before .before .before in
-    let c15 = c12 .before .before .before in let c20 = c15 .before .before .before .before .before in let c22 = c20 .before .before in
-    let c23 = c22 .before in let c24 = c23 .before in let c25 = c24 .before in let c27 = c25 .before .before in
-    let c28 = c27 .before in let c29 = c28 .before in let c31 = c29 .before .before in let c32 = c31 .before in
-    let x = looking (c32 .loop .inv .0) (c31 .loop-test .taken) (c29 .entry-in .ensures) (c28 .process-of .ensures) (c27 .place-of .ensures)
-    (c25 .order-of .ensures) in
-    let f = sym (c24 .refusal .ensures) ∙ c23 .if1 .left in
-    (loop-unanswered x f (c22 .bank-index .ensures) (c20 .help-index .ensures) (c15 .places .ensures) (c12 .carry .ensures)
-    (sym (c .before .before .stays .ensures) ∙ not-false _ (c .before .if2 .left)) (c .if3 .taken)) .becomes .kept .words
-
-same-length-6 : tie.Need-same-length-6 Inv-loop μ-loop
-same-length-6 c =
-    let c12 = c .before .before .before .before .before .before .before .before .before .before .before .before in
-    let c15 = c12 .before .before .before in let c20 = c15 .before .before .before .before .before in let c22 = c20 .before .before in
-    let c23 = c22 .before in let c24 = c23 .before in let c25 = c24 .before in let c27 = c25 .before .before in
-    let c28 = c27 .before in let c29 = c28 .before in let c31 = c29 .before .before in let c32 = c31 .before in
-    let x = looking (c32 .loop .inv .0) (c31 .loop-test .taken) (c29 .entry-in .ensures) (c28 .process-of .ensures) (c27 .place-of .ensures)
-    (c25 .order-of .ensures) in
-    let f = sym (c24 .refusal .ensures) ∙ c23 .if1 .left in
-    (loop-unanswered x f (c22 .bank-index .ensures) (c20 .help-index .ensures) (c15 .places .ensures) (c12 .carry .ensures)
-    (sym (c .before .before .stays .ensures) ∙ not-false _ (c .before .if2 .left)) (c .if3 .taken)) .becomes .kept .listing
-
-returns-3 : tie.Need-returns-3 Inv-loop μ-loop
-returns-3 c =
-    let c12 = c .before .before .before .before .before .before .before .before .before .before .before .before in
-    let c15 = c12 .before .before .before in let c20 = c15 .before .before .before .before .before in let c22 = c20 .before .before in
-    let c23 = c22 .before in let c24 = c23 .before in let c25 = c24 .before in let c27 = c25 .before .before in
-    let c28 = c27 .before in let c29 = c28 .before in let c31 = c29 .before .before in let c32 = c31 .before in
-    let c40 = c32 .before .before .before .before .before .before .before .before in
-    let x = looking (c32 .loop .inv .0) (c31 .loop-test .taken) (c29 .entry-in .ensures) (c28 .process-of .ensures) (c27 .place-of .ensures)
-    (c25 .order-of .ensures) in
-    let f = sym (c24 .refusal .ensures) ∙ c23 .if1 .left in
-    from-run (c40 .pre .2) (loop-unanswered x f (c22 .bank-index .ensures) (c20 .help-index .ensures) (c15 .places .ensures) (c12 .carry .ensures)
-    (sym (c .before .before .stays .ensures) ∙ not-false _ (c .before .if2 .left)) (c .if3 .taken))
+    from-run (c16 .pre .2) (loop-refused x (c .before .refusal .ensures) (c .if1 .taken))
 
 pub carry-out-spec : {M : Type 1} → statement M
 carry-out-spec =
@@ -334,7 +289,6 @@ carry-out-spec =
     Inv-loop
     μ-loop
     room-needed-requires
-    ll-most-requires
     loop-holds
     mul-entry-in
     shared-slice-read-entry-in
@@ -348,7 +302,7 @@ carry-out-spec =
     refusal-requires
     bank-index-requires
     cast-i
-    cast-t44
+    cast-t42
     help-index-requires
     cast-j
     mul-places
@@ -365,10 +319,9 @@ carry-out-spec =
     mul-next
     element-set-from-next
     stays-requires
-    add-at
     loop-less
     loop-again
-    sub-left
+    add-at
     loop-less-2
     loop-again-2
     same-length
@@ -376,7 +329,4 @@ carry-out-spec =
     returns
     same-length-3
     same-length-4
-    returns-2
-    same-length-5
-    same-length-6
-    returns-3)
+    returns-2)

@@ -6,8 +6,8 @@ use super::zeros::{leading_zero, NUMBERS};
 use crate::machine::Tally;
 use crate::schedule::{listing_of, Outcome, TEXT_LIMIT};
 
-/// The refusals that a text can meet. 3, 8, 9 and 15 are out of its reach,
-/// 13 never comes, and 12 is counted by its two causes.
+/// The refusals that a text can meet, but for 12, which is counted by its two
+/// causes. Every other number is out of its reach or, as 13, no longer in use.
 const REFUSALS: [u8; 9] = [1, 2, 4, 5, 6, 7, 10, 11, 14];
 
 pub fn cover(dir: &str) -> Result<u8, String> {
@@ -70,9 +70,10 @@ impl Sums {
     }
 
     fn impossible(&self) -> u64 {
-        [3, 8, 9, 13, 15]
-            .iter()
-            .map(|number| self.refused[*number])
+        (0..)
+            .zip(self.refused)
+            .filter(|(number, _)| *number != 12 && !REFUSALS.contains(number))
+            .map(|(_, times)| times)
             .sum()
     }
 

@@ -134,13 +134,10 @@ impl Run<'_, '_> {
         Ok(answer.is_some())
     }
 
-    /// `!`: each of its steps is an entry.
+    /// `!`: steps until the call answers, each of them an entry. (The entry
+    /// limit ends it at the latest.)
     fn finish(&mut self, p: u64) -> Result<(), u8> {
-        for _ in 0..8 * self.words + 7 {
-            if self.entry(p, Order::Step)? {
-                return Ok(());
-            }
-        }
-        Err(13)
+        while !self.entry(p, Order::Step)? {}
+        Ok(())
     }
 }

@@ -1,0 +1,98 @@
+-- What a `!` comes to: steps until its call answers, and no more of them than the kind of its call allows.
+use mathlib.Core.Path.{_≡_, refl, sym, ap, subst, _∙_}
+use mathlib.Core.Bool.{Bool, true, false, not, cond, _&&_}
+use mathlib.Core.List.{[]}
+use Prim.Native.Nat.{ℕ, zero, suc, _+_, _-_, _≤_, _<_}
+use native.Mathlib.Omega.{arith}
+use lib.Dec.{eqb}
+use borrow.Author.Tests.{eqb-true, eq-eqb, ne-eqb}
+use Rattle.model.specs.declared.Order.the-variants as order
+use Rattle.model.specs.Records.{recordAt}
+use Rattle.model.specs.Machine.{Memory}
+use Rattle.model.specs.Refusals.{isIdle}
+use Rattle.model.specs.Linearizable.{largest, OpenCounted}
+use Rattle.notation.specs.declared.Entry.the-variants.{Step}
+use Rattle.semantics.specs.Reached.{Reached}
+use Rattle.semantics.specs.TextRun.{Progress, mostEntries, linesOf, counted, single, unanswered, steps, finish, carry}
+use Rattle.semantics.specs.Finishing.{UntilAnswered, FinishBounded}
+use Rattle.semantics.proofs.ReachedLaws.{reached-command}
+use Rattle.semantics.proofs.AcceptedSteps.{unrefused, stepped-busy}
+use Rattle.semantics.proofs.OpenCalls.{Open, openIn, open-fewer, busy-open, reached-n, one-step-more}
+use Rattle.semantics.proofs.SingleEntries.{outcome, Made, single-made, single-stays, single-entries}
+
+-- the run after an accepted step of p
+abbrev next : ℕ → Progress → Progress
+next p s = counted s (outcome (Step p) s .1) (linesOf s (Step p) (outcome (Step p) s))
+
+-- a further step follows: the step was accepted, and left p busy
+record Further (p : ℕ) (s : Progress) (r : Reached (s .memory)) : Type 0 where
+  made : Made (Step p) s
+  open-call : Open (openIn (reached-command r p order.Step []) p)
+
+busy-after : (p : ℕ) (s : Progress) → unanswered p s ≡ true → (s .stop ≡ 0) × (isIdle (recordAt (s .memory .records) (record { 0 = p })) ≡ false)
+busy-after p s e = by (eqb (s .stop) 0) refl (isIdle (recordAt (s .memory .records) (record { 0 = p }))) refl e
+  where
+    by : (a : Bool) → eqb (s .stop) 0 ≡ a → (b : Bool) → isIdle (recordAt (s .memory .records) (record { 0 = p })) ≡ b → (a && not b) ≡ true
+        → (s .stop ≡ 0) × (isIdle (recordAt (s .memory .records) (record { 0 = p })) ≡ false)
+    by true x false y h = (eqb-true (s .stop) 0 x, y)
+    by true x true y h = absurd (let zero-one : _≡_ {A = ℕ} 0 1 = ap (λ (t : Bool). cond t 1 0) h in let w : ⊥ = omega arith in w)
+    by false x b y h = absurd (let zero-one : _≡_ {A = ℕ} 0 1 = ap (λ (t : Bool). cond t 1 0) h in let w : ⊥ = omega arith in w)
+
+module _ (p : ℕ) (s : Progress) (r : Reached (s .memory)) (z : s .stop ≡ 0) where
+  further : unanswered p (single (Step p) s) ≡ true → Further p s r
+  unfolding reached-command
+  further e =
+      let made = single-made (Step p) s z (busy-after p (single (Step p) s) e .0) in
+      let busy = busy-after p (next p s) (ap (unanswered p) (sym (made .is)) ∙ e) .1 in
+      let r′ = reached-command r p order.Step [] in
+      let below = stepped-busy r p (unrefused (s .memory) p order.Step [] (made .accepted)) .0 in
+      let sized : outcome (Step p) s .1 .bench .n ≡ s .memory .bench .n = reached-n r′ ∙ sym (reached-n r) in
+      record { made = made; open-call = busy-open r′ p (omega (arith, below, sized)) busy }
+
+-- a step, and where it did not answer, the same again
+pub until-answered : UntilAnswered
+unfolding steps
+until-answered p s = by (unanswered p (single (Step p) s)) refl
+  where
+    by : (a : Bool) → unanswered p (single (Step p) s) ≡ a
+        → cond a (steps (mostEntries - s .entries) p (single (Step p) s)) (single (Step p) s) ≡ cond a (finish p (single (Step p) s)) (single (Step p) s)
+    by false e = refl
+    by true e =
+        let goes = busy-after p (single (Step p) s) e .0 in
+        let made = single-made (Step p) s (single-stays (Step p) s goes) goes in
+        let one : single (Step p) s .entries ≡ s .entries + 1 = ap (λ (t : Progress). t .entries) (made .is) in
+        ap (λ (k : ℕ). steps k p (single (Step p) s)) (let left : mostEntries - s .entries ≡ suc (mostEntries - single (Step p) s .entries) = omega (arith, one, made .fewer) in left)
+
+open-counts : {m : Memory} (r : Reached m) (p : ℕ) (o : Open (openIn r p)) → o .steps < largest (r .w) (o .kind)
+open-counts r p o = subst (OpenCounted (r .w)) (o .is) (open-fewer r p)
+
+-- so many steps, by induction
+steps-bounded : (left p : ℕ) (s : Progress) (r : Reached (s .memory)) → s .stop ≡ 0 → (o : Open (openIn r p)) → steps left p s .entries + o .steps ≤ s .entries + largest (r .w) (o .kind)
+unfolding steps reached-command
+steps-bounded zero p s r z o = omega (arith, open-counts r p o)
+steps-bounded (suc left) p s r z o = by (steps-bounded left p (next p s) (reached-command r p order.Step []) refl) (unanswered p (single (Step p) s)) refl
+  where
+    by : ((o′ : Open (openIn (reached-command r p order.Step []) p)) → steps left p (next p s) .entries + o′ .steps ≤ s .entries + 1 + largest (r .w) (o′ .kind))
+        → (a : Bool) → unanswered p (single (Step p) s) ≡ a
+        → cond a (steps left p (single (Step p) s)) (single (Step p) s) .entries + o .steps ≤ s .entries + largest (r .w) (o .kind)
+    by rest false e = omega (arith, open-counts r p o, single-entries (Step p) s)
+    by rest true e =
+        let f = further p s r z e in
+        let more = one-step-more r p (unrefused (s .memory) p order.Step [] (f .made .accepted)) o (f .open-call) in
+        let most = rest (record { kind = o .kind; start = o .start; steps = o .steps + 1; is = more }) in
+        let same : steps left p (single (Step p) s) .entries ≡ steps left p (next p s) .entries = ap (λ (t : Progress). steps left p t .entries) (f .made .is) in
+        omega (arith, most, same)
+
+pub finish-bounded : FinishBounded
+unfolding carry
+finish-bounded m shaped n w value cs e s is p kind start count slot = by (s .stop) refl
+  where
+    r : Reached (s .memory)
+    r = record { lent = m; shaped = shaped; n = n; w = w; value = value; accepted = e; commands = cs; is = is }
+
+    o : Open (openIn r p)
+    o = record { kind = kind; start = start; steps = count; is = slot }
+
+    by : (k : ℕ) → s .stop ≡ k → cond (eqb (s .stop) 0) (finish p s) s .entries + count ≤ s .entries + largest w kind
+    by zero z = simp (eq-eqb (s .stop) 0 z) (steps-bounded (suc (mostEntries - s .entries)) p s r z o)
+    by (suc k) z = simp (ne-eqb (s .stop) 0 (λ y. omega (arith, y, z))) (omega (arith, open-counts r p o))
