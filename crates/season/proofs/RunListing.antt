@@ -10,7 +10,6 @@ use lib.Dec.{eqb, ltb, leb}
 use lib.ListN.{length, take, length-take}
 use lib.Seq.{sets}
 use Rattle.model.specs.declared.Reply.{Reply}
-use Rattle.model.specs.Sizes.{llMost}
 use Rattle.model.specs.Replies.{numberOf}
 use Rattle.model.specs.Machine.{Memory}
 use Rattle.model.specs.Command.{command}
@@ -132,9 +131,9 @@ module _ {n w : ℕ} {s : Progress} (e : Entry) (small : Small e) (l : Listed n 
       (λ b. commanded-listed (leb-false mostEntries (s .entries) a) (omega (arith, ltb-false (length (s .listing) - s .written) (roomNeeded (s .traced)) b, l .room)))))
       (λ _. l)
 
-steps-listed : {n w : ℕ} (left p : ℕ) {s : Progress} → p ≤ largest → Listed n w s → Listed n w (steps 13 left p s)
+steps-listed : {n w : ℕ} (left p : ℕ) {s : Progress} → p ≤ largest → Listed n w s → Listed n w (steps left p s)
 unfolding steps
-steps-listed zero p h l = stop-listed 13 (omega arith) l
+steps-listed zero p h l = l
 steps-listed {n} {w} (suc left) p {s} h l =
     let k = single-listed (Step p) h l in either (Listed n w) (unanswered p (single (Step p) s)) _ _ (λ _. steps-listed left p h k) (λ _. k)
 
@@ -144,7 +143,7 @@ carry-listed (StartLl p) h l = single-listed (StartLl p) h l
 carry-listed (StartVl p) h l = single-listed (StartVl p) h l
 carry-listed (StartSc p k) h l = single-listed (StartSc p k) h l
 carry-listed (Step p) h l = single-listed (Step p) h l
-carry-listed {n} {w} {s} (Finish p) h l = either (Listed n w) (eqb (s .stop) 0) _ _ (λ _. steps-listed (llMost (s .memory .bench .w)) p h l) (λ _. l)
+carry-listed {n} {w} {s} (Finish p) h l = either (Listed n w) (eqb (s .stop) 0) _ _ (λ _. steps-listed _ p h l) (λ _. l)
 
 pub data AllSmall : List Entry → Type 0 where
   none : AllSmall []
