@@ -1,0 +1,4 @@
+pub mod Schedules
+pub mod Runs
+pub mod SecondRead
+pub mod Limits

@@ -1,0 +1,12 @@
+pub mod Sizes
+pub mod Tags
+pub mod Points
+pub mod Records
+pub mod Words
+pub mod Lines
+pub mod Machine
+pub mod Refusals
+pub mod Command
+pub mod SetUp
+pub mod Replies
+pub mod History
