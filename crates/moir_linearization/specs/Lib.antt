@@ -1,0 +1,4 @@
+pub mod After
+pub mod Bound
+pub mod Linearizable
+pub mod OwnDoing
