@@ -14,7 +14,7 @@ use Rattle.moir_model.specs.declared.Process.{Process}
 use Rattle.moir_model.specs.declared.Reply.{Reply}
 use Rattle.moir_model.specs.declared.Reply.the-variants.{Refused}
 use Rattle.moir_model.specs.declared.Moved.{Moved}
-use Rattle.moir_model.specs.Points.{Point, pointOf, idle, ll10, ll2, ll4, ll5, ll6, ll7, sc14, sc17, sc19, sc2, sc4, sc5, sc6, sc7, vl13}
+use Rattle.moir_model.specs.Points.{Point, lineNumber, pointOf, idle, ll10, ll2, ll4, ll5, ll6, ll7, sc14, sc17, sc19, sc2, sc4, sc5, sc6, sc7, vl13}
 use Rattle.moir_model.specs.Records.{recordAt, withY}
 use Rattle.moir_model.specs.Machine.{Memory, step5, stepAt, obey}
 use Rattle.moir_model.specs.Refusals.{inRange}
@@ -27,7 +27,7 @@ use Rattle.moir_model.proofs.Schedules.{l, s, steps, answer, Run, begun
 -- lines 5 and 6 as printed, in one step: the CAS, then y := z; the point z follows
 abbrev printed5 : Point → Bench → Process → List ℕ → Moved × List ℕ
 printed5 z b q ws =
-    let out = step5 z b q ws in
+    let out = step5 (lineNumber z) b q ws in
     (record { bench = out .0 .bench; process = withY (q .z) (out .0 .process); reply = out .0 .reply }, out .1)
 
 abbrev printedAt : Point → ProcessNumber → Bench → Process → List ℕ → Moved × List ℕ

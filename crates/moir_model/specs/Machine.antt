@@ -34,20 +34,20 @@ pub record Shaped (m : Memory) : Type 0 where
 abbrev pub reads : Bench → List ℕ → LineStep → Moved × List ℕ
 reads b ws s = (record { bench = b; process = s .process; reply = s .reply }, ws)
 
--- lines 2, 4 and 6
-abbrev pub step2 : Point → Point → Header → Bench → Process → List ℕ → Moved × List ℕ
-step2 y z hdr b q ws = reads b ws (goesOn (doLine2 (lineNumber y) (lineNumber z) hdr (segmentAt b ws (q .word)) q))
+-- lines 2, 4 and 6; the lines that follow are given by their numbers
+abbrev pub step2 : ℕ → ℕ → Header → Bench → Process → List ℕ → Moved × List ℕ
+step2 k j hdr b q ws = reads b ws (goesOn (doLine2 k j hdr (segmentAt b ws (q .word)) q))
 
-abbrev pub step4 : Point → Header → Bench → Process → List ℕ → Moved × List ℕ
-step4 y hdr b q ws = reads b ws (goesOn (doLine4 (lineNumber y) hdr (getD ws (announcedWord (b .w) (hdr .pid) (q .word)) 0) q))
+abbrev pub step4 : ℕ → Header → Bench → Process → List ℕ → Moved × List ℕ
+step4 k hdr b q ws = reads b ws (goesOn (doLine4 k hdr (getD ws (announcedWord (b .w) (hdr .pid) (q .word)) 0) q))
 
-abbrev pub step6 : Point → Bench → Process → List ℕ → Moved × List ℕ
-step6 y b q ws = reads b ws (goesOn (doLine6 (lineNumber y) (segmentAt b ws (q .word)) q))
+abbrev pub step6 : ℕ → Bench → Process → List ℕ → Moved × List ℕ
+step6 k b q ws = reads b ws (goesOn (doLine6 k (segmentAt b ws (q .word)) q))
 
 -- line 5: the segment is what the CAS leaves there
-abbrev pub step5 : Point → Bench → Process → List ℕ → Moved × List ℕ
-step5 y b q ws = (
-  record { bench = putTag b (q .word) (doLine5 (segmentAt b ws (q .word)) q .tag); process = toLine (lineNumber y) q; reply = Accepted },
+abbrev pub step5 : ℕ → Bench → Process → List ℕ → Moved × List ℕ
+step5 k b q ws = (
+  record { bench = putTag b (q .word) (doLine5 (segmentAt b ws (q .word)) q .tag); process = toLine k q; reply = Accepted },
   putValue b ws (q .word) (doLine5 (segmentAt b ws (q .word)) q .val),
 )
 
@@ -68,18 +68,18 @@ step19 b q ws = reads (putHeader b (casHeader (b .header) q)) ws (doLine19 (b .h
 unfoldable pub stepAt : Point → ProcessNumber → Bench → Process → List ℕ → Moved × List ℕ
 stepAt idle p b q ws = reads b ws (goesOn q)
 stepAt ll10 p b q ws = reads b ws (goesOn (doLine10 (b .header) q))
-stepAt ll2 p b q ws = step2 ll4 ll7 (q .x) b q ws
-stepAt ll4 p b q ws = step4 ll5 (q .x) b q ws
-stepAt ll5 p b q ws = step5 ll6 b q ws
-stepAt ll6 p b q ws = step6 ll7 b q ws
+stepAt ll2 p b q ws = step2 (lineNumber ll4) (lineNumber ll7) (q .x) b q ws
+stepAt ll4 p b q ws = step4 (lineNumber ll5) (q .x) b q ws
+stepAt ll5 p b q ws = step5 (lineNumber ll6) b q ws
+stepAt ll6 p b q ws = step6 (lineNumber ll7) b q ws
 stepAt ll7 p b q ws = step7 p b q ws
 stepAt sc14 p b q ws = reads b ws (doLine14 (b .header) q)
 stepAt sc17 p b q ws = step17 p b q ws
 stepAt sc19 p b q ws = step19 b q ws
-stepAt sc2 p b q ws = step2 sc4 sc7 (q .newhdr) b q ws
-stepAt sc4 p b q ws = step4 sc5 (q .newhdr) b q ws
-stepAt sc5 p b q ws = step5 sc6 b q ws
-stepAt sc6 p b q ws = step6 sc7 b q ws
+stepAt sc2 p b q ws = step2 (lineNumber sc4) (lineNumber sc7) (q .newhdr) b q ws
+stepAt sc4 p b q ws = step4 (lineNumber sc5) (q .newhdr) b q ws
+stepAt sc5 p b q ws = step5 (lineNumber sc6) b q ws
+stepAt sc6 p b q ws = step6 (lineNumber sc7) b q ws
 stepAt sc7 p b q ws = reads b ws (doLine7Copy (b .w) (b .header) q)
 stepAt vl13 p b q ws = reads b ws (doLine13 (b .header) q)
 
