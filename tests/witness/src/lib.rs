@@ -7,6 +7,7 @@ pub mod counterexample;
 pub mod history;
 pub mod judge;
 pub mod machine;
+pub mod moir;
 pub mod rng;
 pub mod schedule;
 pub mod season;

@@ -7,6 +7,7 @@ use std::process::{Command, Stdio};
 
 use super::files::{read_text, texts_in};
 use super::run::print;
+use crate::moir;
 use crate::schedule::{listing_of, trace_of};
 
 /// Listings.
@@ -17,6 +18,11 @@ pub fn compare(program: &str, dir: &str) -> Result<u8, String> {
 /// Traces.
 pub fn compare_trace(program: &str, dir: &str) -> Result<u8, String> {
     against(program, dir, "traces", |text| trace_of(text, None))
+}
+
+/// Listings of Moir's bench.
+pub fn compare_moir(program: &str, dir: &str) -> Result<u8, String> {
+    against(program, dir, "listings", |text| moir::listing_of(text).0)
 }
 
 fn against(

@@ -10,6 +10,7 @@ mod fractions;
 mod generate;
 mod history;
 mod judge;
+mod moir;
 mod run;
 mod wrong;
 mod zeros;
@@ -37,6 +38,11 @@ pub fn dispatch(words: &[String]) -> Result<u8, String> {
         ["counterexample", seed, tries] => {
             wrong::counterexample(number(seed)?, number(tries)?, wrong.ok_or(NO_READING)?)
         }
+        ["moir-run"] => moir::run(),
+        ["moir-generate", seed, count, dir] => moir::generate(number(seed)?, number(count)?, dir),
+        ["moir-cover", dir] => moir::cover(dir),
+        ["moir-compare", program, dir] => compare::compare_moir(program, dir),
+        ["moir-history", seed, count] => moir::history(number(seed)?, number(count)?),
         ["bench-text", kind, n, w] => {
             let text = bench_text(kind, number(n)?, number(w)?)?;
             run::print(text.as_bytes())
