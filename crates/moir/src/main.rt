@@ -1,15 +1,10 @@
 // The program `moir`: schedule text from standard input, at most 16,385 bytes, run on Moir's bench, and its listing, of at
-// most 65,536 bytes, to standard output. It is a loop over the proved command: of its own functions only safety is proved.
-mod carrying;
-mod entries;
-mod texts;
-mod writing;
-
+// most 65,536 bytes, to standard output.
 fn main() {
     let mut text = [0; 16385];
     let got = io::read_full(0, &mut text);
     let mut list = io::large_buffer();
-    let written = texts::run_text(&text[..got], &mut list);
+    let written = moir_run::texts::run_text(&text[..got], false, &mut list);
     print(&list, written);
 }
 

@@ -22,9 +22,11 @@ const USAGE: &str = "usage:
   witness compare-fractions PROGRAM SEED COUNT DIR
   witness bench-listing KIND N W
   witness moir-run
+  witness moir-trace
   witness moir-generate SEED COUNT DIR
   witness moir-cover DIR
   witness moir-compare PROGRAM DIR
+  witness moir-compare-trace PROGRAM DIR
   witness moir-history SEED COUNT
 run, trace and history take --wrong READING too: line9, line10, line14,
 lines67 or modn";

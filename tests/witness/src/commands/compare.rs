@@ -25,6 +25,11 @@ pub fn compare_moir(program: &str, dir: &str) -> Result<u8, String> {
     against(program, dir, "listings", |text| moir::listing_of(text).0)
 }
 
+/// Traces of Moir's bench.
+pub fn compare_moir_trace(program: &str, dir: &str) -> Result<u8, String> {
+    against(program, dir, "traces", moir::trace_of)
+}
+
 fn against(
     program: &str,
     dir: &str,

@@ -39,9 +39,11 @@ pub fn dispatch(words: &[String]) -> Result<u8, String> {
             wrong::counterexample(number(seed)?, number(tries)?, wrong.ok_or(NO_READING)?)
         }
         ["moir-run"] => moir::run(),
+        ["moir-trace"] => moir::trace(),
         ["moir-generate", seed, count, dir] => moir::generate(number(seed)?, number(count)?, dir),
         ["moir-cover", dir] => moir::cover(dir),
         ["moir-compare", program, dir] => compare::compare_moir(program, dir),
+        ["moir-compare-trace", program, dir] => compare::compare_moir_trace(program, dir),
         ["moir-history", seed, count] => moir::history(number(seed)?, number(count)?),
         ["bench-text", kind, n, w] => {
             let text = bench_text(kind, number(n)?, number(w)?)?;

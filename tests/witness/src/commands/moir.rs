@@ -6,13 +6,18 @@ use std::path::Path;
 
 use super::files::{read_text, texts_in};
 use super::run::{print, text_given};
-use crate::moir::{self, listing_of, record, served, within_bound, TAGS};
+use crate::moir::{self, listing_of, record, served, trace_of, within_bound, TAGS};
 use crate::rng::Rng;
 use crate::texts;
 
 /// `witness moir-run`.
 pub fn run() -> Result<u8, String> {
     print(&listing_of(&text_given()?).0)
+}
+
+/// `witness moir-trace`.
+pub fn trace() -> Result<u8, String> {
+    print(&trace_of(&text_given()?))
 }
 
 /// `witness moir-generate SEED COUNT DIR`: in turn a text of the first bench

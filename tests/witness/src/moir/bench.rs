@@ -19,6 +19,18 @@ pub(super) struct Segment {
     pub val: u64,
 }
 
+impl std::fmt::Display for Header {
+    fn fmt(&self, f: &mut std::fmt::Formatter) -> std::fmt::Result {
+        write!(f, "{} {}", self.tag, self.pid)
+    }
+}
+
+impl std::fmt::Display for Segment {
+    fn fmt(&self, f: &mut std::fmt::Formatter) -> std::fmt::Result {
+        write!(f, "{} {}", self.tag, self.val)
+    }
+}
+
 /// The line whose access comes next. Copy has one set of lines; whose Copy
 /// it is stands in `Process::storing`.
 #[derive(Clone, Copy, PartialEq, Eq, Debug)]
@@ -62,6 +74,8 @@ pub struct Bench {
     pub(super) processes: Vec<Process>,
     pub(super) wrong: Option<Wrong>,
     pub(super) reached: BTreeMap<&'static str, u64>,
+    /// The line and the access of the last step, as a trace shows them.
+    pub(super) seen: String,
     successes: u64,
 }
 
@@ -91,6 +105,7 @@ impl Bench {
             processes: (0..n).map(|_| idle(w)).collect(),
             wrong: None,
             reached: BTreeMap::new(),
+            seen: String::new(),
             successes: 0,
         })
     }
@@ -131,6 +146,10 @@ impl Bench {
     pub fn has_stored(&self, p: usize) -> bool {
         let me = &self.processes[p];
         me.storing && !matches!(me.line, Line::Idle | Line::L14 | Line::L17 | Line::L19)
+    }
+
+    pub fn seen(&self) -> &str {
+        &self.seen
     }
 
     /// What happened, and how often.

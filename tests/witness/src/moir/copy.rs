@@ -24,6 +24,7 @@ impl Bench {
         let me = &mut self.processes[p];
         let hdr = if me.storing { me.newhdr } else { me.x };
         me.y = self.data[me.i];
+        self.seen = format!("2 data[{}] read {}", me.i, me.y);
         let before = (hdr.tag + self.tags - 1) % self.tags;
         let stale = if any_other {
             me.y.tag != hdr.tag
@@ -40,6 +41,7 @@ impl Bench {
             tag: hdr.tag,
             val: self.a[hdr.pid][me.i],
         };
+        self.seen = format!("4 A[{}][{}] read {}", hdr.pid, me.i, me.z.val);
         me.line = Line::L5;
     }
 
@@ -48,6 +50,7 @@ impl Bench {
         let printed = self.reads(Wrong::PrintedLine6);
         let me = &mut self.processes[p];
         let done = self.data[me.i] == me.y || plain;
+        self.seen = format!("5 data[{}] CAS {} {} {done}", me.i, me.y, me.z);
         if done {
             self.data[me.i] = me.z;
         }
@@ -69,6 +72,7 @@ impl Bench {
     fn line6(&mut self, p: usize) {
         let me = &mut self.processes[p];
         me.y = self.data[me.i];
+        self.seen = format!("6 data[{}] read {}", me.i, me.y);
         me.line = Line::L7;
         if me.y != me.z {
             self.note("the second read finds another word than A's");
@@ -81,6 +85,7 @@ impl Bench {
         let me = &mut self.processes[p];
         let hdr = if me.storing { me.newhdr } else { me.x };
         let h = self.hdr;
+        self.seen = format!("7 hdr read {h}");
         let storing = me.storing;
         if h != hdr && !unseen {
             self.note(match storing {

@@ -14,6 +14,6 @@ mod wrong;
 pub use bench::{Bench, TAGS};
 pub use command::{Answer, Reply};
 pub use history::{record, served, within_bound, Call, History, Outcome};
-pub use run::listing_of;
+pub use run::{listing_of, trace_of};
 pub use texts::{limit_texts, text};
 pub use wrong::Wrong;

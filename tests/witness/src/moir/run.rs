@@ -1,4 +1,5 @@
-//! A schedule text on Moir's bench, with 01's notation, limits and listing.
+//! A schedule text on Moir's bench, with 01's notation, limits and listing,
+//! or with a trace in the style of the first bench's.
 //! A WLL that names a process has the letter N and that process's number.
 //! `!` makes steps until the call answers; there is no row 13 here.
 
@@ -7,16 +8,27 @@ use std::collections::BTreeMap;
 use super::bench::{Bench, TAGS};
 use super::command::{Answer, Reply};
 use crate::machine::Order;
-use crate::schedule::{parse, Item, Schedule, ENTRY_LIMIT, LISTING, TEXT_LIMIT};
+use crate::schedule::{parse, Form, Item, Schedule, ENTRY_LIMIT, LISTING, TEXT_LIMIT, TRACE};
 
 /// The listing, and what the run reached.
 pub fn listing_of(text: &[u8]) -> (Vec<u8>, BTreeMap<&'static str, u64>) {
+    written(text, &LISTING, false)
+}
+
+pub fn trace_of(text: &[u8]) -> Vec<u8> {
+    written(text, &TRACE, true).0
+}
+
+/// Of the form only its room is asked.
+fn written(text: &[u8], form: &Form, traced: bool) -> (Vec<u8>, BTreeMap<&'static str, u64>) {
     let mut lines = String::new();
     let (number, entries, mut reached) = match prepare(text) {
         Err(number) => (number, 0, BTreeMap::new()),
         Ok((bench, schedule)) => {
             let mut run = Run {
                 bench,
+                form,
+                traced,
                 lines: &mut lines,
                 entries: 0,
             };
@@ -61,6 +73,8 @@ fn prepare(text: &[u8]) -> Result<(Bench, Schedule), u8> {
 
 struct Run<'a> {
     bench: Bench,
+    form: &'a Form,
+    traced: bool,
     lines: &'a mut String,
     entries: u64,
 }
@@ -91,15 +105,30 @@ impl Run<'_> {
         if self.entries == ENTRY_LIMIT {
             return Err(12);
         }
-        if LISTING.lent - self.lines.len() < LISTING.room {
+        if self.form.lent - self.lines.len() < self.form.room {
             return Err(14);
         }
         let answer = self.bench.command(p, order)?;
         self.entries += 1;
+        if self.traced {
+            self.trace(p, order, answer.is_some());
+        }
         if let Some(answer) = &answer {
             self.lines.push_str(&line(answer));
         }
         Ok(answer)
+    }
+
+    fn trace(&mut self, p: u64, order: &Order, answered: bool) {
+        let done = match order {
+            Order::Load => "start L".to_string(),
+            Order::Store(words) => format!("start S {}", words[0]),
+            Order::Validate => "start V".to_string(),
+            Order::Step => self.bench.seen().to_string(),
+        };
+        let end = if answered { " answers " } else { "\n" };
+        let line = format!("{} {p} {done}{end}", self.entries);
+        self.lines.push_str(&line);
     }
 }
 

@@ -32,6 +32,7 @@ impl Bench {
 
     fn line10(&mut self, p: usize) -> Option<Reply> {
         let me = &mut self.processes[p];
+        self.seen = format!("10 hdr read {}", self.hdr);
         me.x = self.hdr;
         me.keep = me.x.tag;
         me.line = Line::L2;
@@ -39,6 +40,7 @@ impl Bench {
     }
 
     fn line13(&mut self, p: usize) -> Option<Reply> {
+        self.seen = format!("13 hdr read {}", self.hdr);
         let valid = self.hdr.tag == self.processes[p].keep;
         self.note(if valid { "VL true" } else { "VL false" });
         Some(Reply::Validated(valid))
@@ -48,6 +50,7 @@ impl Bench {
     fn line14(&mut self, p: usize) -> Option<Reply> {
         let unlooked = self.reads(Wrong::NoLine15);
         let me = &mut self.processes[p];
+        self.seen = format!("14 hdr read {}", self.hdr);
         me.oldhdr = self.hdr;
         if me.oldhdr.tag != me.keep && !unlooked {
             self.note("SC false at line 15");
@@ -60,6 +63,7 @@ impl Bench {
     /// Lines 16 to 18.
     fn line17(&mut self, p: usize) -> Option<Reply> {
         let me = &mut self.processes[p];
+        self.seen = format!("17 A[{p}][{}] write {}", me.i, me.newval[me.i]);
         self.a[p][me.i] = me.newval[me.i];
         me.i += 1;
         if me.i == self.w {
@@ -75,7 +79,9 @@ impl Bench {
 
     fn line19(&mut self, p: usize) -> Option<Reply> {
         let me = &mut self.processes[p];
-        if self.hdr != me.oldhdr {
+        let done = self.hdr == me.oldhdr;
+        self.seen = format!("19 hdr CAS {} {} {done}", me.oldhdr, me.newhdr);
+        if !done {
             self.note("SC false at line 19");
             return Some(Reply::Stored(false));
         }

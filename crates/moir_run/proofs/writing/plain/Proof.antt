@@ -1,11 +1,11 @@
--- `moir::writing::plain` is safe: it goes through the bytes once.
+-- `moir_run::writing::plain` is safe: it goes through the bytes once.
 -- Assumes nothing.
 use mathlib.Core.Path.{_≡_}
 use Prim.Native.Nat.{_≤_, _-_}
 use lib.ListN.{length}
 use borrow.Author.Needs.{needs}
-use Rattle.moir.proofs.writing.plain.Statement.{statement}
-use Rattle.moir.proofs.writing.plain.Tie as tie
+use Rattle.moir_run.proofs.writing.plain.Statement.{statement}
+use Rattle.moir_run.proofs.writing.plain.Tie as tie
 
 abbrev Inv-loop : tie.InvT-loop
 Inv-loop list₀ at bytes next₀ i₀ list next i = (i ≤ length bytes) × (length list ≡ length list₀)

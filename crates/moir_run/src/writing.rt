@@ -79,7 +79,7 @@ pub fn words_line(
 }
 
 // Bytes as they stand.
-fn plain(list: &mut [u8], at: usize, bytes: &[u8]) -> usize {
+pub fn plain(list: &mut [u8], at: usize, bytes: &[u8]) -> usize {
     let mut next = at;
     let mut i = 0;
     while i < bytes.len() {

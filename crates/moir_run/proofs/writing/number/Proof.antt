@@ -1,4 +1,4 @@
--- `moir::writing::number` is safe: a machine number has at most 20 digits.
+-- `moir_run::writing::number` is safe: a machine number has at most 20 digits.
 -- Assumes nothing.
 use Prim.Native.Nat.{_≤_}
 use native.Mathlib.Omega.{arith}
@@ -6,8 +6,8 @@ use lib.ListN.{length}
 use Rattle.listing.specs.Decimal.{decimal, tens}
 use Rattle.listing.proofs.DecimalLaws.{at-most}
 use borrow.Author.Needs.{needs}
-use Rattle.moir.proofs.writing.number.Statement.{statement}
-use Rattle.moir.proofs.writing.number.Tie as tie
+use Rattle.moir_run.proofs.writing.number.Statement.{statement}
+use Rattle.moir_run.proofs.writing.number.Tie as tie
 
 returns : tie.Need-returns
 returns c = search needs

@@ -1,11 +1,11 @@
--- `moir::writing::words_line` is safe: it goes through the words once.
+-- `moir_run::writing::words_line` is safe: it goes through the words once.
 -- Assumes nothing.
 use mathlib.Core.Path.{_≡_}
 use Prim.Native.Nat.{_≤_, _-_}
 use lib.ListN.{length}
 use borrow.Author.Needs.{needs}
-use Rattle.moir.proofs.writing.words_line.Statement.{statement}
-use Rattle.moir.proofs.writing.words_line.Tie as tie
+use Rattle.moir_run.proofs.writing.words_line.Statement.{statement}
+use Rattle.moir_run.proofs.writing.words_line.Tie as tie
 
 abbrev Inv-loop : tie.InvT-loop
 Inv-loop list₀ at p count words from w next₀ i₀ list next i = (i ≤ w) × (length list ≡ length list₀)

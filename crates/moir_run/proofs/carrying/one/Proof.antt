@@ -1,10 +1,10 @@
--- `moir::carrying::one` is safe: at most 64 words are passed on.
+-- `moir_run::carrying::one` is safe: at most 64 words are passed on.
 -- Assumes nothing.
 use mathlib.Core.Path.{sym}
 use lib.Seq.{length-take-le}
 use borrow.Author.Needs.{needs}
-use Rattle.moir.proofs.carrying.one.Statement.{statement}
-use Rattle.moir.proofs.carrying.one.Tie as tie
+use Rattle.moir_run.proofs.carrying.one.Statement.{statement}
+use Rattle.moir_run.proofs.carrying.one.Tie as tie
 
 process-of-requires : tie.Need-process-of-requires
 process-of-requires c κs = search needs
@@ -18,11 +18,17 @@ value-of-requires c κs = search needs
 wide-requires : tie.Need-wide-requires
 wide-requires c κs = search needs
 
+own-requires : tie.Need-own-requires
+own-requires c κs = search needs
+
+word-seen-requires : tie.Need-word-seen-requires
+word-seen-requires c κs = search needs
+
 array-share-prefix-value : tie.Need-array-share-prefix-value
 array-share-prefix-value c = search needs
 
 slice-aggregate-decide : tie.Need-slice-aggregate-decide
-slice-aggregate-decide c = sym (length-take-le _ _ (c .before .wide .ensures))
+slice-aggregate-decide c = sym (length-take-le _ _ (c .before .before .before .before .wide .ensures))
 
 decide-requires : tie.Need-decide-requires
 decide-requires c κs = search needs
@@ -47,6 +53,8 @@ one-spec =
     order-of-requires
     value-of-requires
     wide-requires
+    own-requires
+    word-seen-requires
     array-share-prefix-value
     slice-aggregate-decide
     decide-requires

@@ -1,10 +1,10 @@
--- `moir::texts::started` is safe: at most 64 words are passed on.
+-- `moir_run::texts::started` is safe: at most 64 words are passed on.
 -- Assumes nothing.
 use mathlib.Core.Path.{sym}
 use lib.Seq.{length-take-le}
 use borrow.Author.Needs.{needs}
-use Rattle.moir.proofs.texts.started.Statement.{statement}
-use Rattle.moir.proofs.texts.started.Tie as tie
+use Rattle.moir_run.proofs.texts.started.Statement.{statement}
+use Rattle.moir_run.proofs.texts.started.Tie as tie
 
 fresh-requires : tie.Need-fresh-requires
 fresh-requires c κs = search needs

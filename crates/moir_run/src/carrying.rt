@@ -1,6 +1,7 @@
 // The entries of a text, one after the other, on the bench and the records that the run holds.
 ghost use Prim.Native.Nat.{_≤_};
 use crate::entries;
+use crate::tracing;
 use crate::writing;
 use model::ProcessNumber;
 use moir_lines::points;
@@ -17,17 +18,29 @@ pub const MOST_ENTRIES: usize = 60000;
 
 pub const LISTING_ROOM: usize = 744;
 
+pub const TRACE_ROOM: usize = 872;
+
 pub const TOO_MUCH: u8 = 12;
 
 pub const NO_ROOM: u8 = 14;
 
-// A run: bench and records, where the listing goes on, the entries done, and the number that stopped it, 0 for none.
+// A run: bench and records, where the listing or the trace goes on, the entries done, the number that stopped it, 0 for
+// none, and whether it is traced.
 pub struct Run {
     pub bench: Bench,
     pub all: Records,
     pub written: usize,
     pub done: usize,
     pub stop: u8,
+    pub traced: bool,
+}
+
+// The bytes that must be left before an entry.
+pub fn room(traced: bool) -> usize {
+    if traced {
+        return TRACE_ROOM;
+    }
+    LISTING_ROOM
 }
 
 // 1 for true, 0 for false.
@@ -108,22 +121,94 @@ fn stored(all: Records, at: usize, process: Process) -> Records {
     all
 }
 
-// The run after a command: refused, or with its answer's line.
-fn after(run: Run, out: Outcome, p: u64, list: &mut [u8], words: &[u64]) -> Run {
-    let reply = out.reply;
-    let number = moir_model::number_of(reply);
-    let mut next = run;
-    next.stop = number;
-    if number != 0 {
-        return next;
+// The number of the entry after `done` of them.
+fn following(done: usize) -> usize {
+    if done < MOST_ENTRIES {
+        return done + 1;
     }
+    done
+}
+
+// Whether a reply is an answer.
+fn answers(reply: Reply) -> bool {
+    match reply {
+        Reply::Refused(_) => false,
+        Reply::Accepted => false,
+        Reply::WllAnswered(_) => true,
+        Reply::WllNamed(_, _) => true,
+        Reply::ScAnswered(_, _) => true,
+        Reply::VlAnswered(_, _) => true,
+    }
+}
+
+// What stands between a trace's own part of a line and the answer, or the line's end.
+fn joint(list: &mut [u8], at: usize, reply: Reply) -> usize {
+    if answers(reply) {
+        return writing::plain(list, at, b" answers ");
+    }
+    writing::put(list, at, b'\n')
+}
+
+// A trace's own part of the line of an entry that was accepted.
+fn traced_part(
+    list: &mut [u8],
+    run: Run,
+    e: Entry,
+    process: Process,
+    word: u64,
+    reply: Reply,
+) -> usize {
+    let p = entries::process_of(e);
+    let number = following(run.done) as u64;
+    if !run.traced {
+        return run.written;
+    }
+    let at = tracing::entry(list, run.written, number, p, e, run.bench, process, word);
+    joint(list, at, reply)
+}
+
+// The run after a command that was accepted, its record stored and its line written.
+fn accepted(run: Run, out: Outcome, p: u64, at: usize, list: &mut [u8], words: &[u64]) -> Run {
+    let reply = out.reply;
     let bench = out.bench;
     let all = stored(run.all, out.at, out.process);
-    let written = answer_line(list, run.written, bench, p, reply, words);
+    let written = answer_line(list, at, bench, p, reply, words);
+    let done = following(run.done);
+    let mut next = run;
     next.bench = bench;
     next.all = all;
     next.written = written;
+    next.done = done;
     next
+}
+
+// The run after a command: refused, or with its line. The process and the word are those before it.
+fn after(
+    run: Run,
+    out: Outcome,
+    e: Entry,
+    process: Process,
+    word: u64,
+    list: &mut [u8],
+    words: &[u64],
+) -> Run {
+    let reply = out.reply;
+    let number = moir_model::number_of(reply);
+    if number != 0 {
+        let mut ended = run;
+        ended.stop = number;
+        return ended;
+    }
+    let at = traced_part(list, run, e, process, word, reply);
+    accepted(run, out, entries::process_of(e), at, list, words)
+}
+
+// The record of process p before an entry; of another number that of process 0.
+fn own(all: Records, p: u64) -> Process {
+    if p > 15 {
+        return records::record_at(all, ProcessNumber(0));
+    }
+    records::record_at(all, ProcessNumber(p as u8))
 }
 
 // How many words a value brings: as many as W, if that is in its range.
@@ -142,6 +227,8 @@ fn one(run: Run, e: Entry, list: &mut [u8], words: &mut [u64]) -> Run {
     let order = entries::order_of(e);
     let value = [entries::value_of(e); 64];
     let w = wide(run.bench.w);
+    let process = own(run.all, p);
+    let word = tracing::word_seen(run.bench, p, process, words);
     let out = moir_machine::decide(
         run.bench,
         run.all,
@@ -151,7 +238,7 @@ fn one(run: Run, e: Entry, list: &mut [u8], words: &mut [u64]) -> Run {
         &value[..w],
         words,
     );
-    after(run, out, p, list, words)
+    after(run, out, e, process, word, list, words)
 }
 
 // Whether process p's call is still open, and the entry is `!`.
@@ -169,11 +256,11 @@ fn stays(run: Run, e: Entry) -> bool {
 }
 
 // "before each entry 12, then 14": the number that stops the run here, 0 for none.
-fn stop_before(done: usize, room: usize) -> u8 {
+fn stop_before(done: usize, left: usize, traced: bool) -> u8 {
     if done >= MOST_ENTRIES {
         return TOO_MUCH;
     }
-    if room < LISTING_ROOM {
+    if left < room(traced) {
         return NO_ROOM;
     }
     0
@@ -189,20 +276,14 @@ fn room_left(len: usize, written: usize) -> usize {
 
 // One entry more, or the number that stops the run before it.
 fn turned(run: Run, e: Entry, list: &mut [u8], words: &mut [u64]) -> Run {
-    let room = room_left(list.len(), run.written);
-    let stop = stop_before(run.done, room);
+    let left = room_left(list.len(), run.written);
+    let stop = stop_before(run.done, left, run.traced);
     if stop != 0 {
         let mut ended = run;
         ended.stop = stop;
         return ended;
     }
-    let mut next = one(run, e, list, words);
-    if next.stop == 0 {
-        if next.done < MOST_ENTRIES {
-            next.done += 1;
-        }
-    }
-    next
+    one(run, e, list, words)
 }
 
 // The entries of the list, up to `count`; `!` stays at its place in the list until its call answers.

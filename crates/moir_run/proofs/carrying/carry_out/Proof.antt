@@ -1,11 +1,11 @@
--- `moir::carrying::carry_out` is safe: each turn counts `left` down.
+-- `moir_run::carrying::carry_out` is safe: each turn counts `left` down.
 -- Assumes nothing.
 use mathlib.Core.Path.{_≡_}
 use Prim.Native.Nat.{_+_, _≤_}
 use lib.ListN.{length}
 use borrow.Author.Needs.{needs}
-use Rattle.moir.proofs.carrying.carry_out.Statement.{statement}
-use Rattle.moir.proofs.carrying.carry_out.Tie as tie
+use Rattle.moir_run.proofs.carrying.carry_out.Statement.{statement}
+use Rattle.moir_run.proofs.carrying.carry_out.Tie as tie
 
 abbrev Inv-loop : tie.InvT-loop
 Inv-loop kept count list₀ words₀ next₀ at₀ left₀ list words next at left = (at + left ≤ 60001) × ((length list ≡ length list₀) × (length words ≡ length words₀))

@@ -15,7 +15,7 @@ pub const DEEPEST: usize = 8;
 pub const TEXT_BROKEN: u8 = 10;
 
 // A run before its set-up.
-fn fresh(number: u8) -> Run {
+fn fresh(number: u8, traced: bool) -> Run {
     let all = moir_rows::records::records_of(moir_rows::records::no_process());
     Run {
         bench: moir_model::empty_bench(),
@@ -23,6 +23,7 @@ fn fresh(number: u8) -> Run {
         written: 0,
         done: 0,
         stop: number,
+        traced,
     }
 }
 
@@ -32,10 +33,18 @@ fn ended(run: Run, list: &mut [u8]) -> usize {
 }
 
 // The set-up, and the entries.
-fn started(n: u64, w: u64, initial: u64, kept: &[u64], count: usize, list: &mut [u8]) -> Run {
+fn started(
+    n: u64,
+    w: u64,
+    initial: u64,
+    kept: &[u64],
+    count: usize,
+    traced: bool,
+    list: &mut [u8],
+) -> Run {
     let mut words = [0; 3136];
     let value = [initial; 64];
-    let mut run = fresh(0);
+    let mut run = fresh(0, traced);
     let k = carrying::wide(w as usize);
     let out = setup::prepare(
         run.bench,
@@ -56,35 +65,43 @@ fn started(n: u64, w: u64, initial: u64, kept: &[u64], count: usize, list: &mut 
 }
 
 // The items, read once into the list of their entries.
-fn checked(n: u64, w: u64, initial: u64, items: usize, text: &[u8], list: &mut [u8]) -> Run {
+fn checked(
+    n: u64,
+    w: u64,
+    initial: u64,
+    items: usize,
+    text: &[u8],
+    traced: bool,
+    list: &mut [u8],
+) -> Run {
     let mut entries = [0; 60001];
     if text.len() > LONGEST_TEXT {
-        return fresh(carrying::TOO_MUCH);
+        return fresh(carrying::TOO_MUCH, traced);
     }
     if items > text.len() {
-        return fresh(TEXT_BROKEN);
+        return fresh(TEXT_BROKEN, traced);
     }
     let read = items::read_items(text, items, DEEPEST, &mut entries, 0);
     match read {
-        Items::Broken(k, _) => fresh(k),
-        Items::Closed(_, _) => fresh(TEXT_BROKEN),
-        Items::Ended(count) => started(n, w, initial, &entries, count, list),
+        Items::Broken(k, _) => fresh(k, traced),
+        Items::Closed(_, _) => fresh(TEXT_BROKEN, traced),
+        Items::Ended(count) => started(n, w, initial, &entries, count, traced, list),
     }
 }
 
-// The bytes of the listing that were written.
-pub fn run_text(text: &[u8], list: &mut [u8]) -> usize {
-    if list.len() < carrying::LISTING_ROOM {
+// The bytes that were written, of the listing or of the trace.
+pub fn run_text(text: &[u8], traced: bool, list: &mut [u8]) -> usize {
+    if list.len() < carrying::room(traced) {
         return 0;
     }
     if text.len() > LONGEST_TEXT {
-        return ended(fresh(carrying::TOO_MUCH), list);
+        return ended(fresh(carrying::TOO_MUCH, traced), list);
     }
     let header = notation::first_line(text);
     match header {
-        Header::NoFirst(_) => ended(fresh(TEXT_BROKEN), list),
+        Header::NoFirst(_) => ended(fresh(TEXT_BROKEN, traced), list),
         Header::First(n, w, initial, items) => {
-            let run = checked(n, w, initial, items, text, list);
+            let run = checked(n, w, initial, items, text, traced, list);
             ended(run, list)
         }
     }
