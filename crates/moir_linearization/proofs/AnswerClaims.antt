@@ -23,7 +23,8 @@ module _ (M W : ℕ) (ES : List Event) where
   abbrev S : ℕ → ℕ
   S = successesUpTo ES
 
-  module _ (m : ℕ) (s : State) (p : ℕ) (k : Known) (num : SharedNumbers M W (suc m) (s .sh)) (count : S m ≡ s .sh .successes) (since : S (k .wll) ≡ s .loc p .startVersion)
+  module _ (m : ℕ) (s : State) (p : ℕ) (k : Known) (num : SharedNumbers M W (suc m) (s .sh))
+      (count : S m ≡ s .sh .successes) (read : S (k .read) ≡ s .loc p .readVersion)
       (winner : 0 < s .sh .wonAt → WonFrom 1 ES (s .sh .pid) (s .sh .wonAt)) where
     abbrev l : Local
     l = s .loc p
@@ -39,8 +40,8 @@ module _ (M W : ℕ) (ES : List Event) where
       pub cause : FalseWithCause ES (called k (l .count + 1) z)
 
     -- an old version was read: a success lies between
-    old : l .startVersion ≤ l .readVersion → l .readVersion ≤ h .successes → (l .readVersion ≡ h .successes → ⊥) → S (k .wll) < S n
-    old a b ne = let g = growing ES 1 m n (omega arith) in omega (arith, ne)
+    old : l .readVersion ≤ h .successes → (l .readVersion ≡ h .successes → ⊥) → S (k .read) < S n
+    old b ne = let g = growing ES 1 m n (omega arith) in omega (arith, ne)
 
     named : ProcessNumbers M W n ll7 h p l → eqPair (h .tag) (h .pid) (l .xTag) (l .xPid) ≡ false → Wrote ES (h .pid) (l .start) n
     named a f =
@@ -63,11 +64,11 @@ module _ (M W : ℕ) (ES : List Event) where
         (λ _. by-test (All Told) (ltb (suc (l .word)) W) (λ _. tt) (λ _. quietly _ tt tt)) (λ f. quietly _ (named a f) tt)
     told-at sc14 a =
         by-test (All Told) (eqb (h .tag) (l .keep)) (λ _. tt)
-        (λ f. quietly _ tt (λ _. old (a .begun-read) (a .read-made) (λ r. eqb-false _ _ f (back-keep M W n h p l num sc14 a r))))
+        (λ f. quietly _ tt (λ _. old (a .read-made) (λ r. eqb-false _ _ f (back-keep M W n h p l num sc14 a r))))
     told-at sc17 a = tt
     told-at sc19 a =
         by-test (All Told) (eqPair (h .tag) (h .pid) (l .oldTag) (l .oldPid)) (λ _. tt)
-        (λ f. quietly _ tt (λ _. old (a .begun-read) (a .read-made) (λ r. contra (back-sc19 M W n h p l num a r) f)))
+        (λ f. quietly _ tt (λ _. old (a .read-made) (λ r. contra (back-sc19 M W n h p l num a r) f)))
     told-at sc2 a = tt
     told-at sc4 a = tt
     told-at sc5 a = tt
@@ -75,7 +76,7 @@ module _ (M W : ℕ) (ES : List Event) where
     told-at sc7 a =
         let z = quietly (scCall W p true n l) tt (λ e. absurd (contra refl e)) in
         by-test (All Told) (eqPair (h .tag) (h .pid) (l .newTag) (l .newPid)) (λ _. by-test (All Told) (ltb (suc (l .word)) W) (λ _. tt) (λ _. z)) (λ _. z)
-    told-at vl13 a = quietly _ tt (λ f. old (a .begun-read) (a .read-made) (λ r. eqb-false _ _ f (back-keep M W n h p l num vl13 a r)))
+    told-at vl13 a = quietly _ tt (λ f. old (a .read-made) (λ r. eqb-false _ _ f (back-keep M W n h p l num vl13 a r)))
 
   -- the calls left open
   pub opens-counted : (y : Point) (q : ℕ) (k : Known) (l : Local) (d : ℕ) → l .count < mostAt W y → All (Counted W) (openOf q k (slotOf W y l d))

@@ -55,7 +55,8 @@ late a o i r l = cond a 4 (cond (bringsValue o && not l) 8 (cond (isStart o && n
 
 late-sound : (a : Bool) (o : Order) (i r l : Bool) → NotLentMemory (late a o i r l)
 late-sound a o i r l =
-    by-test NotLentMemory a (λ _. is 4 tt) (λ _. by-test NotLentMemory (bringsValue o && not l) (λ _. is 8 tt) (λ _. by-test NotLentMemory (isStart o && not i) (λ _. is 5 tt)
+    by-test NotLentMemory a (λ _. is 4 tt) (λ _. by-test NotLentMemory (bringsValue o && not l) (λ _. is 8 tt)
+    (λ _. by-test NotLentMemory (isStart o && not i) (λ _. is 5 tt)
     (λ _. by-test NotLentMemory (not (isStart o) && i) (λ _. is 6 tt) (λ _. by-test NotLentMemory (needsLl o && not r) (λ _. is 7 tt) (λ _. is 0 tt)))))
   where
     is : (k : ℕ) → T (not (eqb k 1 || (eqb k 2 || (eqb k 3 || eqb k 9)))) → NotLentMemory k
@@ -79,7 +80,9 @@ module _ (N W n : ℕ) (hW : 0 < W) (m : Memory) (s : State) (r : Related N W m 
   h = s .sh
 
   -- rows 1, 2, 3 and 9 do not hold
-  refusal-late : (p : ℕ) (o : Order) (v : List ℕ) → refusal m p o v ≡ late (leb N p) o (F.isIdle (recordAt (m .records) (record { 0 = p }))) (recordAt (m .records) (record { 0 = p }) .answered) (eqb (length v) W)
+  refusal-late : (p : ℕ) (o : Order) (v : List ℕ) → refusal m p o v ≡ late (leb N p) o
+      (F.isIdle (recordAt (m .records) (record { 0 = p }))) (recordAt (m .records) (record { 0 = p }) .answered)
+      (eqb (length v) W)
   unfolding refusal
   refusal-late p o v =
       let z = r .sizes in let a : leb 1 N ≡ true = le-leb 1 N (z .n-low) in let b : leb 1 W ≡ true = le-leb 1 W (z .w-low) in
@@ -88,7 +91,9 @@ module _ (N W n : ℕ) (hW : 0 < W) (m : Memory) (s : State) (r : Related N W m 
       ∙ skip _ _ _ (ap₂ _||_ (le-ltb (length (m .words)) ((3 * N + 1) * W) (r .words .len)) (le-ltb (length (m .records)) N (r .records-length))))
 
   pub refusal-sound : (p : ℕ) (o : Order) (v : List ℕ) → NotLentMemory (refusal m p o v)
-  refusal-sound p o v = rw (refusal-late p o v) (late-sound (leb N p) o (F.isIdle (recordAt (m .records) (record { 0 = p }))) (recordAt (m .records) (record { 0 = p }) .answered) (eqb (length v) W))
+  refusal-sound p o v = rw (refusal-late p o v)
+      (late-sound (leb N p) o (F.isIdle (recordAt (m .records) (record { 0 = p })))
+      (recordAt (m .records) (record { 0 = p }) .answered) (eqb (length v) W))
 
   module _ (p : ℕ) where
     abbrev me : ProcessNumber
@@ -112,7 +117,9 @@ module _ (N W n : ℕ) (hW : 0 < W) (m : Memory) (s : State) (r : Related N W m 
     obeys o v e = ap (λ b. cond b (obeyed m me o v) (Refused (refusal m p o v), m)) (eq-eqb _ 0 e)
 
     -- refused with k, on both sides
-    refused-case : (o : Order) (v : List ℕ) (k : ℕ) → (k ≡ 0 → ⊥) → refusal m p o v ≡ k → says N tagValues W n (ordered W p o v) s ≡ refused k → exec N tagValues W n (ordered W p o v) s ≡ s → Followed o v
+    refused-case : (o : Order) (v : List ℕ) (k : ℕ) → (k ≡ 0 → ⊥) → refusal m p o v ≡ k
+        → says N tagValues W n (ordered W p o v) s ≡ refused k → exec N tagValues W n (ordered W p o v) s ≡ s
+        → Followed o v
     refused-case o v k ne e es ex =
         rw (refuses o v k ne e, es, ex)
         (record { said = refl; related = r; won = same-changes (m .bench .header .tag) (m .bench .header .pid .0) ∙ sym (no-win (copying (s .loc p .point))) })
@@ -153,7 +160,9 @@ module _ (N W n : ℕ) (hW : 0 < W) (m : Memory) (s : State) (r : Related N W m 
           ∙ ap (λ q. late false o (F.isIdle q) (q .answered) (eqb (length v) W)) rec-is
 
       -- p's record set, the others' as they were
-      records : (q′ : Process) (u : State) → q′ ≡ recordOf (u .loc p) → ((q : ℕ) → (q ≡ p → ⊥) → u .loc q ≡ s .loc q) → (q : ℕ) → q < N → getD (set (m .records) p q′) q noProcess ≡ recordOf (u .loc q)
+      records : (q′ : Process) (u : State) → q′ ≡ recordOf (u .loc p)
+          → ((q : ℕ) → (q ≡ p → ⊥) → u .loc q ≡ s .loc q) → (q : ℕ) → q < N
+          → getD (set (m .records) p q′) q noProcess ≡ recordOf (u .loc q)
       records q′ u e f q hq = go (split q p)
         where
           go : Split q p → getD (set (m .records) p q′) q noProcess ≡ recordOf (u .loc q)
@@ -165,8 +174,16 @@ module _ (N W n : ℕ) (hW : 0 < W) (m : Memory) (s : State) (r : Related N W m 
 
       -- a start that is accepted
       start-follows : (y : Point) (v : ℕ) (w : ℕ → ℕ) (ws : List ℕ) → copying y ≡ false → l .point ≡ idle
-          → WordsLike N W ws (h .rows) (h .segVal) (λ q. started N tagValues W n p y v w s .loc q .returned) (λ q. started N tagValues W n p y v w s .loc q .offered)
-          → Follows (putBack m me (record { bench = m .bench; process = Q.begin y (recordAt (m .records) me); reply = Accepted }, ws)) accepted (started N tagValues W n p y v w s)
+          → WordsLike N W ws (h .rows) (h .segVal) (λ q. started N tagValues W n p y v w s .loc q .returned)
+          (λ q. started N tagValues W n p y v w s .loc q .offered)
+          → Follows (putBack m me (
+            record {
+              bench = m .bench;
+              process = Q.begin y (recordAt (m .records) me);
+              reply = Accepted;
+            },
+            ws,
+          )) accepted (started N tagValues W n p y v w s)
       start-follows y v w ws ey ei wl =
           let e : upd (s .loc) p (begin y n v w l) p ≡ begin y n v w l = upd-same (s .loc) p (begin y n v w l) in
           record {
@@ -184,23 +201,31 @@ module _ (N W n : ℕ) (hW : 0 < W) (m : Memory) (s : State) (r : Related N W m 
           }
 
       -- the areas at a start
-      area-left : {A : Type 0} (F : Local → A) (y : Point) (v : ℕ) (w : ℕ → ℕ) → F (begin y n v w l) ≡ F l → (q : ℕ) → F (started N tagValues W n p y v w s .loc q) ≡ F (s .loc q)
+      area-left : {A : Type 0} (F : Local → A) (y : Point) (v : ℕ) (w : ℕ → ℕ) → F (begin y n v w l) ≡ F l → (q : ℕ)
+          → F (started N tagValues W n p y v w s .loc q) ≡ F (s .loc q)
       area-left F y v w e q = go (split q p)
         where
           go : Split q p → F (started N tagValues W n p y v w s .loc q) ≡ F (s .loc q)
           go (same z) = rw z (ap F (upd-same (s .loc) p (begin y n v w l)) ∙ e)
           go (other ne) = ap F (upd-other (s .loc) p q _ ne)
 
-      same-words : (y : Point) (v : ℕ) → WordsLike N W (m .words) (h .rows) (h .segVal) (λ q. started N tagValues W n p y v (l .offered) s .loc q .returned) (λ q. started N tagValues W n p y v (l .offered) s .loc q .offered)
-      same-words y v = words-same N W _ _ _ _ _ (r .words) _ _ (area-left (λ (x : Local). x .returned) y v _ refl) (area-left (λ (x : Local). x .offered) y v _ refl)
+      same-words : (y : Point) (v : ℕ) → WordsLike N W (m .words) (h .rows) (h .segVal)
+          (λ q. started N tagValues W n p y v (l .offered) s .loc q .returned)
+          (λ q. started N tagValues W n p y v (l .offered) s .loc q .offered)
+      same-words y v = words-same N W _ _ _ _ _ (r .words) _ _ (area-left (λ (x : Local). x .returned) y v _ refl)
+          (area-left (λ (x : Local). x .offered) y v _ refl)
 
       offered-words : (v : List ℕ) → length v ≡ W → (let u = started N tagValues W n p sc14 (l .startVersion) (λ k. getD v k 0) s in
-          WordsLike N W (sets (m .words) ((2 * m .bench .n + 1 + p) * m .bench .w + 0) v) (h .rows) (h .segVal) (λ q. u .loc q .returned) (λ q. u .loc q .offered))
+          WordsLike N W (sets (m .words) ((2 * m .bench .n + 1 + p) * m .bench .w + 0) v) (h .rows) (h .segVal)
+          (λ q. u .loc q .returned) (λ q. u .loc q .offered))
       offered-words v e =
           rw (r .bench .n, r .bench .w)
-          (words-offer N W _ _ _ _ _ (r .words) _ _ p v hp e (area-left (λ (x : Local). x .returned) sc14 _ _ refl) (ap (λ (x : Local). x .offered) (upd-same (s .loc) p _)) (λ q ne. ap (λ (x : Local). x .offered) (upd-other (s .loc) p q _ ne)))
+          (words-offer N W _ _ _ _ _ (r .words) _ _ p v hp e (area-left (λ (x : Local). x .returned) sc14 _ _ refl)
+          (ap (λ (x : Local). x .offered) (upd-same (s .loc) p _))
+          (λ q ne. ap (λ (x : Local). x .offered) (upd-other (s .loc) p q _ ne)))
 
-      start-case : (o : Order) (v : List ℕ) (u : State) → refusal m p o v ≡ 0 → says N tagValues W n (ordered W p o v) s ≡ accepted → exec N tagValues W n (ordered W p o v) s ≡ u
+      start-case : (o : Order) (v : List ℕ) (u : State) → refusal m p o v ≡ 0
+          → says N tagValues W n (ordered W p o v) s ≡ accepted → exec N tagValues W n (ordered W p o v) s ≡ u
           → Follows (obeyed m me o v) accepted u → Followed o v
       start-case o v u k es ex f = rw (obeys o v k, es, ex) f
 
@@ -218,55 +243,87 @@ module _ (N W n : ℕ) (hW : 0 < W) (m : Memory) (s : State) (r : Related N W m 
       unfolding obey
       obey-is v =
           ap₂ (λ b (q : Process). L.stepAt (pointOf (q .line)) me b q (m .words)) bench-is rec-is
-          ∙ ap (λ y. L.stepAt y me (record { n = N; w = W; header = headerOf (h .tag) (h .pid); tags = m .bench .tags }) (recordOf l) (m .words)) (point-of (l .point))
+          ∙ ap (λ y. L.stepAt y me (record {
+            n = N;
+            w = W;
+            header = headerOf (h .tag) (h .pid);
+            tags = m .bench .tags;
+          }) (recordOf l) (m .words)) (point-of (l .point))
 
       abbrev reached : State
       reached = G.stepAt tagValues W (l .point) n p s
 
       step-follows : busy (l .point) ≡ true → Follows (putBack m me stepped) (saidBy (answerAt W (l .point) n p s) (l .count + 1)) reached
       step-follows b =
-          let z = sim N W n (m .bench .tags) (m .words) (set (m .records) p (stepped .0 .process)) s p hp (r .bench .tags-length) (r .bench .tags) (r .words) (l .point) b (i .numbers .each p) (i .ranges .each p) in
+          let z = sim N W n (m .bench .tags) (m .words) (set (m .records) p (stepped .0 .process)) s p hp
+          (r .bench .tags-length) (r .bench .tags) (r .words) (l .point) b (i .numbers .each p)
+          (i .ranges .each p) in
           record {
             said = z .said;
-            related = record { sizes = r .sizes; bench = z .bench; words = z .words; records-length = still-long _; process = records _ reached (z .process) (λ q ne. shape tagValues W n s p (l .point) .others q ne) };
-            won = ap₂ (λ g f. not (sameHeader g f)) (z .bench .header) (r .bench .header) ∙ header-changes tagValues W n (omega arith) s p (l .point) refl (i .numbers .each p) .seen;
+            related = record {
+              sizes = r .sizes;
+              bench = z .bench;
+              words = z .words;
+              records-length = still-long _;
+              process = records _ reached (z .process) (λ q ne. shape tagValues W n s p (l .point) .others q ne);
+            };
+            won = ap₂ (λ g f. not (sameHeader g f)) (z .bench .header) (r .bench .header)
+                ∙ header-changes tagValues W n (omega arith) s p (l .point) refl (i .numbers .each p) .seen;
           }
 
-      step-says : isIdle (l .point) ≡ false → (v : List ℕ) → (says N tagValues W n (ordered W p Step v) s ≡ saidBy (answerAt W (l .point) n p s) (l .count + 1)) × (exec N tagValues W n (ordered W p Step v) s ≡ reached)
+      step-says : isIdle (l .point) ≡ false → (v : List ℕ)
+          → (says N tagValues W n (ordered W p Step v) s ≡ saidBy (answerAt W (l .point) n p s)
+          (l .count + 1)) × (exec N tagValues W n (ordered W p Step v) s ≡ reached)
       unfolding says exec G.step
       step-says ei v = rw (below, ei) (refl, refl)
 
-      idle-says : isIdle (l .point) ≡ true → (v : List ℕ) → (says N tagValues W n (ordered W p Step v) s ≡ refused 6) × (exec N tagValues W n (ordered W p Step v) s ≡ s)
+      idle-says : isIdle (l .point) ≡ true → (v : List ℕ)
+          → (says N tagValues W n (ordered W p Step v) s ≡ refused 6) × (exec N tagValues W n
+          (ordered W p Step v) s ≡ s)
       unfolding says exec G.step G.stepAt
       idle-says ei v = rw (below, ei) (refl, ap (λ y. G.stepAt tagValues W y n p s) (idle-is (l .point) ei))
 
-      by-order : (o : Order) (v : List ℕ) (i a w : Bool) → isIdle (l .point) ≡ i → l .mark ≡ a → eqb (length v) W ≡ w → refusal m p o v ≡ late false o i a w → Followed o v
+      by-order : (o : Order) (v : List ℕ) (i a w : Bool) → isIdle (l .point) ≡ i → l .mark ≡ a
+          → eqb (length v) W ≡ w → refusal m p o v ≡ late false o i a w → Followed o v
       unfolding says exec obey
       by-order StartLl v true a w ei ea ew k =
           let z = no-row ll10 (h .successes) (l .offered) true true below refl ei refl in
-          start-case StartLl v _ k (z .0) (z .1) (start-follows ll10 (h .successes) (l .offered) (m .words) refl (idle-is (l .point) ei) (same-words ll10 (h .successes)))
-      by-order StartLl v false a w ei ea ew k = let z = row-5 ll10 (h .successes) (l .offered) true true below refl ei in refused-case StartLl v 5 (λ e. omega arith) k (z .0) (z .1)
+          start-case StartLl v _ k (z .0) (z .1)
+          (start-follows ll10 (h .successes) (l .offered) (m .words) refl (idle-is (l .point) ei)
+          (same-words ll10 (h .successes)))
+      by-order StartLl v false a w ei ea ew k = let z = row-5 ll10 (h .successes)
+          (l .offered) true true below refl ei in refused-case StartLl v 5 (λ e. omega arith) k (z .0) (z .1)
       by-order StartVl v true true w ei ea ew k =
           let z = no-row vl13 (l .startVersion) (l .offered) true (l .mark) below refl ei ea in
-          start-case StartVl v _ k (z .0) (z .1) (start-follows vl13 (l .startVersion) (l .offered) (m .words) refl (idle-is (l .point) ei) (same-words vl13 (l .startVersion)))
-      by-order StartVl v true false w ei ea ew k = let z = row-7 vl13 (l .startVersion) (l .offered) true (l .mark) below refl ei ea in refused-case StartVl v 7 (λ e. omega arith) k (z .0) (z .1)
-      by-order StartVl v false a w ei ea ew k = let z = row-5 vl13 (l .startVersion) (l .offered) true (l .mark) below refl ei in refused-case StartVl v 5 (λ e. omega arith) k (z .0) (z .1)
+          start-case StartVl v _ k (z .0) (z .1)
+          (start-follows vl13 (l .startVersion) (l .offered) (m .words) refl (idle-is (l .point) ei)
+          (same-words vl13 (l .startVersion)))
+      by-order StartVl v true false w ei ea ew k = let z = row-7 vl13 (l .startVersion) (l .offered) true
+          (l .mark) below refl ei ea in refused-case StartVl v 7 (λ e. omega arith) k (z .0) (z .1)
+      by-order StartVl v false a w ei ea ew k = let z = row-5 vl13 (l .startVersion) (l .offered) true
+          (l .mark) below refl ei in refused-case StartVl v 5 (λ e. omega arith) k (z .0) (z .1)
       by-order StartSc v i a false ei ea ew k =
-          let z = row-8 sc14 (l .startVersion) (λ k. getD v k 0) (eqb (length v) W) (l .mark) below ew in refused-case StartSc v 8 (λ e. omega arith) k (z .0) (z .1)
+          let z = row-8 sc14 (l .startVersion) (λ k. getD v k 0) (eqb (length v) W) (l .mark) below ew
+          in refused-case StartSc v 8 (λ e. omega arith) k (z .0) (z .1)
       by-order StartSc v true true true ei ea ew k =
           let z = no-row sc14 (l .startVersion) (λ k. getD v k 0) (eqb (length v) W) (l .mark) below ew ei ea in
-          start-case StartSc v _ k (z .0) (z .1) (start-follows sc14 (l .startVersion) (λ k. getD v k 0) _ refl (idle-is (l .point) ei) (offered-words v (eqb-true _ _ ew)))
+          start-case StartSc v _ k (z .0) (z .1)
+          (start-follows sc14 (l .startVersion) (λ k. getD v k 0) _ refl (idle-is (l .point) ei)
+          (offered-words v (eqb-true _ _ ew)))
       by-order StartSc v true false true ei ea ew k =
-          let z = row-7 sc14 (l .startVersion) (λ k. getD v k 0) (eqb (length v) W) (l .mark) below ew ei ea in refused-case StartSc v 7 (λ e. omega arith) k (z .0) (z .1)
+          let z = row-7 sc14 (l .startVersion) (λ k. getD v k 0) (eqb (length v) W) (l .mark) below ew ei ea
+          in refused-case StartSc v 7 (λ e. omega arith) k (z .0) (z .1)
       by-order StartSc v false a true ei ea ew k =
-          let z = row-5 sc14 (l .startVersion) (λ k. getD v k 0) (eqb (length v) W) (l .mark) below ew ei in refused-case StartSc v 5 (λ e. omega arith) k (z .0) (z .1)
+          let z = row-5 sc14 (l .startVersion) (λ k. getD v k 0) (eqb (length v) W) (l .mark) below ew ei
+          in refused-case StartSc v 5 (λ e. omega arith) k (z .0) (z .1)
       by-order Step v true a w ei ea ew k = let z = idle-says ei v in refused-case Step v 6 (λ e. omega arith) k (z .0) (z .1)
       by-order Step v false a w ei ea ew k =
           let z = step-says ei v in
           rw (obeys Step v k ∙ ap (putBack m me) (obey-is v), z .0, z .1) (step-follows (ap not ei))
 
     -- p not below N
-    out-says : (o : Order) (v : List ℕ) → ltb p N ≡ false → (says N tagValues W n (ordered W p o v) s ≡ refused 4) × (exec N tagValues W n (ordered W p o v) s ≡ s)
+    out-says : (o : Order) (v : List ℕ) → ltb p N ≡ false
+        → (says N tagValues W n (ordered W p o v) s ≡ refused 4) × (exec N tagValues W n (ordered W p o v) s ≡ s)
     unfolding says exec
     out-says StartLl v e = row-4 ll10 (h .successes) (s .loc p .offered) true true e
     out-says StartVl v e = row-4 vl13 (s .loc p .startVersion) (s .loc p .offered) true (s .loc p .mark) e
@@ -277,7 +334,8 @@ module _ (N W n : ℕ) (hW : 0 < W) (m : Memory) (s : State) (r : Related N W m 
     out o v hp =
         let z = out-says o v (le-ltb p N hp) in
         refused-case o v 4 (λ e. omega arith)
-        (refusal-late p o v ∙ ap (λ a. late a o (F.isIdle (recordAt (m .records) me)) (recordAt (m .records) me .answered) (eqb (length v) W)) (le-leb N p hp)) (z .0) (z .1)
+        (refusal-late p o v ∙ ap (λ a. late a o (F.isIdle (recordAt (m .records) me))
+        (recordAt (m .records) me .answered) (eqb (length v) W)) (le-leb N p hp)) (z .0) (z .1)
 
   pub followed : (c : Command) → Followed (c .process) (c .order) (c .value)
   followed c = where-is (ltb (c .process) N) refl
@@ -285,7 +343,9 @@ module _ (N W n : ℕ) (hW : 0 < W) (m : Memory) (s : State) (r : Related N W m 
       where-is : (b : Bool) → ltb (c .process) N ≡ b → Followed (c .process) (c .order) (c .value)
       where-is true e =
           let h = ltb-true (c .process) N e in
-          by-order (c .process) h (c .order) (c .value) (isIdle (s .loc (c .process) .point)) (s .loc (c .process) .mark) (eqb (length (c .value)) W) refl refl refl (tests (c .process) h (c .order) (c .value))
+          by-order (c .process) h (c .order) (c .value) (isIdle (s .loc (c .process) .point))
+          (s .loc (c .process) .mark) (eqb (length (c .value)) W) refl refl refl
+          (tests (c .process) h (c .order) (c .value))
       where-is false e = out (c .process) (c .order) (c .value) (ltb-false (c .process) N e)
 
   pub event-same : (c : Command) → H.eventOf m c ≡ eventOf N tagValues W n c s
@@ -293,14 +353,18 @@ module _ (N W n : ℕ) (hW : 0 < W) (m : Memory) (s : State) (r : Related N W m 
 
 module _ (N W : ℕ) (hW : 0 < W) where
   -- the events are the machine's
-  pub events-same : (n : ℕ) (cs : List Command) (m : Memory) (s : State) → Related N W m s → Sound N tagValues W n s → H.events m cs ≡ events N tagValues W n cs s
+  pub events-same : (n : ℕ) (cs : List Command) (m : Memory) (s : State) → Related N W m s → Sound N tagValues W n s
+      → H.events m cs ≡ events N tagValues W n cs s
   unfolding H.events events
   events-same n [] m s r i = refl
   events-same n (c ∷ cs) m s r i =
-      ap₂ _∷_ (event-same N W n hW m s r i c) (events-same (suc n) cs _ _ (followed N W n hW m s r i c .related) (exec-sound N tagValues W hW n s (ghost W c) i))
+      ap₂ _∷_ (event-same N W n hW m s r i c)
+      (events-same (suc n) cs _ _ (followed N W n hW m s r i c .related)
+      (exec-sound N tagValues W hW n s (ghost W c) i))
 
   -- no command is refused by rows 1, 2, 3 or 9, after any
-  pub sound-along : (n : ℕ) (cs : List Command) (m : Memory) (s : State) → Related N W m s → Sound N tagValues W n s → (c : Command) → NotLentMemory (refusal (after m cs) (c .process) (c .order) (c .value))
+  pub sound-along : (n : ℕ) (cs : List Command) (m : Memory) (s : State) → Related N W m s → Sound N tagValues W n s
+      → (c : Command) → NotLentMemory (refusal (after m cs) (c .process) (c .order) (c .value))
   unfolding after
   sound-along n [] m s r i c = refusal-sound N W n hW m s r i (c .process) (c .order) (c .value)
   sound-along n (d ∷ cs) m s r i c = sound-along (suc n) cs _ _ (followed N W n hW m s r i d .related) (exec-sound N tagValues W hW n s (ghost W d) i) c

@@ -8,7 +8,8 @@ use Rattle.linearization.proofs.Updates.{upd, upd-same, upd-other, Split, same,
 use Rattle.linearization.proofs.Invariants.{On, on-map, SamePart}
 use Rattle.linearization.proofs.QuietSteps.{pre-put, pre-all, pre-none}
 use Rattle.moir_model.specs.Points.{Point, idle, ll10, ll2, ll4, ll5, ll6, ll7, sc14, sc17, sc19, sc2, sc4, sc5, sc6, sc7, vl13}
-use Rattle.moir_linearization.proofs.GhostMachine.{Local, Shared, State, prev, eqPair, to, setWord, readHeader, setY, setZ, setH, setReturned, setOld, rest, restLL, begin}
+use Rattle.moir_linearization.proofs.GhostMachine.{Local, Shared, State, prev, eqPair, to, setWord, readHeader, setY, setZ, setH, setReturned}
+use Rattle.moir_linearization.proofs.GhostMachine.{setOld, rest, restLL, begin}
 use Rattle.moir_linearization.proofs.PointRanges.{lines}
 use Rattle.moir_linearization.proofs.Numbers.{ProcessNumbers, SharedNumbers}
 use Rattle.moir_linearization.proofs.Contents.{Fresh, Behind, AllFresh, Right, ProcessContents, SharedContents}
@@ -23,7 +24,8 @@ fresh-put h k a b i hi = go (split i k)
     go (same e) = rw e b
     go (other ne) = a i (omega (arith, ne))
 
-module _ (M W n : ℕ) (h : Shared) (p : ℕ) (l : Local) (hW : 0 < W) (gn : SharedNumbers M W n h) (g : SharedContents M W n h) (few : suc (h .successes) < l .startVersion + M) where
+module _ (M W n : ℕ) (h : Shared) (p : ℕ) (l : Local) (hW : 0 < W) (gn : SharedNumbers M W n h)
+    (g : SharedContents M W n h) (few : suc (h .successes) < l .startVersion + M) where
   abbrev Num : Point → Type 0
   Num y = ProcessNumbers M W n y h p l
 
@@ -74,7 +76,8 @@ module _ (M W n : ℕ) (h : Shared) (p : ℕ) (l : Local) (hW : 0 < W) (gn : Sha
       go : l .readVersion ≡ h .successes → (h .segTag k ≡ h .tag) ⊎ (h .segTag k ≡ prev M (h .tag)) → Fresh h k
       go r (inl f) = f
       go r (inr f) =
-          let b : Behind h k = λ z. prev-ne M (two M W n h p l gn few (a .begun-made)) (h .successes) (ap (prev M) (sym (gn .header-tag)) ∙ sym f ∙ z ∙ gn .header-tag) in
+          let b : Behind h k = λ z. prev-ne M (two M W n h p l gn few (a .begun-made)) (h .successes)
+          (ap (prev M) (sym (gn .header-tag)) ∙ sym f ∙ z ∙ gn .header-tag) in
           let t : h .segTag k ≡ l .yTag = f ∙ ap (prev M) (sym (x-now (a .x-tag) r)) ∙ sym (a .y-tag-ll) in
           absurd (contra (same-put _ _ _ _ t (sym (m .y-val r b))) e)
 
@@ -87,11 +90,13 @@ module _ (M W n : ℕ) (h : Shared) (p : ℕ) (l : Local) (hW : 0 < W) (gn : Sha
   pub c-ll7 : suc k < W → Num ll7 → Before ll7 → After (setWord (suc k) (to ll2 (setReturned k (l .yVal) seen)))
   c-ll7 e a m =
       let f : l .readVersion ≡ h .successes → AllFresh h (suc k) = λ r. fresh-put h k (m .part-copied r) (m .place-copied r) in
-      let d : l .readVersion ≡ h .successes → SamePart (upd (l .returned) k (l .yVal)) (h .value) (suc k) = λ r. pre-put _ _ _ _ (m .returned-part r) (m .y-value r) in
+      let d : l .readVersion ≡ h .successes → SamePart (upd (l .returned) k (l .yVal)) (h .value) (suc k) =
+      λ r. pre-put _ _ _ _ (m .returned-part r) (m .y-value r) in
       search
 
   pub c-ll7-words : W ≤ suc k → Num ll7 → Before ll7 → After (restLL false (setReturned k (l .yVal) seen))
-  c-ll7-words e a m = let f : l .readVersion ≡ h .successes → AllFresh h W = λ r i hi. fresh-put h k (m .part-copied r) (m .place-copied r) i (omega arith) in search
+  c-ll7-words e a m = let f : l .readVersion ≡ h .successes → AllFresh h W = λ r i hi. fresh-put h k
+      (m .part-copied r) (m .place-copied r) i (omega arith) in search
 
   pub c-ll7-names : (l .readVersion ≡ h .successes → ⊥) → Num ll7 → Before ll7 → After (restLL true seen)
   c-ll7-names ne a m = let f : l .readVersion ≡ h .successes → AllFresh h W = λ r. absurd (ne r) in search
@@ -118,7 +123,10 @@ module _ (M W n : ℕ) (h : Shared) (p : ℕ) (l : Local) (hW : 0 < W) (gn : Sha
   pub c-sc4 : Num sc4 → Before sc4 → After (to sc5 (setZ (l .newTag) (h .rows (l .newPid) k) l))
   c-sc4 a m =
       let f : suc (l .readVersion) ≡ h .successes → Behind h k → Right h k (l .newTag) (h .rows (l .newPid) k) =
-      λ r b. record { tag = a .new-tag ∙ ap (_% M) r ∙ sym (gn .header-tag); val = ap (λ q. h .rows q k) (a .new-pid ∙ sym (a .won-pid r)) ∙ g .row-val k (a .in-copy) b } in
+      λ r b. record {
+        tag = a .new-tag ∙ ap (_% M) r ∙ sym (gn .header-tag);
+        val = ap (λ q. h .rows q k) (a .new-pid ∙ sym (a .won-pid r)) ∙ g .row-val k (a .in-copy) b;
+      } in
       search
 
   pub c-sc5′ : Before sc5 → After (to sc6 l)

@@ -48,8 +48,10 @@ module _ (M W n : ℕ) (h : Shared) (k t v : ℕ) (right : Right h k t v) where
       let f3 = on-map (lines 3 4 y) {B = l .readVersion ≡ h .successes → Fresh h5 (l .word)} (λ a r. grows (l .word) (a r)) (m .place-copied) in
       let f4 = on-map (lines 1 2 y) {B = l .readVersion ≡ h .successes → Behind h5 (l .word) → l .yVal ≡ h5 .segVal (l .word)}
       (λ a r b. a r (back _ b) ∙ sym (upd-other (h .segVal) k (l .word) v (apart _ b))) (m .y-val) in
-      let f5 = on-map (lines 2 2 y) {B = l .readVersion ≡ h .successes → Behind h5 (l .word) → Right h5 (l .word) (l .zTag) (l .zVal)} (λ a r b. kept _ _ _ (a r (back _ b))) (m .z-ll) in
-      let f6 = on-map (lines 13 13 y) {B = suc (l .readVersion) ≡ h .successes → Behind h5 (l .word) → Right h5 (l .word) (l .zTag) (l .zVal)} (λ a r b. kept _ _ _ (a r (back _ b))) (m .z-sc) in
+      let f5 = on-map (lines 2 2 y) {B = l .readVersion ≡ h .successes → Behind h5 (l .word)
+      → Right h5 (l .word) (l .zTag) (l .zVal)} (λ a r b. kept _ _ _ (a r (back _ b))) (m .z-ll) in
+      let f6 = on-map (lines 13 13 y) {B = suc (l .readVersion) ≡ h .successes → Behind h5 (l .word)
+      → Right h5 (l .word) (l .zTag) (l .zVal)} (λ a r b. kept _ _ _ (a r (back _ b))) (m .z-sc) in
       search
 
   pub c-seg-all : SharedContents M W n h → SharedContents M W n h5
@@ -106,11 +108,13 @@ module _ (M W n : ℕ) (h : Shared) (p k v : ℕ) where
   pub c-sc17 : (l : Local) (j : ℕ) → ProcessContents M W n sc17 h p l → ProcessContents M W (suc n) sc17 (wRow p k v h) p (setWord j (to sc17 l))
   c-sc17 l j m = search
 
-  pub c-sc17′ : (l : Local) (t q : ℕ) → ProcessContents M W n sc17 h p l → ProcessContents M W (suc n) sc19 (wRow p k v h) p (setWord 0 (setNew t q (to sc19 l)))
+  pub c-sc17′ : (l : Local) (t q : ℕ) → ProcessContents M W n sc17 h p l
+      → ProcessContents M W (suc n) sc19 (wRow p k v h) p (setWord 0 (setNew t q (to sc19 l)))
   c-sc17′ l t q m = search
 
 -- a success (line 19)
-module _ (M W n : ℕ) (h : Shared) (p : ℕ) (l : Local) (two : 1 < M) (gn : SharedNumbers M W n h) (a : ProcessNumbers M W n sc19 h p l) (r : l .readVersion ≡ h .successes) where
+module _ (M W n : ℕ) (h : Shared) (p : ℕ) (l : Local) (two : 1 < M) (gn : SharedNumbers M W n h)
+    (a : ProcessNumbers M W n sc19 h p l) (r : l .readVersion ≡ h .successes) where
   abbrev h19 : Shared
   h19 = wHeader (l .newTag) (l .newPid) (l .offered) n h
 
@@ -118,21 +122,28 @@ module _ (M W n : ℕ) (h : Shared) (p : ℕ) (l : Local) (two : 1 < M) (gn : Sh
   tag19 = a .new-tag ∙ ap (λ v. suc v % M) r
 
   pub c-sc19 : ProcessContents M W n sc19 h p l → ProcessContents M W (suc n) sc2 h19 p (setKey n (to sc2 l))
-  c-sc19 m = let u : l .named ≡ false = is-false _ (λ x. let z = a .named-old x in omega arith) in let f : l .readVersion ≡ suc (h .successes) → AllFresh h19 W = λ z. absurd (omega arith) in search
+  c-sc19 m = let u : l .named ≡ false = is-false _ (λ x. let z = a .named-old x in omega arith)
+      in let f : l .readVersion ≡ suc (h .successes) → AllFresh h19 W = λ z. absurd (omega arith) in search
 
-  pub c-header : (y : Point) (q : ℕ) (c : Local) → (q ≡ p → ⊥) → ProcessNumbers M W n y h q c → ProcessContents M W n y h q c → ProcessContents M W (suc n) y h19 q c
+  pub c-header : (y : Point) (q : ℕ) (c : Local) → (q ≡ p → ⊥) → ProcessNumbers M W n y h q c
+      → ProcessContents M W n y h q c → ProcessContents M W (suc n) y h19 q c
   c-header y q c np b m =
       let ne : c .readVersion ≡ suc (h .successes) → ⊥ = λ z. let y = b .read-made in omega arith in
       let f0 = on-map (lines 9 10 y) {B = l .newPid ≡ q → c .readVersion ≡ suc (h .successes)} (λ _ z. absurd (np (sym z ∙ a .new-pid))) (m .own-read) in
       let f1 = on-map (lines 5 15 y) {B = c .readVersion ≡ suc (h .successes) → AllFresh h19 W} (λ _ z. absurd (ne z)) (m .found-copied) in
       let f2 = on-map (lines 0 4 y) {B = c .readVersion ≡ suc (h .successes) → AllFresh h19 (c .word)} (λ _ z. absurd (ne z)) (m .part-copied) in
       let f3 = on-map (lines 3 4 y) {B = c .readVersion ≡ suc (h .successes) → Fresh h19 (c .word)} (λ _ z. absurd (ne z)) (m .place-copied) in
-      let f4 = on-map (lines 1 2 y) {B = c .readVersion ≡ suc (h .successes) → Behind h19 (c .word) → c .yVal ≡ h .segVal (c .word)} (λ _ z. absurd (ne z)) (m .y-val) in
-      let f5 = on-map (lines 2 2 y) {B = c .readVersion ≡ suc (h .successes) → Behind h19 (c .word) → Right h19 (c .word) (c .zTag) (c .zVal)} (λ _ z. absurd (ne z)) (m .z-ll) in
-      let f6 = on-with (lines 13 13 y) (lines 11 15 y) {A′ = suc (c .readVersion) ≡ suc (h .successes) → Behind h19 (c .word) → Right h19 (c .word) (c .zTag) (c .zVal)}
+      let f4 = on-map (lines 1 2 y) {B = c .readVersion ≡ suc (h .successes) → Behind h19 (c .word)
+      → c .yVal ≡ h .segVal (c .word)} (λ _ z. absurd (ne z)) (m .y-val) in
+      let f5 = on-map (lines 2 2 y) {B = c .readVersion ≡ suc (h .successes) → Behind h19 (c .word)
+      → Right h19 (c .word) (c .zTag) (c .zVal)} (λ _ z. absurd (ne z)) (m .z-ll) in
+      let f6 = on-with (lines 13 13 y) (lines 11 15 y)
+      {A′ = suc (c .readVersion) ≡ suc (h .successes) → Behind h19 (c .word)
+      → Right h19 (c .word) (c .zTag) (c .zVal)}
       (wide 13 13 11 15 y (lit≤ tt) (lit≤ tt)) (λ w _ z. absurd (omega arith)) (b .won) (m .z-sc) in
       let f7 = on-map (lines 4 4 y) {B = c .readVersion ≡ suc (h .successes) → c .yVal ≡ l .offered (c .word)} (λ _ z. absurd (ne z)) (m .y-value) in
-      let f8 = on-map (lines 0 4 y) {B = c .readVersion ≡ suc (h .successes) → SamePart (c .returned) (l .offered) (c .word)} (λ _ z. absurd (ne z)) (m .returned-part) in
+      let f8 = on-map (lines 0 4 y) {B = c .readVersion ≡ suc (h .successes) → SamePart (c .returned) (l .offered)
+      (c .word)} (λ _ z. absurd (ne z)) (m .returned-part) in
       search
 
   pub c-header-all : ProcessContents M W n sc19 h p l → SharedContents M W n h → SharedContents M W (suc n) h19

@@ -106,21 +106,26 @@ module _ (M W n : ℕ) (hW : 0 < W) (s : State) (p : ℕ) (i : Counts W s) where
   unfolding stepAt
   counts-at idle a x = i
   counts-at ll10 a x = q! h _ (record { copies = 0; few = omega arith; steps-are = let z = a .no-run in omega arith })
-  counts-at ll2 a x = by-test (Counts W) (eqb (h .segTag k) (prev M (l .xTag))) (λ _. q! h _ (next (omega arith) (omega arith) x)) (λ _. q! h _ (next (omega arith) (omega arith) x))
+  counts-at ll2 a x = by-test (Counts W) (eqb (h .segTag k) (prev M (l .xTag)))
+      (λ _. q! h _ (next (omega arith) (omega arith) x)) (λ _. q! h _ (next (omega arith) (omega arith) x))
   counts-at ll4 a x = q! h _ (next (omega arith) (omega arith) x)
-  counts-at ll5 a x = by-test (Counts W) (eqPair (h .segTag k) (h .segVal k) (l .yTag) (l .yVal)) (λ _. q! h _ (next (omega arith) (omega arith) x)) (λ _. q! h _ (next (omega arith) (omega arith) x))
+  counts-at ll5 a x = by-test (Counts W) (eqPair (h .segTag k) (h .segVal k) (l .yTag) (l .yVal))
+      (λ _. q! h _ (next (omega arith) (omega arith) x)) (λ _. q! h _ (next (omega arith) (omega arith) x))
   counts-at ll6 a x = q! h _ (copied (omega arith) (omega arith) x)
   counts-at ll7 a x =
       by-test (Counts W) (eqPair (h .tag) (h .pid) (l .xTag) (l .xPid))
       (λ _. by-test (Counts W) (ltb (suc k) W) (λ _. q! h _ (next (omega arith) (omega arith) x)) (λ _. q! h _ refl)) (λ _. q! h _ refl)
   counts-at sc14 a x = by-test (Counts W) (eqb (h .tag) (l .keep)) (λ _. q! h _ (let z = a .no-run in omega arith)) (λ _. q! h _ refl)
-  counts-at sc17 a x = by-test (Counts W) (ltb (suc k) W) (λ _. q! h _ (omega arith)) (λ e. q! h _ (let z = ltb-false (suc k) W e in let y = a .in-17 in omega arith))
+  counts-at sc17 a x = by-test (Counts W) (ltb (suc k) W) (λ _. q! h _ (omega arith))
+      (λ e. q! h _ (let z = ltb-false (suc k) W e in let y = a .in-17 in omega arith))
   counts-at sc19 a x =
       by-test (Counts W) (eqPair (h .tag) (h .pid) (l .oldTag) (l .oldPid))
       (λ _. q! h _ (record { copies = 0; few = omega arith; steps-are = let z = a .no-run-19 in omega arith })) (λ _. q! h _ refl)
-  counts-at sc2 a x = by-test (Counts W) (eqb (h .segTag k) (prev M (l .newTag))) (λ _. q! h _ (next (omega arith) (omega arith) x)) (λ _. q! h _ (next (omega arith) (omega arith) x))
+  counts-at sc2 a x = by-test (Counts W) (eqb (h .segTag k) (prev M (l .newTag)))
+      (λ _. q! h _ (next (omega arith) (omega arith) x)) (λ _. q! h _ (next (omega arith) (omega arith) x))
   counts-at sc4 a x = q! h _ (next (omega arith) (omega arith) x)
-  counts-at sc5 a x = by-test (Counts W) (eqPair (h .segTag k) (h .segVal k) (l .yTag) (l .yVal)) (λ _. q! h _ (next (omega arith) (omega arith) x)) (λ _. q! h _ (next (omega arith) (omega arith) x))
+  counts-at sc5 a x = by-test (Counts W) (eqPair (h .segTag k) (h .segVal k) (l .yTag) (l .yVal))
+      (λ _. q! h _ (next (omega arith) (omega arith) x)) (λ _. q! h _ (next (omega arith) (omega arith) x))
   counts-at sc6 a x = q! h _ (copied (omega arith) (omega arith) x)
   counts-at sc7 a x =
       by-test (Counts W) (eqPair (h .tag) (h .pid) (l .newTag) (l .newPid))
@@ -148,16 +153,20 @@ module _ (M W n : ℕ) (hW : 0 < W) (s : State) (p : ℕ) (i : Counts W s) where
   brings-at ll6 a x = tt
   brings-at ll7 a x =
       by-test Brings (eqPair (h .tag) (h .pid) (l .xTag) (l .xPid))
-      (λ _. by-test Brings (ltb (suc k) W) (λ _. tt) (λ e. (next (let z = ltb-false (suc k) W e in let y = a .in-ll in omega arith) (a .in-ll) x, tt))) (λ _. (left 1 (a .in-ll) x, tt))
+      (λ _. by-test Brings (ltb (suc k) W) (λ _. tt)
+      (λ e. (next (let z = ltb-false (suc k) W e in let y = a .in-ll in omega arith) (a .in-ll) x, tt)))
+      (λ _. (left 1 (a .in-ll) x, tt))
   brings-at sc14 a x = by-test Brings (eqb (h .tag) (l .keep)) (λ _. tt) (λ _. (inl (let z : l .count + 1 ≡ 1 = omega arith in z), tt))
   brings-at sc17 a x = tt
-  brings-at sc19 a x = by-test Brings (eqPair (h .tag) (h .pid) (l .oldTag) (l .oldPid)) (λ _. tt) (λ _. (inr (let z : l .count + 1 ≡ W + 2 = omega arith in z), tt))
+  brings-at sc19 a x = by-test Brings (eqPair (h .tag) (h .pid) (l .oldTag) (l .oldPid)) (λ _. tt)
+      (λ _. (inr (let z : l .count + 1 ≡ W + 2 = omega arith in z), tt))
   brings-at sc2 a x = tt
   brings-at sc4 a x = tt
   brings-at sc5 a x = tt
   brings-at sc6 a x = tt
   brings-at sc7 a x =
-      let z : EndedAt W (W + 2) (l .count + 1) = left (W + 2) (a .in-copy) (record { copies = x .copies; few = x .few; steps-are = let z = x .steps-are in omega arith }) in
+      let z : EndedAt W (W + 2) (l .count + 1) = left (W + 2) (a .in-copy)
+      (record { copies = x .copies; few = x .few; steps-are = let z = x .steps-are in omega arith }) in
       by-test Brings (eqPair (h .tag) (h .pid) (l .newTag) (l .newPid)) (λ _. by-test Brings (ltb (suc k) W) (λ _. tt) (λ _. (z, tt))) (λ _. (z, tt))
   brings-at vl13 a x = ((let z : l .count + 1 ≡ 1 = omega arith in z), tt)
 

@@ -19,9 +19,19 @@ fits v (names q) = tt
 fits v (scTruth b) = refl
 fits v (vlTruth b) = refl
 
-fill-matches : (v0 : List ℕ) (es : List Effect) (log : List Timed) → AllMatch (map (λ (e : Effect). e .call) es) (map (λ (t : Timed). t .call) (fillAll v0 es log))
+fill-matches : (v0 : List ℕ) (es : List Effect) (log : List Timed) → AllMatch (map (λ (e : Effect). e .call) es)
+    (map (λ (t : Timed). t .call) (fillAll v0 es log))
 fill-matches v0 [] log = tt
-fill-matches v0 (e ∷ es) log = (record { process = refl; kind = refl; start = refl; end = refl; answer = fits _ (e .call .answer) }, fill-matches v0 es (insert (placed v0 log e) log))
+fill-matches v0 (e ∷ es) log = (
+  record {
+    process = refl;
+    kind = refl;
+    start = refl;
+    end = refl;
+    answer = fits _ (e .call .answer);
+  },
+  fill-matches v0 es (insert (placed v0 log e) log),
+)
 
 fill-within : (v0 : List ℕ) (es : List Effect) (log : List Timed) → All InCall es → All Within (fillAll v0 es log)
 fill-within v0 [] log a = tt

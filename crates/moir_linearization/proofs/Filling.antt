@@ -17,7 +17,18 @@ filledAnswer v (scTruth b) = R.Answer.scTruth b
 filledAnswer v (vlTruth b) = R.Answer.vlTruth b
 
 abbrev pub filled : List ℕ → Effect → Timed
-filled v e = record { call = record { process = e .call .process; kind = e .call .kind; start = e .call .start; end = e .call .end; steps = 0; answer = filledAnswer v (e .call .answer); count = 0 }; moment = e .at }
+filled v e = record {
+  call = record {
+    process = e .call .process;
+    kind = e .call .kind;
+    start = e .call .start;
+    end = e .call .end;
+    steps = 0;
+    answer = filledAnswer v (e .call .answer);
+    count = 0;
+  };
+  moment = e .at;
+}
 
 -- with the words at its place in the log
 abbrev pub placed : List ℕ → List Timed → Effect → Timed
@@ -27,6 +38,7 @@ abbrev pub fillAll : List ℕ → List Effect → List Timed → List Timed
 fillAll v0 [] log = []
 fillAll v0 (e ∷ es) log = placed v0 log e ∷ fillAll v0 es (insert (placed v0 log e) log)
 
-pub fillAll-append : (v0 : List ℕ) (es fs : List Effect) (log : List Timed) → fillAll v0 (es ++ fs) log ≡ fillAll v0 es log ++ fillAll v0 fs (sortInto (fillAll v0 es log) log)
+pub fillAll-append : (v0 : List ℕ) (es fs : List Effect) (log : List Timed)
+    → fillAll v0 (es ++ fs) log ≡ fillAll v0 es log ++ fillAll v0 fs (sortInto (fillAll v0 es log) log)
 fillAll-append v0 [] fs log = refl
 fillAll-append v0 (e ∷ es) fs log = ap (placed v0 log e ∷_) (fillAll-append v0 es fs (insert (placed v0 log e) log))

@@ -30,7 +30,14 @@ module _ (W : ℕ) where
   answerAt ll6 n p s = []
   answerAt ll7 n p s =
       cond (eqPair (s .sh .tag) (s .sh .pid) (s .loc p .xTag) (s .loc p .xPid))
-      (cond (ltb (suc (s .loc p .word)) W) [] (record { process = p; kind = ll; start = s .loc p .start; end = n; answer = words (tab W (upd (s .loc p .returned) (s .loc p .word) (s .loc p .yVal))) } ∷ []))
+      (cond (ltb (suc (s .loc p .word)) W) []
+      (record {
+        process = p;
+        kind = ll;
+        start = s .loc p .start;
+        end = n;
+        answer = words (tab W (upd (s .loc p .returned) (s .loc p .word) (s .loc p .yVal)));
+      } ∷ []))
       (record { process = p; kind = ll; start = s .loc p .start; end = n; answer = names (s .sh .pid) } ∷ [])
   answerAt sc14 n p s = cond (eqb (s .sh .tag) (s .loc p .keep)) [] (scCall W p false n (s .loc p) ∷ [])
   answerAt sc17 n p s = []
@@ -40,7 +47,9 @@ module _ (W : ℕ) where
   answerAt sc5 n p s = []
   answerAt sc6 n p s = []
   answerAt sc7 n p s =
-      cond (eqPair (s .sh .tag) (s .sh .pid) (s .loc p .newTag) (s .loc p .newPid)) (cond (ltb (suc (s .loc p .word)) W) [] (scCall W p true n (s .loc p) ∷ [])) (scCall W p true n (s .loc p) ∷ [])
+      cond (eqPair (s .sh .tag) (s .sh .pid) (s .loc p .newTag) (s .loc p .newPid))
+      (cond (ltb (suc (s .loc p .word)) W) [] (scCall W p true n (s .loc p) ∷ []))
+      (scCall W p true n (s .loc p) ∷ [])
   answerAt vl13 n p s = record { process = p; kind = vl; start = s .loc p .start; end = n; answer = vlTruth (eqb (s .sh .tag) (s .loc p .keep)) } ∷ []
 
   -- for each of the first m processes

@@ -65,4 +65,6 @@ module _ (N W n : ℕ) (hW : 0 < W) where
       processes = every-true (processOk N W) noProcess (take N (m .records)) (λ j hj.
           let y = length-take-le N (m .records) (r .records-length) in let h : j < N = omega arith in
           rw (getD-take N (m .records) j noProcess h, r .process j h)
-          (process-ok (s .loc j) (i .ranges .each j) (word-low tagValues (s .loc j .point) (s .sh) j (s .loc j) (i .numbers .each j)) (count-below tagValues W n hW s j (i .counts) (i .numbers))))
+          (process-ok (s .loc j) (i .ranges .each j)
+          (word-low tagValues (s .loc j .point) (s .sh) j (s .loc j) (i .numbers .each j))
+          (count-below tagValues W n hW s j (i .counts) (i .numbers))))

@@ -51,13 +51,16 @@ module _ (N M W : ℕ) where
       → (p < N → f ≡ true → s .loc p .point ≡ idle → ok ≡ true → P (started N M W n p y v w s)) → P (starts N M W n p y v w f ok s)
   by-starts P n p y v w f ok s stays begun =
       by-test P (ltb p N)
-      (λ a. by-test P f (λ b. by-test P (isIdle (s .loc p .point)) (λ c. by-test P ok (λ d. begun (ltb-true _ _ a) b (idle-is _ c) d) (λ _. stays)) (λ _. stays)) (λ _. stays)) (λ _. stays)
+      (λ a. by-test P f (λ b. by-test P (isIdle (s .loc p .point))
+      (λ c. by-test P ok (λ d. begun (ltb-true _ _ a) b (idle-is _ c) d) (λ _. stays)) (λ _. stays))
+      (λ _. stays)) (λ _. stays)
 
   -- a command is refused and changes nothing, or starts a call of an idle process, or is a step
   module _ (P : State → Type 0) (n : ℕ) (s : State) (c : Cmd) (refused : P s)
       (begun : (p : ℕ) (y : Point) (v : ℕ) (w : ℕ → ℕ) → First (s .sh .successes) (s .loc p) y v w → s .loc p .point ≡ idle → P (started N M W n p y v w s))
       (stepped : (p : ℕ) → p < N → c ≡ go p → P (step M W n p s)) where
-    by-start : (p : ℕ) (y : Point) (v : ℕ) (w : ℕ → ℕ) (f ok : Bool) → (ok ≡ true → First (s .sh .successes) (s .loc p) y v w) → P (starts N M W n p y v w f ok s)
+    by-start : (p : ℕ) (y : Point) (v : ℕ) (w : ℕ → ℕ) (f ok : Bool)
+        → (ok ≡ true → First (s .sh .successes) (s .loc p) y v w) → P (starts N M W n p y v w f ok s)
     by-start p y v w f ok first = by-starts P n p y v w f ok s refused (λ _ _ i e. begun p y v w (first e) i)
 
     by-kind : (d : Cmd) → c ≡ d → P (exec N M W n d s)
@@ -77,7 +80,11 @@ module _ (N M W : ℕ) where
   pub exec-inv : 0 < W → (n : ℕ) (s : State) (c : Cmd) → BoundedAt N M W n c s → Invariant n s → Invariant (suc n) (exec N M W n c s)
   exec-inv hW n s c b i =
       by-command (Invariant (suc n)) n s c refused begun
-      (λ p hp e. record { numbers = step-numbers M W n hW s p (i .numbers); contents = step-contents M W n hW s p (i .numbers) (i .contents) (subst (λ c. BoundedAt N M W n c s) e b hp) })
+      (λ p hp e. record {
+        numbers = step-numbers M W n hW s p (i .numbers);
+        contents = step-contents M W n hW s p
+            (i .numbers) (i .contents) (subst (λ c. BoundedAt N M W n c s) e b hp);
+      })
     where
       h : Shared
       h = s .sh
@@ -88,17 +95,22 @@ module _ (N M W : ℕ) where
         contents = record { all = contents-later-all M W n _ (i .contents .all); each = λ q. contents-later M W n _ _ q _ (i .contents .each q) };
       }
 
-      own : (p : ℕ) (y : Point) (v : ℕ) (w : ℕ → ℕ) → First (s .sh .successes) (s .loc p) y v w → ProcessNumbers M W n idle (s .sh) p (s .loc p) → ProcessNumbers M W (suc n) y (s .sh) p (begin y n v w (s .loc p))
+      own : (p : ℕ) (y : Point) (v : ℕ) (w : ℕ → ℕ) → First (s .sh .successes) (s .loc p) y v w
+          → ProcessNumbers M W n idle (s .sh) p (s .loc p) → ProcessNumbers M W (suc n) y (s .sh) p
+          (begin y n v w (s .loc p))
       own p y v w wll m = n-wll M W n _ p _ hW (i .numbers .all) m
       own p y v w (vl e) m = n-vl M W n _ p _ hW (i .numbers .all) e m
       own p y v w (sc x e) m = n-sc M W n _ p _ hW (i .numbers .all) x e m
 
-      own′ : (p : ℕ) (y : Point) (v : ℕ) (w : ℕ → ℕ) → First (s .sh .successes) (s .loc p) y v w → ProcessContents M W n idle (s .sh) p (s .loc p) → ProcessContents M W (suc n) y (s .sh) p (begin y n v w (s .loc p))
+      own′ : (p : ℕ) (y : Point) (v : ℕ) (w : ℕ → ℕ) → First (s .sh .successes) (s .loc p) y v w
+          → ProcessContents M W n idle (s .sh) p (s .loc p) → ProcessContents M W (suc n) y (s .sh) p
+          (begin y n v w (s .loc p))
       own′ p y v w wll m = c-wll M W n _ p _ _ _ m
       own′ p y v w (vl e) m = c-vl M W n _ p _ _ _ m
       own′ p y v w (sc x e) m = c-sc M W n _ p _ _ _ m
 
-      begun : (p : ℕ) (y : Point) (v : ℕ) (w : ℕ → ℕ) → First (s .sh .successes) (s .loc p) y v w → s .loc p .point ≡ idle → Invariant (suc n) (started N M W n p y v w s)
+      begun : (p : ℕ) (y : Point) (v : ℕ) (w : ℕ → ℕ) → First (s .sh .successes) (s .loc p) y v w
+          → s .loc p .point ≡ idle → Invariant (suc n) (started N M W n p y v w s)
       begun p y v w f e = record {
         numbers =
             frame (SharedNumbers M W) (ProcessNumbers M W) n s p (s .sh) _ (i .numbers) (numbers-later-all M W n _ (i .numbers .all))

@@ -15,7 +15,8 @@ use Rattle.linearization.proofs.WordLists.{tab}
 use Rattle.moir_model.specs.Points.{Point, idle, ll10, ll2, ll4, ll5, ll6, ll7, sc14, sc17, sc19, sc2, sc4, sc5, sc6, sc7, vl13}
 use Rattle.moir_linearization.proofs.PointRanges.{isIdle, busy, copying}
 use Rattle.moir_linearization.proofs.GhostMachine.{Local, Shared, State, begin, eqPair, step}
-use Rattle.moir_linearization.proofs.GhostRuns.{Cmd, WLL, VL, SC, go, exec, starts, started, BoundedAt, BoundedRun, Effect, effectAt, effectOf, effects, lastStep, isStep, setUp}
+use Rattle.moir_linearization.proofs.GhostRuns.{Cmd, WLL, VL, SC, go, exec, starts, started, BoundedAt, BoundedRun, Effect, effectAt, effectOf}
+use Rattle.moir_linearization.proofs.GhostRuns.{effects, lastStep, isStep, setUp}
 use Rattle.moir_linearization.proofs.Frame.{Holds, frame}
 use Rattle.moir_linearization.proofs.Numbers.{ProcessNumbers, Numbers}
 use Rattle.moir_linearization.proofs.InvariantRuns.{Invariant, exec-inv, setup-inv, by-starts}
@@ -70,7 +71,8 @@ module _ (N M W : ℕ) where
           same y q a = search
 
       begun-wll : begun ll10
-      begun-wll = begun-by ll10 (let o = own in let z : All (Mine p n) log = all-map (λ t. t .moment < n) (Mine p n) (λ t x _. omega arith) log (g .logged .all .low) in search)
+      begun-wll = begun-by ll10 (let o = own in let z : All (Mine p n) log = all-map (λ t. t .moment < n) (Mine p n)
+          (λ t x _. omega arith) log (g .logged .all .low) in search)
 
       begun-vl : begun vl13
       begun-vl = begun-by vl13 (let o = own in search)
@@ -78,10 +80,13 @@ module _ (N M W : ℕ) where
       begun-sc : begun sc14
       begun-sc = begun-by sc14 (let o = own in search)
 
-    by-start : (p : ℕ) (y : Point) (v : ℕ) (w : ℕ → ℕ) (f ok : Bool) → (s .loc p .point ≡ idle → Logged N M W v0 log (suc n) (started N M W n p y v w s)) → Logged N M W v0 log (suc n) (starts N M W n p y v w f ok s)
+    by-start : (p : ℕ) (y : Point) (v : ℕ) (w : ℕ → ℕ) (f ok : Bool)
+        → (s .loc p .point ≡ idle → Logged N M W v0 log (suc n) (started N M W n p y v w s))
+        → Logged N M W v0 log (suc n) (starts N M W n p y v w f ok s)
     by-start p y v w f ok g = by-starts N M W (Logged N M W v0 log (suc n)) n p y v w f ok s tick (λ _ _ i _. g i)
 
-    exec-log : (c : Cmd) (cs : List Cmd) → BoundedAt N M W n c s → Logged N M W v0 (sortInto (fillAll v0 (effectOf N M W n c cs s) log) log) (suc n) (exec N M W n c s)
+    exec-log : (c : Cmd) (cs : List Cmd) → BoundedAt N M W n c s
+        → Logged N M W v0 (sortInto (fillAll v0 (effectOf N M W n c cs s) log) log) (suc n) (exec N M W n c s)
     unfolding exec effectOf
     exec-log (WLL p) cs b = by-start p ll10 _ _ true true (begun-wll p _ _)
     exec-log (VL p) cs b = by-start p vl13 _ _ true (s .loc p .mark) (begun-vl p _ _)
@@ -90,7 +95,8 @@ module _ (N M W : ℕ) where
         by-test₂ (λ u es. Logged N M W v0 (sortInto (fillAll v0 es log) log) (suc n) u) (ltb p N)
         (λ e. step-log N M W v0 n hW s p log (g .inv .numbers) (g .inv .contents) (g .logged) _ (b (ltb-true _ _ e))) (λ _. tick)
 
-    pub exec-good : (c : Cmd) (cs : List Cmd) → BoundedAt N M W n c s → Good v0 (suc n) (exec N M W n c s) (sortInto (fillAll v0 (effectOf N M W n c cs s) log) log)
+    pub exec-good : (c : Cmd) (cs : List Cmd) → BoundedAt N M W n c s → Good v0 (suc n) (exec N M W n c s)
+        (sortInto (fillAll v0 (effectOf N M W n c cs s) log) log)
     exec-good c cs b = record { inv = exec-inv N M W hW n s c b (g .inv); logged = exec-log c cs b }
 
     -- the moment of each call
@@ -103,10 +109,13 @@ module _ (N M W : ℕ) where
     step-in-call p e he ll6 a = tt
     step-in-call p e he ll7 a =
         by-test (All InCall) (eqPair (s .sh .tag) (s .sh .pid) (s .loc p .xTag) (s .loc p .xPid))
-        (λ _. by-test (All InCall) (ltb (suc (s .loc p .word)) W) (λ _. tt) (λ _. ((a .start-past, omega arith), tt))) (λ _. ((a .ll-in-call, let z = a .key-past in omega arith), tt))
+        (λ _. by-test (All InCall) (ltb (suc (s .loc p .word)) W) (λ _. tt)
+        (λ _. ((a .start-past, omega arith), tt))) (λ _. ((a .ll-in-call, let z = a .key-past in omega arith), tt))
     step-in-call p e he sc14 a = by-test (All InCall) (eqb (s .sh .tag) (s .loc p .keep)) (λ _. tt) (λ _. ((a .start-past, omega arith), tt))
     step-in-call p e he sc17 a = tt
-    step-in-call p e he sc19 a = by-test (All InCall) (eqPair (s .sh .tag) (s .sh .pid) (s .loc p .oldTag) (s .loc p .oldPid)) (λ _. ((a .start-past, he), tt)) (λ _. ((a .start-past, omega arith), tt))
+    step-in-call p e he sc19 a = by-test (All InCall)
+        (eqPair (s .sh .tag) (s .sh .pid) (s .loc p .oldTag) (s .loc p .oldPid)) (λ _. ((a .start-past, he), tt))
+        (λ _. ((a .start-past, omega arith), tt))
     step-in-call p e he sc2 a = tt
     step-in-call p e he sc4 a = tt
     step-in-call p e he sc5 a = tt
@@ -119,18 +128,24 @@ module _ (N M W : ℕ) where
     exec-in-call (WLL p) cs = tt
     exec-in-call (VL p) cs = tt
     exec-in-call (SC p w f) cs = tt
-    exec-in-call (go p) cs = by-test (All InCall) (ltb p N) (λ _. step-in-call p _ (last-step p (suc n) cs _ n (omega arith)) (s .loc p .point) (g .inv .numbers .each p)) (λ _. tt)
+    exec-in-call (go p) cs = by-test (All InCall) (ltb p N)
+        (λ _. step-in-call p _ (last-step p (suc n) cs _ n (omega arith)) (s .loc p .point)
+        (g .inv .numbers .each p)) (λ _. tt)
 
   -- the log after a list of commands
-  pub run-served : 0 < W → (v0 : List ℕ) (n : ℕ) (cs : List Cmd) (s : State) (log : List Timed) → Good v0 n s log → BoundedRun N M W n cs s → Served (fresh v0) (sortInto (fillAll v0 (effects N M W n cs s) log) log)
+  pub run-served : 0 < W → (v0 : List ℕ) (n : ℕ) (cs : List Cmd) (s : State) (log : List Timed) → Good v0 n s log
+      → BoundedRun N M W n cs s → Served (fresh v0) (sortInto (fillAll v0 (effects N M W n cs s) log) log)
   unfolding effects
   run-served hW v0 n [] s log g b = g .logged .all .served
   run-served hW v0 n (c ∷ cs) s log g b =
       rw (fillAll-append v0 (effectOf N M W n c cs s) (effects N M W (suc n) cs (exec N M W n c s)) log)
-      (rw (sortInto-append (fillAll v0 (effectOf N M W n c cs s) log) (fillAll v0 (effects N M W (suc n) cs (exec N M W n c s)) (sortInto (fillAll v0 (effectOf N M W n c cs s) log) log)) log)
+      (rw (sortInto-append (fillAll v0 (effectOf N M W n c cs s) log)
+      (fillAll v0 (effects N M W (suc n) cs (exec N M W n c s))
+      (sortInto (fillAll v0 (effectOf N M W n c cs s) log) log)) log)
       (run-served hW v0 (suc n) cs (exec N M W n c s) (sortInto (fillAll v0 (effectOf N M W n c cs s) log) log) (exec-good hW v0 n s log g c cs (b .0)) (b .1)))
 
-  pub run-in-call : 0 < W → (v0 : List ℕ) (n : ℕ) (cs : List Cmd) (s : State) (log : List Timed) → Good v0 n s log → BoundedRun N M W n cs s → All InCall (effects N M W n cs s)
+  pub run-in-call : 0 < W → (v0 : List ℕ) (n : ℕ) (cs : List Cmd) (s : State) (log : List Timed) → Good v0 n s log
+      → BoundedRun N M W n cs s → All InCall (effects N M W n cs s)
   unfolding effects
   run-in-call hW v0 n [] s log g b = tt
   run-in-call hW v0 n (c ∷ cs) s log g b =

@@ -42,7 +42,8 @@ module _ (M W : ℕ) where
     falses-at ll5 few a b = tt
     falses-at ll6 few a b = tt
     falses-at ll7 few a b =
-        by-test Falses (eqPair (h .tag) (h .pid) (l .xTag) (l .xPid)) (λ _. by-test Falses (ltb (suc (l .word)) W) (λ _. tt) (λ _. ((λ _ t. t), tt))) (λ _. ((λ _ t. t), tt))
+        by-test Falses (eqPair (h .tag) (h .pid) (l .xTag) (l .xPid))
+        (λ _. by-test Falses (ltb (suc (l .word)) W) (λ _. tt) (λ _. ((λ _ t. t), tt))) (λ _. ((λ _ t. t), tt))
     falses-at sc14 few a b = by-test Falses (eqb (h .tag) (l .keep)) (λ _. tt) (λ _. ((λ _ t. contra t refl), tt))
     falses-at sc17 few a b = tt
     falses-at sc19 few a b = by-test Falses (eqPair (h .tag) (h .pid) (l .oldTag) (l .oldPid)) (λ _. tt) (λ _. ((λ _ t. contra t refl), tt))
@@ -57,7 +58,8 @@ module _ (M W : ℕ) where
         ((λ e t. let r = keep-vl13 M W n h p l num (few refl) a (eqb-true _ _ t) in let o = a .named-old (sym named-is ∙ e) in omega arith), tt)
 
   -- nor an open SC
-  pub opens-false : (n : ℕ) (y : Point) (q : ℕ) (k : Known) (h : Shared) (l : Local) (d : ℕ) → k .named ≡ l .named → ProcessContents M W n y h q l → All FalseAfterNaming (openOf q k (slotOf W y l d))
+  pub opens-false : (n : ℕ) (y : Point) (q : ℕ) (k : Known) (h : Shared) (l : Local) (d : ℕ) → k .named ≡ l .named
+      → ProcessContents M W n y h q l → All FalseAfterNaming (openOf q k (slotOf W y l d))
   opens-false n idle q k h l d e b = tt
   opens-false n ll10 q k h l d e b = ((λ _ t. contra t refl), tt)
   opens-false n ll2 q k h l d e b = ((λ _ t. contra t refl), tt)

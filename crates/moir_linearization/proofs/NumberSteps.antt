@@ -8,7 +8,8 @@ use Rattle.linearization.proofs.Updates.{upd, upd-same, upd-other, contra}
 use Rattle.linearization.proofs.Invariants.{On, on-map, SamePart}
 use Rattle.linearization.proofs.QuietSteps.{pre-put, pre-all, pre-none}
 use Rattle.moir_model.specs.Points.{Point, idle, ll10, ll2, ll4, ll5, ll6, ll7, sc14, sc17, sc19, sc2, sc4, sc5, sc6, sc7, vl13}
-use Rattle.moir_linearization.proofs.GhostMachine.{Local, Shared, State, prev, next, to, setWord, readHeader, setY, setZ, setH, setReturned, setOld, setNew, setKey, rest, restLL, begin, wSeg, wRow, wHeader}
+use Rattle.moir_linearization.proofs.GhostMachine.{Local, Shared, State, prev, next, to, setWord, readHeader, setY, setZ, setH, setReturned}
+use Rattle.moir_linearization.proofs.GhostMachine.{setOld, setNew, setKey, rest, restLL, begin, wSeg, wRow, wHeader}
 use Rattle.moir_linearization.proofs.PointRanges.{lines}
 use Rattle.moir_linearization.proofs.Numbers.{ProcessNumbers, SharedNumbers}
 

@@ -88,7 +88,11 @@ module _ (N M W : ℕ) where
   pub exec-sound : 0 < W → (n : ℕ) (s : State) (c : Cmd) → Sound n s → Sound (suc n) (exec N M W n c s)
   exec-sound hW n s c i =
       by-command N M W (Sound (suc n)) n s c refused begun
-      (λ p hp e. record { numbers = step-numbers M W n hW s p (i .numbers); counts = step-counts M W n hW s p (i .counts) (i .numbers); ranges = step-ranges N M W n s p hp (i .ranges) })
+      (λ p hp e. record {
+        numbers = step-numbers M W n hW s p (i .numbers);
+        counts = step-counts M W n hW s p (i .counts) (i .numbers);
+        ranges = step-ranges N M W n s p hp (i .ranges);
+      })
     where
       refused : Sound (suc n) s
       refused = record {
@@ -97,7 +101,9 @@ module _ (N M W : ℕ) where
         ranges = record { all = i .ranges .all; each = i .ranges .each };
       }
 
-      own : (p : ℕ) (y : Point) (v : ℕ) (w : ℕ → ℕ) → First (s .sh .successes) (s .loc p) y v w → ProcessNumbers M W n idle (s .sh) p (s .loc p) → ProcessNumbers M W (suc n) y (s .sh) p (begin y n v w (s .loc p))
+      own : (p : ℕ) (y : Point) (v : ℕ) (w : ℕ → ℕ) → First (s .sh .successes) (s .loc p) y v w
+          → ProcessNumbers M W n idle (s .sh) p (s .loc p) → ProcessNumbers M W (suc n) y (s .sh) p
+          (begin y n v w (s .loc p))
       own p y v w wll m = n-wll M W n _ p _ hW (i .numbers .all) m
       own p y v w (vl e) m = n-vl M W n _ p _ hW (i .numbers .all) e m
       own p y v w (sc x e) m = n-sc M W n _ p _ hW (i .numbers .all) x e m
@@ -107,7 +113,8 @@ module _ (N M W : ℕ) where
       none p y v w (vl e) = refl
       none p y v w (sc x e) = refl
 
-      begun : (p : ℕ) (y : Point) (v : ℕ) (w : ℕ → ℕ) → First (s .sh .successes) (s .loc p) y v w → s .loc p .point ≡ idle → Sound (suc n) (started N M W n p y v w s)
+      begun : (p : ℕ) (y : Point) (v : ℕ) (w : ℕ → ℕ) → First (s .sh .successes) (s .loc p) y v w
+          → s .loc p .point ≡ idle → Sound (suc n) (started N M W n p y v w s)
       begun p y v w f e = record {
         numbers =
             frame (SharedNumbers M W) (ProcessNumbers M W) n s p (s .sh) _ (i .numbers) (numbers-later-all M W n _ (i .numbers .all))
@@ -117,7 +124,11 @@ module _ (N M W : ℕ) where
       }
 
   pub setup-sound : 0 < N → (v : ℕ → ℕ) → Sound 1 (setUp v)
-  setup-sound hN v = record { numbers = setup-inv N M W v .numbers; counts = λ q. refl; ranges = record { all = hN; each = λ q. record { x-low = hN; old-low = hN; new-low = hN; h-low = hN } } }
+  setup-sound hN v = record {
+    numbers = setup-inv N M W v .numbers;
+    counts = λ q. refl;
+    ranges = record { all = hN; each = λ q. record { x-low = hN; old-low = hN; new-low = hN; h-low = hN } };
+  }
 
   pub run-sound : 0 < W → (n : ℕ) (cs : List Cmd) (s : State) → Sound n s → Sound (numberAfter n cs) (execs N M W n cs s)
   run-sound hW n [] s i = i

@@ -132,24 +132,32 @@ module _ (N W : ℕ) (ws : List ℕ) (rows : ℕ → ℕ → ℕ) (vals : ℕ �
   }
     where
       go : (q j : ℕ) → q < N → j < W → Split q p → getD (set ws (p * W + k) v) (q * W + j) 0 ≡ upd rows p (upd (rows p) k v) q j
-      go q j hq hj (same z) = rw z (near R W ws (r .len) p k v (omega arith) hk (rows p) (λ i hi. r .row p i hp hi) j hj ∙ sym (ap (λ f. f j) (upd-same rows p (upd (rows p) k v))))
-      go q j hq hj (other ne) = far R W ws (r .len) p k v (omega arith) hk q j hj ne ∙ r .row q j hq hj ∙ sym (ap (λ f. f j) (upd-other rows p q (upd (rows p) k v) ne))
+      go q j hq hj (same z) = rw z (near R W ws (r .len) p k v (omega arith) hk (rows p)
+          (λ i hi. r .row p i hp hi) j hj ∙ sym (ap (λ f. f j) (upd-same rows p (upd (rows p) k v))))
+      go q j hq hj (other ne) = far R W ws (r .len) p k v (omega arith) hk q j hj ne ∙ r .row q j hq hj
+          ∙ sym (ap (λ f. f j) (upd-other rows p q (upd (rows p) k v) ne))
 
-  pub words-return : (rs′ os′ : ℕ → ℕ → ℕ) (p k v : ℕ) → p < N → k < W → rs′ p ≡ upd (rs p) k v → ((q : ℕ) → (q ≡ p → ⊥) → rs′ q ≡ rs q) → ((q : ℕ) → os′ q ≡ os q) → WordsLike N W (set ws ((N + 1 + p) * W + k) v) rows vals rs′ os′
+  pub words-return : (rs′ os′ : ℕ → ℕ → ℕ) (p k v : ℕ) → p < N → k < W → rs′ p ≡ upd (rs p) k v
+      → ((q : ℕ) → (q ≡ p → ⊥) → rs′ q ≡ rs q) → ((q : ℕ) → os′ q ≡ os q)
+      → WordsLike N W (set ws ((N + 1 + p) * W + k) v) rows vals rs′ os′
   words-return rs′ os′ p k v hp hk a b c = record {
     len = len-set ((N + 1 + p) * W + k) v;
     row = λ q j hq hj. far R W ws (r .len) (N + 1 + p) k v (omega arith) hk q j hj (λ z. omega arith) ∙ r .row q j hq hj;
     val = λ j hj. far R W ws (r .len) (N + 1 + p) k v (omega arith) hk N j hj (λ z. omega arith) ∙ r .val j hj;
     returned = λ q j hq hj. go q j hq hj (split q p);
-    offered = λ q j hq hj. far R W ws (r .len) (N + 1 + p) k v (omega arith) hk (2 * N + 1 + q) j hj (λ z. omega arith) ∙ r .offered q j hq hj ∙ sym (ap (λ f. f j) (c q));
+    offered = λ q j hq hj. far R W ws (r .len) (N + 1 + p) k v (omega arith) hk (2 * N + 1 + q) j hj
+        (λ z. omega arith) ∙ r .offered q j hq hj ∙ sym (ap (λ f. f j) (c q));
   }
     where
       go : (q j : ℕ) → q < N → j < W → Split q p → getD (set ws ((N + 1 + p) * W + k) v) ((N + 1 + q) * W + j) 0 ≡ rs′ q j
       go q j hq hj (same z) = rw z (near R W ws (r .len) (N + 1 + p) k v (omega arith) hk (rs p) (λ i hi. r .returned p i hp hi) j hj ∙ sym (ap (λ f. f j) a))
-      go q j hq hj (other ne) = far R W ws (r .len) (N + 1 + p) k v (omega arith) hk (N + 1 + q) j hj (λ z. ne (omega arith)) ∙ r .returned q j hq hj ∙ sym (ap (λ f. f j) (b q ne))
+      go q j hq hj (other ne) = far R W ws (r .len) (N + 1 + p) k v (omega arith) hk (N + 1 + q) j hj
+          (λ z. ne (omega arith)) ∙ r .returned q j hq hj ∙ sym (ap (λ f. f j) (b q ne))
 
   -- W words written to p's offer area
-  pub words-offer : (rs′ os′ : ℕ → ℕ → ℕ) (p : ℕ) (v : List ℕ) → p < N → length v ≡ W → ((q : ℕ) → rs′ q ≡ rs q) → os′ p ≡ (λ k. getD v k 0) → ((q : ℕ) → (q ≡ p → ⊥) → os′ q ≡ os q) → WordsLike N W (sets ws ((2 * N + 1 + p) * W + 0) v) rows vals rs′ os′
+  pub words-offer : (rs′ os′ : ℕ → ℕ → ℕ) (p : ℕ) (v : List ℕ) → p < N → length v ≡ W → ((q : ℕ) → rs′ q ≡ rs q)
+      → os′ p ≡ (λ k. getD v k 0) → ((q : ℕ) → (q ≡ p → ⊥) → os′ q ≡ os q)
+      → WordsLike N W (sets ws ((2 * N + 1 + p) * W + 0) v) rows vals rs′ os′
   words-offer rs′ os′ p v hp hv a b c = record {
     len = let z = length-sets ws ((2 * N + 1 + p) * W + 0) v in let y = r .len in omega arith;
     row = λ q j hq hj. out q j hj (λ z. omega arith) ∙ r .row q j hq hj;
@@ -164,7 +172,9 @@ module _ (N W : ℕ) (ws : List ℕ) (rows : ℕ → ℕ → ℕ) (vals : ℕ �
       into : (j : ℕ) → j < W → getD (sets ws ((2 * N + 1 + p) * W + 0) v) ((2 * N + 1 + p) * W + j) 0 ≡ getD v j 0
       into j hj =
           let z : suc (2 * N + 1 + p) * W ≤ (3 * N + 1) * W = mul-le-mul-right W (omega arith) in let y = r .len in
-          ap (λ i. getD (sets ws ((2 * N + 1 + p) * W + 0) v) i 0) (let e : (2 * N + 1 + p) * W + j ≡ (2 * N + 1 + p) * W + 0 + j = omega arith in e) ∙ sets-in v ws ((2 * N + 1 + p) * W + 0) j 0 (omega arith) (omega arith)
+          ap (λ i. getD (sets ws ((2 * N + 1 + p) * W + 0) v) i 0)
+          (let e : (2 * N + 1 + p) * W + j ≡ (2 * N + 1 + p) * W + 0 + j = omega arith in e)
+          ∙ sets-in v ws ((2 * N + 1 + p) * W + 0) j 0 (omega arith) (omega arith)
 
       go : (q j : ℕ) → q < N → j < W → Split q p → getD (sets ws ((2 * N + 1 + p) * W + 0) v) ((2 * N + 1 + q) * W + j) 0 ≡ os′ q j
       go q j hq hj (same e) = rw e (into j hj ∙ sym (ap (λ f. f j) b))

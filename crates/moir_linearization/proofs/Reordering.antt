@@ -24,13 +24,18 @@ ordered : (a b : Timed) (us : List Timed) → a .moment < b .moment → insert a
 ordered a b [] h = stop a b [] h ∙ sym (past b a [] (omega arith))
 ordered a b (u ∷ us) h = go (decLe (u .moment) (a .moment)) (decLe (u .moment) (b .moment)) (ordered a b us h)
   where
-    go : Dec (u .moment ≤ a .moment) → Dec (u .moment ≤ b .moment) → insert a (insert b us) ≡ insert b (insert a us) → insert a (insert b (u ∷ us)) ≡ insert b (insert a (u ∷ us))
-    go (yes x) (yes y) e = ap (insert a) (past b u us y) ∙ past a u (insert b us) x ∙ ap (u ∷_) e ∙ sym (past b u (insert a us) y) ∙ ap (insert b) (sym (past a u us x))
+    go : Dec (u .moment ≤ a .moment) → Dec (u .moment ≤ b .moment) → insert a (insert b us) ≡ insert b (insert a us)
+        → insert a (insert b (u ∷ us)) ≡ insert b (insert a (u ∷ us))
+    go (yes x) (yes y) e = ap (insert a) (past b u us y) ∙ past a u (insert b us) x ∙ ap (u ∷_) e
+        ∙ sym (past b u (insert a us) y) ∙ ap (insert b) (sym (past a u us x))
     go (yes x) (no y) e = absurd (omega arith)
     go (no x) (yes y) e =
-        ap (insert a) (past b u us y) ∙ stop a u (insert b us) (omega arith) ∙ ap (a ∷_) (sym (past b u us y)) ∙ sym (past b a (u ∷ us) (omega arith)) ∙ ap (insert b) (sym (stop a u us (omega arith)))
+        ap (insert a) (past b u us y) ∙ stop a u (insert b us) (omega arith) ∙ ap (a ∷_) (sym (past b u us y))
+        ∙ sym (past b a (u ∷ us) (omega arith)) ∙ ap (insert b) (sym (stop a u us (omega arith)))
     go (no x) (no y) e =
-        ap (insert a) (stop b u us (omega arith)) ∙ stop a b (u ∷ us) h ∙ ap (a ∷_) (sym (stop b u us (omega arith))) ∙ sym (past b a (u ∷ us) (omega arith)) ∙ ap (insert b) (sym (stop a u us (omega arith)))
+        ap (insert a) (stop b u us (omega arith)) ∙ stop a b (u ∷ us) h
+        ∙ ap (a ∷_) (sym (stop b u us (omega arith))) ∙ sym (past b a (u ∷ us) (omega arith))
+        ∙ ap (insert b) (sym (stop a u us (omega arith)))
 
 insert-comm : (a b : Timed) (us : List Timed) → (a .moment ≡ b .moment → ⊥) → insert a (insert b us) ≡ insert b (insert a us)
 insert-comm a b us ne = go (decLe (b .moment) (a .moment))
@@ -62,7 +67,8 @@ moved (more p) (t ∷ ts) m = let r = moved p ts (m .1) in record { timed = t �
 moved swap [] m = absurd m
 moved swap (t ∷ []) m = absurd (m .1)
 moved swap (t ∷ (u ∷ ts)) m = record { timed = u ∷ t ∷ ts; perm = swap; matches = (m .1 .0, (m .0, m .1 .1)) }
-moved (both p q) ts m = let r = moved p ts m in let r′ = moved q (r .timed) (r .matches) in record { timed = r′ .timed; perm = both (r .perm) (r′ .perm); matches = r′ .matches }
+moved (both p q) ts m = let r = moved p ts m in let r′ = moved q (r .timed) (r .matches)
+    in record { timed = r′ .timed; perm = both (r .perm) (r′ .perm); matches = r′ .matches }
 
 pub reordered : (places : ℕ) (value : List ℕ) {cs ds : List Served} → Perm cs ds → Linearizable places value cs → Linearizable places value ds
 reordered places value {cs} p l =

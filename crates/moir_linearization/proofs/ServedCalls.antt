@@ -21,7 +21,8 @@ module _ (N M W : ℕ) (hW : 0 < W) (ES : List Event) where
   S = successesUpTo ES
 
   -- the calls are fed as the machine's are
-  open-as : (y : Point) (q : ℕ) (k : Known) (l : Local) (d e : ℕ) → (copying y ≡ true → d ≡ e) → servedCalls (openOf q k (slotOf W y l d)) ≡ cond (copying y) (scCall W q true e l ∷ []) []
+  open-as : (y : Point) (q : ℕ) (k : Known) (l : Local) (d e : ℕ) → (copying y ≡ true → d ≡ e)
+      → servedCalls (openOf q k (slotOf W y l d)) ≡ cond (copying y) (scCall W q true e l ∷ []) []
   open-as idle q k l d e f = refl
   open-as ll10 q k l d e f = refl
   open-as ll2 q k l d e f = refl
@@ -39,12 +40,16 @@ module _ (N M W : ℕ) (hW : 0 < W) (ES : List Event) where
   open-as sc7 q k l d e f = ap (λ d. scCall W q true d l ∷ []) (f refl)
   open-as vl13 q k l d e f = refl
 
-  opens-as : (m : ℕ) (s : State) (last : ℕ → ℕ) (x : ℕ → Known) → ((q : ℕ) → q < m → KnownOK W S (s .loc q) (last q) (x q)) → servedCalls (openCalls m x) ≡ concat W m (openCall W s last)
+  opens-as : (m : ℕ) (s : State) (last : ℕ → ℕ) (x : ℕ → Known)
+      → ((q : ℕ) → q < m → KnownOK W S (s .loc q) (last q) (x q)) → servedCalls (openCalls m x) ≡ concat W m
+      (openCall W s last)
   opens-as zero s last x f = refl
   opens-as (suc m) s last x f =
       let k = f m (omega arith) in
       served-join (openCalls m x) (openOf m (x m) (x m .slot))
-      ∙ ap₂ _++_ (opens-as m s last x (λ q h. f q (omega arith))) (ap (λ t. servedCalls (openOf m (x m) t)) (k .slot-is) ∙ open-as (s .loc m .point) m (x m) (s .loc m) (k .last) (last m) (k .last-is))
+      ∙ ap₂ _++_ (opens-as m s last x (λ q h. f q (omega arith)))
+      (ap (λ t. servedCalls (openOf m (x m) t)) (k .slot-is) ∙ open-as (s .loc m .point) m (x m) (s .loc m)
+      (k .last) (last m) (k .last-is))
 
   pub served-as : (cs : List Command) (m : ℕ) (s : State) (last : ℕ → ℕ) (x : ℕ → Known) → Reached N M W hW ES m cs s last x
       → servedCalls (callsFrom N (suc m) (events N M W (suc m) cs s) x) ≡ fedFrom N M W (suc m) (map (ghost W) cs) s last
@@ -52,5 +57,6 @@ module _ (N M W : ℕ) (hW : 0 < W) (ES : List Event) where
   served-as [] m s last x r = opens-as N s last x (r .watches .each)
   served-as (c ∷ cs) m s last x r =
       served-join (callOf (c .process) (suc m) (says N M W (suc m) (ghost W c) s) (x (c .process))) _
-      ∙ ap₂ _++_ (ap servedCalls (calls-here N M W hW ES m c cs s last x r) ∙ served-called (x (c .process)) (s .loc (c .process) .count + 1) (answerOf N M W (suc m) (ghost W c) s))
+      ∙ ap₂ _++_ (ap servedCalls (calls-here N M W hW ES m c cs s last x r)
+      ∙ served-called (x (c .process)) (s .loc (c .process) .count + 1) (answerOf N M W (suc m) (ghost W c) s))
       (served-as cs (suc m) _ _ _ (next N M W hW ES m c cs s last x r))

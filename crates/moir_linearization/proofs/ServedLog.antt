@@ -94,7 +94,8 @@ module _ (W : ℕ) (v0 : List ℕ) (log : List Timed) (n : ℕ) (h : Shared) (g 
     }
 
     -- of an SC that succeeds
-    pub append-success : (h′ : Shared) → h′ .successes ≡ suc (h .successes) → h′ .wonAt ≡ n → feeds t fin .words ≡ tab W (h′ .value) → successes fin (t ∷ []) ≡ 1 → LogAll W v0 (insert t log) (suc n) h′
+    pub append-success : (h′ : Shared) → h′ .successes ≡ suc (h .successes) → h′ .wonAt ≡ n
+        → feeds t fin .words ≡ tab W (h′ .value) → successes fin (t ∷ []) ≡ 1 → LogAll W v0 (insert t log) (suc n) h′
     append-success h′ hs hw ew es = record {
       sorted = sorted-insert t log (g .sorted);
       served = end-served;
@@ -105,7 +106,8 @@ module _ (W : ℕ) (v0 : List ℕ) (log : List Timed) (n : ℕ) (h : Shared) (g 
     }
 
   -- AN LL INSERTED, whose value is what the object holds there; a success stands behind it
-  module _ (p : ℕ) (t : Timed) (of-p : t .call .process ≡ p) (is-ll : t .call .kind ≡ ll) (an : t .call .answer ≡ llWords (after o (upto (t .moment) log) .words))
+  module _ (p : ℕ) (t : Timed) (of-p : t .call .process ≡ p) (is-ll : t .call .kind ≡ ll)
+      (an : t .call .answer ≡ llWords (after o (upto (t .moment) log) .words))
       (b : ℕ) (bl : b < t .moment) (mine : All (Mine p b) log) (lt : t .moment < n) (won : t .moment < h .wonAt) where
     free : Free (t .call .process) (past (t .moment) log)
     free = free-past (t .call .process) b (t .moment) log bl (all-map (Mine p b) (Mine (t .call .process) b) (λ u y z. y (z ∙ of-p)) log mine) (g .sorted)
@@ -142,7 +144,8 @@ module _ (W : ℕ) (v0 : List ℕ) (log : List Timed) (n : ℕ) (h : Shared) (g 
     pub insert-own : after o (insert t log) .link p ≡ false
     insert-own =
         subst (λ q. after o (insert t log) .link q ≡ false) of-p
-        (inserted .link ∙ ne-eqb (successes (after o (upto (t .moment) log)) (past (t .moment) log)) 0 (λ z. let y = behind (t .moment) in let x = g .lag (t .moment) won in omega arith))
+        (inserted .link ∙ ne-eqb (successes (after o (upto (t .moment) log)) (past (t .moment) log)) 0
+        (λ z. let y = behind (t .moment) in let x = g .lag (t .moment) won in omega arith))
 
     pub insert-others : (q : ℕ) → (q ≡ p → ⊥) → after o (insert t log) .link q ≡ fin .link q
     insert-others q ne = sym (inserted .alike .link q (λ z. ne (z ∙ of-p)))

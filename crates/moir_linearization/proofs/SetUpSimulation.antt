@@ -34,7 +34,12 @@ set-up-admits m n w value e =
     let a = inside 1 16 n (r 0) in
     let b = inside 1 64 w (r 1) in
     let c = or-false _ _ (r 2) in
-    record { sizes = record { n-low = a .0; n-high = a .1; w-low = b .0; w-high = b .1 }; words = ltb-false _ _ (c .0); records = ltb-false _ _ (c .1); value-length = eqb-true _ _ (not-false _ (r 3)) }
+    record {
+      sizes = record { n-low = a .0; n-high = a .1; w-low = b .0; w-high = b .1 };
+      words = ltb-false _ _ (c .0);
+      records = ltb-false _ _ (c .1);
+      value-length = eqb-true _ _ (not-false _ (r 3));
+    }
 
 set-up-memory : (m : Memory) (n w : ℕ) (value : List ℕ) → U.setUp m n w value .0 ≡ 0 → U.setUp m n w value .1 ≡ atSetUp m n w value
 unfolding U.setUp
@@ -82,12 +87,14 @@ module _ (m : Memory) (N W : ℕ) (value : List ℕ) (shaped : Shaped m) (a : Ad
   row-a : (q k : ℕ) → suc q < N → k < W → getD (valuesAtSetUp N W value) (suc q * W + k) 0 ≡ 0
   row-a q k hq hk =
       let y : suc (suc q) * W ≤ N * W = mul-le-mul-right W hq in
-      in-a (suc q * W + k) (omega arith) ∙ ap (λ i. getD (value ++ others) i 0) (let z = a .value-length in let e : suc q * W + k ≡ length value + (q * W + k) = omega arith in e)
+      in-a (suc q * W + k) (omega arith) ∙ ap (λ i. getD (value ++ others) i 0)
+      (let z = a .value-length in let e : suc q * W + k ≡ length value + (q * W + k) = omega arith in e)
       ∙ getD-append-add value others (q * W + k) 0 ∙ zeros ((N - 1) * W) (q * W + k)
 
   row-n : (k : ℕ) → k < W → getD (valuesAtSetUp N W value) (N * W + k) 0 ≡ v0 k
   row-n k hk =
-      in-front (N * W + k) (omega arith) ∙ ap (λ i. getD (value ++ others ++ value) i 0) (let z = length-a in let e : N * W + k ≡ length (value ++ others) + k = omega arith in e)
+      in-front (N * W + k) (omega arith) ∙ ap (λ i. getD (value ++ others ++ value) i 0)
+      (let z = length-a in let e : N * W + k ≡ length (value ++ others) + k = omega arith in e)
       ∙ getD-append-add (value ++ others) value k 0
 
   row-late : (q k : ℕ) → N < q → k < W → getD (valuesAtSetUp N W value) (q * W + k) 0 ≡ 0
@@ -143,5 +150,6 @@ module _ (m : Memory) (N W : ℕ) (value : List ℕ) (shaped : Shaped m) (a : Ad
     process = process-at;
   }
 
-pub set-up-related : (m : Memory) (n w : ℕ) (value : List ℕ) → Shaped m → U.setUp m n w value .0 ≡ 0 → Related n w (U.setUp m n w value .1) (setUp (λ k. getD value k 0))
+pub set-up-related : (m : Memory) (n w : ℕ) (value : List ℕ) → Shaped m → U.setUp m n w value .0 ≡ 0
+    → Related n w (U.setUp m n w value .1) (setUp (λ k. getD value k 0))
 set-up-related m n w value shaped e = rw (set-up-memory m n w value e) (at-set-up-related m n w value shaped (set-up-admits m n w value e))

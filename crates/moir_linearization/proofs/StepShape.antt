@@ -24,7 +24,12 @@ module _ (M W n : ℕ) (s : State) (p : ℕ) where
   k = l .word
 
   put : (h′ : Shared) (c : Local) → c .startVersion ≡ l .startVersion → h .successes ≤ h′ .successes → Shape s p (noisy s p h′ c)
-  put h′ c e g = record { others = λ q ne. upd-other (s .loc) p q c ne; same-start = ap (λ (x : Local). x .startVersion) (upd-same (s .loc) p c) ∙ e; grows = g }
+  put h′ c e g = record {
+    others = λ q ne. upd-other (s .loc) p q c ne;
+    same-start =
+        ap (λ (x : Local). x .startVersion) (upd-same (s .loc) p c) ∙ e;
+    grows = g;
+  }
 
   -- a step with no success
   keep : (h′ : Shared) (c : Local) → c .startVersion ≡ l .startVersion → h .successes ≡ h′ .successes → Shape s p (noisy s p h′ c)
@@ -38,7 +43,9 @@ module _ (M W n : ℕ) (s : State) (p : ℕ) where
   shape ll4 = keep h _ refl refl
   shape ll5 = by-test (Shape s p) (eqPair (h .segTag k) (h .segVal k) (l .yTag) (l .yVal)) (λ _. keep _ _ refl refl) (λ _. keep h _ refl refl)
   shape ll6 = keep h _ refl refl
-  shape ll7 = by-test (Shape s p) (eqPair (h .tag) (h .pid) (l .xTag) (l .xPid)) (λ _. by-test (Shape s p) (ltb (suc k) W) (λ _. keep h _ refl refl) (λ _. keep h _ refl refl)) (λ _. keep h _ refl refl)
+  shape ll7 = by-test (Shape s p) (eqPair (h .tag) (h .pid) (l .xTag) (l .xPid))
+      (λ _. by-test (Shape s p) (ltb (suc k) W) (λ _. keep h _ refl refl) (λ _. keep h _ refl refl))
+      (λ _. keep h _ refl refl)
   shape sc14 = by-test (Shape s p) (eqb (h .tag) (l .keep)) (λ _. keep h _ refl refl) (λ _. keep h _ refl refl)
   shape sc17 = by-test (Shape s p) (ltb (suc k) W) (λ _. keep _ _ refl refl) (λ _. keep _ _ refl refl)
   shape sc19 = by-test (Shape s p) (eqPair (h .tag) (h .pid) (l .oldTag) (l .oldPid)) (λ _. put _ _ refl (omega arith)) (λ _. keep h _ refl refl)
@@ -46,7 +53,9 @@ module _ (M W n : ℕ) (s : State) (p : ℕ) where
   shape sc4 = keep h _ refl refl
   shape sc5 = by-test (Shape s p) (eqPair (h .segTag k) (h .segVal k) (l .yTag) (l .yVal)) (λ _. keep _ _ refl refl) (λ _. keep h _ refl refl)
   shape sc6 = keep h _ refl refl
-  shape sc7 = by-test (Shape s p) (eqPair (h .tag) (h .pid) (l .newTag) (l .newPid)) (λ _. by-test (Shape s p) (ltb (suc k) W) (λ _. keep h _ refl refl) (λ _. keep h _ refl refl)) (λ _. keep h _ refl refl)
+  shape sc7 = by-test (Shape s p) (eqPair (h .tag) (h .pid) (l .newTag) (l .newPid))
+      (λ _. by-test (Shape s p) (ltb (suc k) W) (λ _. keep h _ refl refl) (λ _. keep h _ refl refl))
+      (λ _. keep h _ refl refl)
   shape vl13 = keep h _ refl refl
 
   -- the bound, before the step

@@ -71,7 +71,8 @@ winning es = winning-from es 0 (WonFrom 1 es) (λ q k x. x)
 
 pub growing : (es : List Event) (n j k : ℕ) → j ≤ k → successesFrom n es j ≤ successesFrom n es k
 growing [] n j k h = omega arith
-growing (e ∷ es) n j k h = let z = growing es (suc n) j k h in let y = one (e .won) (leb n j) (leb n k) (λ x. le-leb n k (let w = leb-true n j x in omega arith)) in omega arith
+growing (e ∷ es) n j k h = let z = growing es (suc n) j k h in let y = one (e .won) (leb n j) (leb n k)
+    (λ x. le-leb n k (let w = leb-true n j x in omega arith)) in omega arith
   where
     one : (b c d : Bool) → (c ≡ true → d ≡ true) → cond (b && c) 1 0 ≤ cond (b && d) 1 0
     one false c d f = omega arith

@@ -56,19 +56,24 @@ module _ (M W n : ℕ) (h : Shared) (p : ℕ) (l : Local) (g : SharedNumbers M W
     keep-vl13 m e = present (m .begun-read) (m .read-made) (e ∙ m .keep-tag)
 
     -- CAS: the version c that is copied, from a segment whose tag t is the present or the one before, is the present one, and t is not
-    copied : (c t : ℕ) → l .startVersion ≤ c → c ≤ h .successes → 1 < M → t ≡ prev M (c % M) → (t ≡ h .tag) ⊎ (t ≡ prev M (h .tag)) → (c ≡ h .successes) × (t ≡ h .tag → ⊥)
+    copied : (c t : ℕ) → l .startVersion ≤ c → c ≤ h .successes → 1 < M → t ≡ prev M (c % M)
+        → (t ≡ h .tag) ⊎ (t ≡ prev M (h .tag)) → (c ≡ h .successes) × (t ≡ h .tag → ⊥)
     copied c t a b two e (inl f) =
         absurd (mod-ne M c (suc (h .successes)) (omega arith) (omega arith) (sym (next-of M two (h .successes) c (sym (g .header-tag) ∙ sym f ∙ e))))
     copied c t a b two e (inr f) =
-        let q : t ≡ prev M (h .successes % M) = f ∙ ap (prev M) (g .header-tag) in
-        (mod-inj M c (h .successes) b (omega arith) (prev-inj M two c (h .successes) (sym e ∙ q)), λ z. prev-ne M two (h .successes) (sym q ∙ z ∙ g .header-tag))
+        let q : t ≡ prev M (h .successes % M) = f ∙ ap (prev M) (g .header-tag) in (
+          mod-inj M c (h .successes) b (omega arith) (prev-inj M two c (h .successes) (sym e ∙ q)),
+          λ z. prev-ne M two (h .successes) (sym q ∙ z ∙ g .header-tag),
+        )
 
     pub two : l .startVersion ≤ h .successes → 1 < M
     two a = omega arith
 
-    pub cas-ll5 : ProcessNumbers M W n ll5 h p l → (t : ℕ) → t ≡ l .yTag → (t ≡ h .tag) ⊎ (t ≡ prev M (h .tag)) → (l .readVersion ≡ h .successes) × (t ≡ h .tag → ⊥)
+    pub cas-ll5 : ProcessNumbers M W n ll5 h p l → (t : ℕ) → t ≡ l .yTag → (t ≡ h .tag) ⊎ (t ≡ prev M (h .tag))
+        → (l .readVersion ≡ h .successes) × (t ≡ h .tag → ⊥)
     cas-ll5 m t e f = copied (l .readVersion) t (m .begun-read-ll) (m .read-made) (two (m .begun-made)) (e ∙ m .y-tag-ll ∙ ap (prev M) (m .x-tag)) f
 
-    pub cas-sc5 : ProcessNumbers M W n sc5 h p l → (t : ℕ) → t ≡ l .yTag → (t ≡ h .tag) ⊎ (t ≡ prev M (h .tag)) → (suc (l .readVersion) ≡ h .successes) × (t ≡ h .tag → ⊥)
+    pub cas-sc5 : ProcessNumbers M W n sc5 h p l → (t : ℕ) → t ≡ l .yTag → (t ≡ h .tag) ⊎ (t ≡ prev M (h .tag))
+        → (suc (l .readVersion) ≡ h .successes) × (t ≡ h .tag → ⊥)
     cas-sc5 m t e f =
         copied (suc (l .readVersion)) t (let z = m .begun-read in omega arith) (m .won) (two (m .begun-made)) (e ∙ m .y-tag-sc ∙ ap (prev M) (m .new-tag)) f

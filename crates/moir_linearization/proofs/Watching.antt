@@ -69,17 +69,48 @@ module _ (W : ℕ) where
   run-slot sc7 l d b = record { kind = _; won = _; is = refl }
   run-slot vl13 l d b = record { kind = _; won = _; is = refl }
 
+  -- the next step is the first of a WLL
+  abbrev pub readsNext : Point → Bool
+  readsNext idle = false
+  readsNext ll10 = true
+  readsNext ll2 = false
+  readsNext ll4 = false
+  readsNext ll5 = false
+  readsNext ll6 = false
+  readsNext ll7 = false
+  readsNext sc14 = false
+  readsNext sc17 = false
+  readsNext sc19 = false
+  readsNext sc2 = false
+  readsNext sc4 = false
+  readsNext sc5 = false
+  readsNext sc6 = false
+  readsNext sc7 = false
+  readsNext vl13 = false
+
   -- what is known of a process whose record is l: S counts the successes up to a command, d is the number of the last step
   pub record KnownOK (S : ℕ → ℕ) (l : Local) (d : ℕ) (k : Known) : Type 0 where
     pub last : ℕ
     pub slot-is : k .slot ≡ slotOf (l .point) l last
     pub last-is : copying (l .point) ≡ true → last ≡ d
     pub since-is : S (k .wll) ≡ l .startVersion
+    pub unread-is : k .unread ≡ readsNext (l .point)
+    pub read-is : S (k .read) ≡ l .readVersion
     pub named-is : k .named ≡ l .named
 
 -- the call of a history that a step with the count c answers, its process known as k
 abbrev pub called : Known → ℕ → Served → Call
-called k c z = record { process = z .process; kind = z .kind; start = z .start; end = z .end; steps = c; wll = k .wll; named = k .named; outcome = ended (z .answer) c }
+called k c z = record {
+  process = z .process;
+  kind = z .kind;
+  start = z .start;
+  end = z .end;
+  steps = c;
+  wll = k .wll;
+  read = k .read;
+  named = k .named;
+  outcome = ended (z .answer) c;
+}
 
 abbrev pub stepEvent : ℕ → List ℕ → Said → Bool → Event
 stepEvent p v sd won = record { command = record { process = p; order = Step; value = v }; said = sd; won = won }
@@ -100,7 +131,8 @@ module _ (M W n : ℕ) (S : ℕ → ℕ) (s : State) (p : ℕ) (v : List ℕ) (k
 
   -- p's step from y answers the calls cs, and leaves p with c and h′ shared
   pub record StepAt (y : Point) (cs : List Served) (h′ : Shared) (c : Local) : Type 0 where
-    pub known : KnownOK W S c n (knownAfter n (stepEvent p v (saidBy cs (l .count + 1)) (wonTo y (c .point))) (saidBy cs (l .count + 1)) k)
+    pub known : S n ≡ cond (wonTo y (c .point)) (suc (h .successes)) (h .successes)
+        → KnownOK W S c n (knownAfter n (stepEvent p v (saidBy cs (l .count + 1)) (wonTo y (c .point))) (saidBy cs (l .count + 1)) k)
     pub count : h′ .successes ≡ cond (wonTo y (c .point)) (suc (h .successes)) (h .successes)
     pub who : h′ .pid ≡ cond (wonTo y (c .point)) p (h .pid)
     pub when : h′ .wonAt ≡ cond (wonTo y (c .point)) n (h .wonAt)
@@ -117,15 +149,28 @@ module _ (M W n : ℕ) (S : ℕ → ℕ) (s : State) (p : ℕ) (v : List ℕ) (k
   never false = refl
 
   -- k is what is known before the step from y
-  module _ (y : Point) (slot-is : k .slot ≡ slotOf W y l d) (since-is : S (k .wll) ≡ l .startVersion) (named-is : k .named ≡ l .named) where
+  module _ (y : Point) (slot-is : k .slot ≡ slotOf W y l d) (since-is : S (k .wll) ≡ l .startVersion)
+      (named-is : k .named ≡ l .named) (unread-is : k .unread ≡ readsNext W y) (read-is : S (k .read) ≡ l .readVersion) where
     -- no answer
-    acc : (h′ : Shared) (c : Local) → stepped n (wonTo y (c .point)) (slotOf W y l d) ≡ slotOf W (c .point) c n → c .startVersion ≡ l .startVersion → c .named ≡ l .named
+    acc : (h′ : Shared) (c : Local) → stepped n (wonTo y (c .point)) (slotOf W y l d) ≡ slotOf W (c .point) c n
+        → c .startVersion ≡ l .startVersion → c .named ≡ l .named
         → h′ .successes ≡ cond (wonTo y (c .point)) (suc (h .successes)) (h .successes)
-        → h′ .pid ≡ cond (wonTo y (c .point)) p (h .pid) → h′ .wonAt ≡ cond (wonTo y (c .point)) n (h .wonAt) → StepOK y [] (noisy s p h′ c)
-    acc h′ c e es en a b w =
+        → h′ .pid ≡ cond (wonTo y (c .point)) p (h .pid) → h′ .wonAt ≡ cond (wonTo y (c .point)) n (h .wonAt)
+        → readsNext W (c .point) ≡ false
+        → (S n ≡ cond (wonTo y (c .point)) (suc (h .successes)) (h .successes) → S (cond (readsNext W y) n (k .read)) ≡ c .readVersion)
+        → StepOK y [] (noisy s p h′ c)
+    acc h′ c e es en a b w eu er =
         put y [] h′ c
         (record {
-          known = record { last = n; slot-is = ap (stepped n (wonTo y (c .point))) slot-is ∙ e; last-is = λ _. refl; since-is = since-is ∙ sym es; named-is = named-is ∙ sym en };
+          known = λ counts. record {
+            last = n;
+            slot-is = ap (stepped n (wonTo y (c .point))) slot-is ∙ e;
+            last-is = λ _. refl;
+            since-is = since-is ∙ sym es;
+            unread-is = sym eu;
+            read-is = ap (λ b. S (cond b n (k .read))) unread-is ∙ er counts;
+            named-is = named-is ∙ sym en;
+          };
           count = a;
           who = b;
           when = w;
@@ -134,46 +179,63 @@ module _ (M W n : ℕ) (S : ℕ → ℕ) (s : State) (p : ℕ) (v : List ℕ) (k
 
     -- an answer
     ans : (x : Served) (c : Local) → c .point ≡ idle → endedBy p n (x .answer) (l .count + 1) k (slotOf W y l d) ≡ called k (l .count + 1) x
-        → c .startVersion ≡ l .startVersion → c .named ≡ namedBy (l .named) (x .answer) → StepOK y (x ∷ []) (quiet s p c)
-    ans x c ei ee es en =
+        → c .startVersion ≡ l .startVersion → c .named ≡ namedBy (l .named) (x .answer)
+        → readsNext W y ≡ false → c .readVersion ≡ l .readVersion → StepOK y (x ∷ []) (quiet s p c)
+    ans x c ei ee es en ey er =
         let f : wonTo y (c .point) ≡ false = ap (wonTo y) ei ∙ never (copying y) in
         put y (x ∷ []) h c
         (record {
-          known = record { last = n; slot-is = sym (ap (λ (z : Point). slotOf W z c n) ei); last-is = λ _. refl; since-is = since-is ∙ sym es; named-is = ap (λ b. namedBy b (x .answer)) named-is ∙ sym en };
+          known = λ _. record {
+            last = n;
+            slot-is = sym (ap (λ (z : Point). slotOf W z c n) ei);
+            last-is = λ _. refl;
+            since-is = since-is ∙ sym es;
+            unread-is = sym (ap (readsNext W) ei);
+            read-is = ap (λ b. S (cond b n (k .read))) (unread-is ∙ ey) ∙ read-is ∙ sym er;
+            named-is = ap (λ b. namedBy b (x .answer)) named-is ∙ sym en;
+          };
           count = sym (ap (λ b. cond b (suc (h .successes)) (h .successes)) f);
           who = sym (ap (λ b. cond b p (h .pid)) f);
           when = sym (ap (λ b. cond b n (h .wonAt)) f);
           calls = ap (λ t. endedBy p n (x .answer) (l .count + 1) k t ∷ []) slot-is ∙ ap (_∷ []) ee;
         })
 
-  pub step-ok : (y : Point) → busy y ≡ true → k .slot ≡ slotOf W y l d → S (k .wll) ≡ l .startVersion → k .named ≡ l .named → ProcessNumbers M W n y h p l → StepOK y (answerAt W y n p s) (stepAt M W y n p s)
+  pub step-ok : (y : Point) → busy y ≡ true → k .slot ≡ slotOf W y l d → S (k .wll) ≡ l .startVersion
+      → k .named ≡ l .named → k .unread ≡ readsNext W y → S (k .read) ≡ l .readVersion
+      → ProcessNumbers M W n y h p l → StepOK y (answerAt W y n p s) (stepAt M W y n p s)
   unfolding stepAt
-  step-ok idle b e f g a = absurd (contra b refl)
-  step-ok ll10 b e f g a = acc ll10 e f g h _ refl refl refl refl refl refl
-  step-ok ll2 b e f g a = by-test (StepOK ll2 []) (eqb (h .segTag i) (prev M (l .xTag))) (λ _. acc ll2 e f g h _ refl refl refl refl refl refl) (λ _. acc ll2 e f g h _ refl refl refl refl refl refl)
-  step-ok ll4 b e f g a = acc ll4 e f g h _ refl refl refl refl refl refl
-  step-ok ll5 b e f g a =
+  step-ok idle b e f g u r a = absurd (contra b refl)
+  step-ok ll10 b e f g u r a = acc ll10 e f g u r h _ refl refl refl refl refl refl refl (λ z. z)
+  step-ok ll2 b e f g u r a = by-test (StepOK ll2 []) (eqb (h .segTag i) (prev M (l .xTag)))
+      (λ _. acc ll2 e f g u r h _ refl refl refl refl refl refl refl (λ _. r)) (λ _. acc ll2 e f g u r h _ refl refl refl refl refl refl refl (λ _. r))
+  step-ok ll4 b e f g u r a = acc ll4 e f g u r h _ refl refl refl refl refl refl refl (λ _. r)
+  step-ok ll5 b e f g u r a =
       by-test (StepOK ll5 []) (eqPair (h .segTag i) (h .segVal i) (l .yTag) (l .yVal))
-      (λ _. acc ll5 e f g _ _ refl refl refl refl refl refl) (λ _. acc ll5 e f g h _ refl refl refl refl refl refl)
-  step-ok ll6 b e f g a = acc ll6 e f g h _ refl refl refl refl refl refl
-  step-ok ll7 b e f g a =
+      (λ _. acc ll5 e f g u r _ _ refl refl refl refl refl refl refl (λ _. r)) (λ _. acc ll5 e f g u r h _ refl refl refl refl refl refl refl (λ _. r))
+  step-ok ll6 b e f g u r a = acc ll6 e f g u r h _ refl refl refl refl refl refl refl (λ _. r)
+  step-ok ll7 b e f g u r a =
       by-test₂ (λ u cs. StepOK ll7 cs u) (eqPair (h .tag) (h .pid) (l .xTag) (l .xPid))
-      (λ _. by-test₂ (λ u cs. StepOK ll7 cs u) (ltb (suc i) W) (λ _. acc ll7 e f g h _ refl refl refl refl refl refl) (λ _. ans ll7 e f g _ _ refl refl refl refl))
-      (λ _. ans ll7 e f g _ _ refl refl refl refl)
-  step-ok sc14 b e f g a =
-      by-test₂ (λ u cs. StepOK sc14 cs u) (eqb (h .tag) (l .keep)) (λ _. acc sc14 e f g h _ refl refl refl refl refl refl) (λ _. ans sc14 e f g _ _ refl refl refl refl)
-  step-ok sc17 b e f g a = by-test (StepOK sc17 []) (ltb (suc i) W) (λ _. acc sc17 e f g _ _ refl refl refl refl refl refl) (λ _. acc sc17 e f g _ _ refl refl refl refl refl refl)
-  step-ok sc19 b e f g a =
+      (λ _. by-test₂ (λ u cs. StepOK ll7 cs u) (ltb (suc i) W)
+      (λ _. acc ll7 e f g u r h _ refl refl refl refl refl refl refl (λ _. r)) (λ _. ans ll7 e f g u r _ _ refl refl refl refl refl refl))
+      (λ _. ans ll7 e f g u r _ _ refl refl refl refl refl refl)
+  step-ok sc14 b e f g u r a =
+      by-test₂ (λ u cs. StepOK sc14 cs u) (eqb (h .tag) (l .keep))
+      (λ _. acc sc14 e f g u r h _ refl refl refl refl refl refl refl (λ _. r)) (λ _. ans sc14 e f g u r _ _ refl refl refl refl refl refl)
+  step-ok sc17 b e f g u r a = by-test (StepOK sc17 []) (ltb (suc i) W)
+      (λ _. acc sc17 e f g u r _ _ refl refl refl refl refl refl refl (λ _. r)) (λ _. acc sc17 e f g u r _ _ refl refl refl refl refl refl refl (λ _. r))
+  step-ok sc19 b e f g u r a =
       by-test₂ (λ u cs. StepOK sc19 cs u) (eqPair (h .tag) (h .pid) (l .oldTag) (l .oldPid))
-      (λ _. acc sc19 e f g _ _ refl refl refl refl (a .new-pid) refl) (λ _. ans sc19 e f g _ _ refl refl refl refl)
-  step-ok sc2 b e f g a = by-test (StepOK sc2 []) (eqb (h .segTag i) (prev M (l .newTag))) (λ _. acc sc2 e f g h _ refl refl refl refl refl refl) (λ _. acc sc2 e f g h _ refl refl refl refl refl refl)
-  step-ok sc4 b e f g a = acc sc4 e f g h _ refl refl refl refl refl refl
-  step-ok sc5 b e f g a =
+      (λ _. acc sc19 e f g u r _ _ refl refl refl refl (a .new-pid) refl refl (λ _. r)) (λ _. ans sc19 e f g u r _ _ refl refl refl refl refl refl)
+  step-ok sc2 b e f g u r a = by-test (StepOK sc2 []) (eqb (h .segTag i) (prev M (l .newTag)))
+      (λ _. acc sc2 e f g u r h _ refl refl refl refl refl refl refl (λ _. r)) (λ _. acc sc2 e f g u r h _ refl refl refl refl refl refl refl (λ _. r))
+  step-ok sc4 b e f g u r a = acc sc4 e f g u r h _ refl refl refl refl refl refl refl (λ _. r)
+  step-ok sc5 b e f g u r a =
       by-test (StepOK sc5 []) (eqPair (h .segTag i) (h .segVal i) (l .yTag) (l .yVal))
-      (λ _. acc sc5 e f g _ _ refl refl refl refl refl refl) (λ _. acc sc5 e f g h _ refl refl refl refl refl refl)
-  step-ok sc6 b e f g a = acc sc6 e f g h _ refl refl refl refl refl refl
-  step-ok sc7 b e f g a =
+      (λ _. acc sc5 e f g u r _ _ refl refl refl refl refl refl refl (λ _. r)) (λ _. acc sc5 e f g u r h _ refl refl refl refl refl refl refl (λ _. r))
+  step-ok sc6 b e f g u r a = acc sc6 e f g u r h _ refl refl refl refl refl refl refl (λ _. r)
+  step-ok sc7 b e f g u r a =
       by-test₂ (λ u cs. StepOK sc7 cs u) (eqPair (h .tag) (h .pid) (l .newTag) (l .newPid))
-      (λ _. by-test₂ (λ u cs. StepOK sc7 cs u) (ltb (suc i) W) (λ _. acc sc7 e f g h _ refl refl refl refl refl refl) (λ _. ans sc7 e f g _ _ refl refl refl refl))
-      (λ _. ans sc7 e f g _ _ refl refl refl refl)
-  step-ok vl13 b e f g a = ans vl13 e f g _ _ refl refl refl refl
+      (λ _. by-test₂ (λ u cs. StepOK sc7 cs u) (ltb (suc i) W)
+      (λ _. acc sc7 e f g u r h _ refl refl refl refl refl refl refl (λ _. r)) (λ _. ans sc7 e f g u r _ _ refl refl refl refl refl refl))
+      (λ _. ans sc7 e f g u r _ _ refl refl refl refl refl refl)
+  step-ok vl13 b e f g u r a = ans vl13 e f g u r _ _ refl refl refl refl refl refl

@@ -135,12 +135,13 @@ NamedWroteAs es c (pending b) = Unit {0}
 abbrev pub NamedWrote : List Event → Call → Type 0
 NamedWrote es c = NamedWroteAs es c (c .outcome)
 
--- no SC or VL is wrongly false: one that answers false has a success between its WLL's start and its answer
+-- no SC or VL is wrongly false: one that answers false has a success between the first step of its process's last WLL,
+-- which read the header, and its answer
 abbrev pub FalseWithCauseAs : List Event → Call → Outcome → Type 0
 FalseWithCauseAs es c (ended (words w) n) = Unit {0}
 FalseWithCauseAs es c (ended (names q) n) = Unit {0}
-FalseWithCauseAs es c (ended (scTruth b) n) = b ≡ false → successesUpTo es (c .wll) < successesUpTo es (c .end)
-FalseWithCauseAs es c (ended (vlTruth b) n) = b ≡ false → successesUpTo es (c .wll) < successesUpTo es (c .end)
+FalseWithCauseAs es c (ended (scTruth b) n) = b ≡ false → successesUpTo es (c .read) < successesUpTo es (c .end)
+FalseWithCauseAs es c (ended (vlTruth b) n) = b ≡ false → successesUpTo es (c .read) < successesUpTo es (c .end)
 FalseWithCauseAs es c (pending b) = Unit {0}
 
 abbrev pub FalseWithCause : List Event → Call → Type 0

@@ -84,5 +84,6 @@ module _ (b : Bench) (rs : List Process) (ws : List ℕ) (p : ℕ) (o : Order) (
       ap (storedBack rs) (sym (refused-law b list (length rs) p o v ws number refl n)) ∙
       simp (out, same-number, ne-eqb (refusal m p o v) 0 (λ z. n (same-number ∙ z)))
 
-  pub decision-law : storedBack rs (decided b (gathered rs noProcess 16 .list) (length rs) p o v ws) ≡ command (record { bench = b; records = rs; words = ws }) p o v
+  pub decision-law : storedBack rs (decided b (gathered rs noProcess 16 .list) (length rs) p o v ws) ≡ command
+      (record { bench = b; records = rs; words = ws }) p o v
   decision-law = by-number number refl

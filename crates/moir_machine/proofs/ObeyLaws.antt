@@ -26,12 +26,14 @@ module _ (b : Bench) (list : List Process) (len p : ℕ) (o : Order) (value word
   in-list : length list ≡ 16 → (h : Cleared b list len p o (length value) (length words)) → InRange (b .n) (b .w) (getD list p noProcess)
   unfolding inRange
   in-list l h =
-      let e : every (processOk (b .n) (b .w)) (take (b .n) list) ≡ true = right (headerOk (b .n) (b .header)) (every (processOk (b .n) (b .w)) (take (b .n) list)) (h .range) in
+      let e : every (processOk (b .n) (b .w)) (take (b .n) list) ≡ true = right (headerOk (b .n) (b .header))
+      (every (processOk (b .n) (b .w)) (take (b .n) list)) (h .range) in
       let s : p < length (take (b .n) list) = simp length-take (omega (arith, h .process, h .n-most)) in
       let f : processOk (b .n) (b .w) (getD (take (b .n) list) p noProcess) ≡ true = every-at (processOk (b .n) (b .w)) (take (b .n) list) p noProcess e s in
       in-range (b .n) (b .w) (getD list p noProcess) (h .w-most) (rw (getD-take (b .n) list p noProcess (h .process)) at f)
 
-  pub obeyable : length list ≡ 16 → decisionNumber b list len p o (length value) (length words) ≡ 0 → Obeyable o (record { 0 = p }) value b (recordAt list (record { 0 = p })) words
+  pub obeyable : length list ≡ 16 → decisionNumber b list len p o (length value) (length words) ≡ 0
+      → Obeyable o (record { 0 = p }) value b (recordAt list (record { 0 = p })) words
   obeyable l e =
       let h = none-holds b list len p o (length value) (length words) e in
       let q = in-list l h in
@@ -49,7 +51,8 @@ module _ (b : Bench) (list : List Process) (len p : ℕ) (o : Order) (value word
   process-small e = let h = none-holds b list len p o (length value) (length words) e in omega (arith, h .process, h .n-most)
 
   -- the two answers of a decision
-  pub refused-law : (k : ℕ) → k ≡ decisionNumber b list len p o (length value) (length words) → (k ≡ 0 → ⊥) → (refusedOutcome b len k, words) ≡ decided b list len p o value words
+  pub refused-law : (k : ℕ) → k ≡ decisionNumber b list len p o (length value) (length words) → (k ≡ 0 → ⊥)
+      → (refusedOutcome b len k, words) ≡ decided b list len p o value words
   unfolding decided
   refused-law k e h = rw e (simp (ne-eqb (decisionNumber b list len p o (length value) (length words)) 0 (λ z. h (e ∙ z))))
 

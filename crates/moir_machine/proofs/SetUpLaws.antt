@@ -36,14 +36,16 @@ segments-lent n w = omega arith
 
 -- the four runs of words
 pub words-set : (ws value : List ℕ) (n w : ℕ) → 1 ≤ n → length value ≡ w
-    → sets (sets (sets (sets ws 0 value) w (replicate (n * w - w) 0)) (n * w) value) (n * w + w) (replicate ((3 * n + 1) * w - (n * w + w)) 0) ≡ wordsAtSetUp ws n w value
+    → sets (sets (sets (sets ws 0 value) w (replicate (n * w - w) 0)) (n * w) value) (n * w + w)
+    (replicate ((3 * n + 1) * w - (n * w + w)) 0) ≡ wordsAtSetUp ws n w value
 words-set ws value n w h e =
     let z1 : List ℕ = replicate ((n - 1) * w) 0 in
     let z2 : List ℕ = replicate (2 * n * w) 0 in
     let rows : (n - 1) * w ≡ n * w - w = let k : suc (n - 1) ≡ n = omega arith in let y : suc (n - 1) * w ≡ n * w = ap (_* w) k in omega arith in
     let last : (3 * n + 1) * w - (n * w + w) ≡ 2 * n * w = omega arith in
     let la : 0 + length value ≡ w = omega arith in
-    let lb : 0 + length (value ++ z1) ≡ n * w = let x = length-append value z1 in let y : length z1 ≡ (n - 1) * w = length-replicate ((n - 1) * w) 0 in let z = first-row n w h in omega arith in
+    let lb : 0 + length (value ++ z1) ≡ n * w = let x = length-append value z1 in let y : length z1 ≡ (n - 1) * w =
+    length-replicate ((n - 1) * w) 0 in let z = first-row n w h in omega arith in
     let lc : 0 + length (value ++ z1 ++ value) ≡ n * w + w = let x = length-append (value ++ z1) value in omega arith in
     rw (last, sym rows)
     (sym (sets-append ws 0 (value ++ z1 ++ value) z2 ∙ rw lc
@@ -52,7 +54,8 @@ words-set ws value n w h e =
 
 -- the words after each of them
 pub four-runs : (ws value a b c d : List ℕ) (n w l : ℕ) → 1 ≤ n → length value ≡ w → l ≡ (3 * n + 1) * w
-    → a ≡ sets ws 0 value → b ≡ sets a w (replicate (n * w - w) 0) → c ≡ sets b (n * w) value → d ≡ sets c (n * w + w) (replicate (l - (n * w + w)) 0) → d ≡ wordsAtSetUp ws n w value
+    → a ≡ sets ws 0 value → b ≡ sets a w (replicate (n * w - w) 0) → c ≡ sets b (n * w) value
+    → d ≡ sets c (n * w + w) (replicate (l - (n * w + w)) 0) → d ≡ wordsAtSetUp ws n w value
 four-runs ws value a b c d n w l h e el ea eb ec ed =
     ed ∙ ap (λ (k : ℕ). sets c (n * w + w) (replicate (k - (n * w + w)) 0)) el ∙
     ap (λ (x : List ℕ). sets x (n * w + w) (replicate ((3 * n + 1) * w - (n * w + w)) 0))

@@ -21,7 +21,8 @@ use Rattle.moir_machine.specs.declared.setup.Prepared.{Prepared}
 unfoldable pub setUpNumber : ℕ → ℕ → ℕ → ℕ → ℕ → ℕ
 setUpNumber n w records words value = first (setUpRowsOf n w records words value)
 
-pub set-up-number : (m : Memory) (n w : ℕ) (value : List ℕ) → setUpNumber n w (length (m .records)) (length (m .words)) (length value) ≡ setUpRefusal m n w value
+pub set-up-number : (m : Memory) (n w : ℕ) (value : List ℕ) → setUpNumber n w (length (m .records))
+    (length (m .words)) (length value) ≡ setUpRefusal m n w value
 unfolding setUpNumber setUpRefusal
 set-up-number m n w value = refl
 

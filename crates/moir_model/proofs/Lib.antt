@@ -2,3 +2,4 @@ pub mod Schedules
 pub mod Runs
 pub mod SecondRead
 pub mod Limits
+pub mod Histories

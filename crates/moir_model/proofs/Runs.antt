@@ -125,8 +125,10 @@ differingLine3 = record {
   w = 1;
   k = 5;
   entries = 34;
-  commands = l 0 ++ steps 3 0 ++ s 1 0 5 ++ steps 2 0 ++ l 1 ++ steps 1 1 ++ steps 6 0 ++ l 0 ++ steps 3 0 ++ s 1 0 6 ++ steps 2 0 ++ steps 5 1 ++ l 1 ++ steps 6 1;
-  shows = answer 0 (words (5 ∷ [])) 3 ∷ answer 0 (scTruth true) 8 ∷ answer 0 (words (5 ∷ [])) 3 ∷ answer 1 (names 0) 3 ∷ no 6 ∷ no 6 ∷ no 6 ∷ answer 1 (words (5 ∷ [])) 3 ∷ no 6 ∷ no 6 ∷ no 6 ∷ [];
+  commands = l 0 ++ steps 3 0 ++ s 1 0 5 ++ steps 2 0 ++ l 1 ++ steps 1 1 ++ steps 6 0 ++ l 0 ++ steps 3 0
+      ++ s 1 0 6 ++ steps 2 0 ++ steps 5 1 ++ l 1 ++ steps 6 1;
+  shows = answer 0 (words (5 ∷ [])) 3 ∷ answer 0 (scTruth true) 8 ∷ answer 0 (words (5 ∷ [])) 3
+      ∷ answer 1 (names 0) 3 ∷ no 6 ∷ no 6 ∷ no 6 ∷ answer 1 (words (5 ∷ [])) 3 ∷ no 6 ∷ no 6 ∷ no 6 ∷ [];
 }
 
 pub torn-otherwise : Right (plainLine5 ∷ unlookedLine7 ∷ uncheckedLine15 ∷ differingLine3 ∷ [])

@@ -73,8 +73,10 @@ repaired = record {
   w = 1;
   k = 5;
   entries = 37;
-  commands = l 0 ++ steps 3 0 ++ s 1 0 6 ++ steps 5 0 ++ l 1 ++ steps 2 1 ++ steps 3 0 ++ l 0 ++ steps 3 0 ++ s 1 0 7 ++ steps 2 0 ++ steps 4 1 ++ s 1 1 8 ++ steps 8 1 ++ steps 1 0;
-  shows = answer 0 (words (5 ∷ [])) 3 ∷ answer 0 (scTruth true) 8 ∷ answer 0 (words (6 ∷ [])) 3 ∷ answer 1 (words (6 ∷ [])) 6 ∷ answer 1 (scTruth true) 8 ∷ answer 0 (scTruth false) 3 ∷ [];
+  commands = l 0 ++ steps 3 0 ++ s 1 0 6 ++ steps 5 0 ++ l 1 ++ steps 2 1 ++ steps 3 0 ++ l 0 ++ steps 3 0
+      ++ s 1 0 7 ++ steps 2 0 ++ steps 4 1 ++ s 1 1 8 ++ steps 8 1 ++ steps 1 0;
+  shows = answer 0 (words (5 ∷ [])) 3 ∷ answer 0 (scTruth true) 8 ∷ answer 0 (words (6 ∷ [])) 3
+      ∷ answer 1 (words (6 ∷ [])) 6 ∷ answer 1 (scTruth true) 8 ∷ answer 0 (scTruth false) 3 ∷ [];
 }
 
 -- and on Figure 6 as printed: process 1 reads 7, and the SC of 7 fails
@@ -84,8 +86,10 @@ unrepaired = record {
   w = 1;
   k = 5;
   entries = 34;
-  commands = l 0 ++ steps 3 0 ++ s 1 0 6 ++ steps 5 0 ++ l 1 ++ steps 2 1 ++ steps 2 0 ++ l 0 ++ steps 3 0 ++ s 1 0 7 ++ steps 2 0 ++ steps 3 1 ++ s 1 1 8 ++ steps 7 1 ++ steps 1 0;
-  shows = answer 0 (words (5 ∷ [])) 3 ∷ answer 0 (scTruth true) 7 ∷ answer 0 (words (6 ∷ [])) 3 ∷ answer 1 (words (7 ∷ [])) 5 ∷ answer 1 (scTruth true) 7 ∷ answer 0 (scTruth false) 3 ∷ [];
+  commands = l 0 ++ steps 3 0 ++ s 1 0 6 ++ steps 5 0 ++ l 1 ++ steps 2 1 ++ steps 2 0 ++ l 0 ++ steps 3 0
+      ++ s 1 0 7 ++ steps 2 0 ++ steps 3 1 ++ s 1 1 8 ++ steps 7 1 ++ steps 1 0;
+  shows = answer 0 (words (5 ∷ [])) 3 ∷ answer 0 (scTruth true) 7 ∷ answer 0 (words (6 ∷ [])) 3
+      ∷ answer 1 (words (7 ∷ [])) 5 ∷ answer 1 (scTruth true) 7 ∷ answer 0 (scTruth false) 3 ∷ [];
 }
 
 pub words-written : Right (repaired ∷ [])

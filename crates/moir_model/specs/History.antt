@@ -40,11 +40,14 @@ pub data Slot : Type 0 where
   none : Slot
   running : Kind → ℕ → ℕ → ℕ → Bool → Slot
 
--- what is known of one process: its open call, the number of the start of its last WLL, and whether its last answered WLL
--- named a process
+-- what is known of one process: its open call; the number of the start of its last WLL, whether that WLL has yet to make
+-- its first step, and the number of the last first step of a WLL, which reads the header (line 10); and whether its last
+-- answered WLL named a process
 pub record Known : Type 0 where
   pub slot : Slot
   pub wll : ℕ
+  pub unread : Bool
+  pub read : ℕ
   pub named : Bool
 
 -- how a call ended: with an answer and the count that the reply brought; or it is open, its CAS on the header done or not
@@ -52,8 +55,8 @@ pub data Outcome : Type 0 where
   ended : Answer → ℕ → Outcome
   pending : Bool → Outcome
 
--- a call: its process, its kind, the numbers of its start and of its last step, its own steps; the number of the start of
--- its process's last WLL (its own, if it is one), and whether that WLL was answered with a process
+-- a call: its process, its kind, the numbers of its start and of its last step, its own steps; the numbers of the start
+-- and of the first step of its process's last WLL (its own, if it is one), and whether that WLL was answered with a process
 pub record Call : Type 0 where
   pub process : ℕ
   pub kind : Kind
@@ -61,6 +64,7 @@ pub record Call : Type 0 where
   pub end : ℕ
   pub steps : ℕ
   pub wll : ℕ
+  pub read : ℕ
   pub named : Bool
   pub outcome : Outcome
 
@@ -69,12 +73,20 @@ abbrev pub stepped : ℕ → Bool → Slot → Slot
 stepped n won none = none
 stepped n won (running kind start last steps w) = running kind start n (steps + 1) (w || won)
 
+-- the first step of a WLL, where command number n is a step
+abbrev pub readBy : ℕ → Known → ℕ
+readBy n k = cond (k .unread) n (k .read)
+
 -- an accepted command with no answer. "A call runs from its accepted start"
 abbrev pub knownAccepted : ℕ → Order → List ℕ → Bool → Known → Known
-knownAccepted n StartLl value won k = record { slot = running ll n n 0 false; wll = n; named = k .named }
-knownAccepted n StartSc value won k = record { slot = running (sc value) n n 0 false; wll = k .wll; named = k .named }
-knownAccepted n StartVl value won k = record { slot = running vl n n 0 false; wll = k .wll; named = k .named }
-knownAccepted n Step value won k = record { slot = stepped n won (k .slot); wll = k .wll; named = k .named }
+knownAccepted n StartLl value won k =
+    record { slot = running ll n n 0 false; wll = n; unread = true; read = k .read; named = k .named }
+knownAccepted n StartSc value won k =
+    record { slot = running (sc value) n n 0 false; wll = k .wll; unread = false; read = k .read; named = k .named }
+knownAccepted n StartVl value won k =
+    record { slot = running vl n n 0 false; wll = k .wll; unread = false; read = k .read; named = k .named }
+knownAccepted n Step value won k =
+    record { slot = stepped n won (k .slot); wll = k .wll; unread = false; read = readBy n k; named = k .named }
 
 -- after an answer
 abbrev pub namedBy : Bool → Answer → Bool
@@ -86,7 +98,8 @@ namedBy b (vlTruth t) = b
 abbrev pub knownAfter : ℕ → Event → Said → Known → Known
 knownAfter n e (refused c) k = k
 knownAfter n e accepted k = knownAccepted n (e .command .order) (e .command .value) (e .won) k
-knownAfter n e (answered a m) k = record { slot = none; wll = k .wll; named = namedBy (k .named) a }
+knownAfter n e (answered a m) k =
+    record { slot = none; wll = k .wll; unread = false; read = readBy n k; named = namedBy (k .named) a }
 
 -- of all processes, after the event of command number n
 abbrev pub watch : ℕ → Event → (ℕ → Known) → ℕ → Known
@@ -95,8 +108,30 @@ watch n e x = setAt (e .command .process) (knownAfter n e (e .said) (x (e .comma
 -- the call that an answer ends, as command number n. (An answer where no call is open would be a call that starts where it
 -- ends: no moment is after the one and not after the other.)
 abbrev pub endedBy : ℕ → ℕ → Answer → ℕ → Known → Slot → Call
-endedBy p n a m k none = record { process = p; kind = ll; start = n; end = n; steps = 1; wll = n; named = false; outcome = ended a m }
-endedBy p n a m k (running kind start last steps w) = record { process = p; kind = kind; start = start; end = n; steps = steps + 1; wll = k .wll; named = k .named; outcome = ended a m }
+endedBy p n a m k none =
+    record {
+      process = p;
+      kind = ll;
+      start = n;
+      end = n;
+      steps = 1;
+      wll = n;
+      read = n;
+      named = false;
+      outcome = ended a m;
+    }
+endedBy p n a m k (running kind start last steps w) =
+    record {
+      process = p;
+      kind = kind;
+      start = start;
+      end = n;
+      steps = steps + 1;
+      wll = k .wll;
+      read = k .read;
+      named = k .named;
+      outcome = ended a m;
+    }
 
 abbrev pub callOf : ℕ → ℕ → Said → Known → List Call
 callOf p n (refused c) k = []
@@ -106,7 +141,18 @@ callOf p n (answered a m) k = endedBy p n a m k (k .slot) ∷ []
 -- the open call of process q
 abbrev pub openOf : ℕ → Known → Slot → List Call
 openOf q k none = []
-openOf q k (running kind start last steps w) = record { process = q; kind = kind; start = start; end = last; steps = steps; wll = k .wll; named = k .named; outcome = pending w } ∷ []
+openOf q k (running kind start last steps w) =
+    record {
+      process = q;
+      kind = kind;
+      start = start;
+      end = last;
+      steps = steps;
+      wll = k .wll;
+      read = k .read;
+      named = k .named;
+      outcome = pending w;
+    } ∷ []
 
 -- the open calls of the first m processes
 abbrev pub openCalls : ℕ → (ℕ → Known) → List Call
@@ -121,7 +167,7 @@ callsFrom N n (e ∷ es) x = callOf (e .command .process) n (e .said) (x (e .com
 
 -- "the list's k-th command (refused ones counted)": numbers begin at 1, with no call open
 abbrev pub nothingKnown : ℕ → Known
-nothingKnown p = record { slot = none; wll = 0; named = false }
+nothingKnown p = record { slot = none; wll = 0; unread = false; read = 0; named = false }
 
 abbrev pub calls : ℕ → List Event → List Call
 calls N es = callsFrom N 1 es nothingKnown

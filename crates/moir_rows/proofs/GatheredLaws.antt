@@ -27,7 +27,8 @@ one-more g l d i j false e h f k = let ne = eqb-false j i e in getD-set-other g 
 pub gathered-at : (l : List Process) (d : Process) (i j : ℕ) → i ≤ 16 → j < i → getD (gathered l d i .list) j d ≡ getD l j d
 unfolding gathered
 gathered-at l d zero j h k = absurd (not-suc-le-zero k)
-gathered-at l d (suc i) j h k = one-more (gathered l d i .list) l d i j (eqb j i) refl (omega (arith, gathered-length l d i)) (λ s. gathered-at l d i j (omega arith) s) k
+gathered-at l d (suc i) j h k = one-more (gathered l d i .list) l d i j (eqb j i) refl
+    (omega (arith, gathered-length l d i)) (λ s. gathered-at l d i j (omega arith) s) k
 
 pub gathered-take : (l : List Process) (n : ℕ) → n ≤ 16 → n ≤ length l → take n (gathered l noProcess 16 .list) ≡ take n l
 gathered-take l n h k =

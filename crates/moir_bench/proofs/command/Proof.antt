@@ -544,7 +544,11 @@ command-spec 𝓤 H 𝓜 𝓖 𝓡 =
     entered 𝓤 H (tripleOf 𝓤 H (𝓖 .A) f.signature (f.spec 𝓤 H (𝓖 .A) (𝓜 .mem) (𝓡 .run)))
     (tables 𝓤 H 𝓜 𝓡 code.env .C) (tables 𝓤 H 𝓜 𝓡 code.env .Λ) #key code.function (code.unfolded 𝓤 H 𝓜 𝓡)
     (meets 𝓤 H (𝓖 .A) (givenOf 𝓤 H 𝓜 𝓖) (𝓜 .mem) (𝓡 .run) (tablesOf 𝓤 H 𝓜 (tables 𝓤 H 𝓜 𝓡 code.env))
-    (cited 𝓤 H (NoneC 𝓤 H (𝓖 .A) (𝓜 .mem) (𝓡 .run)) 𝓜 𝓡 code.env #moir-rows·records·no-process none-def.routine code.calls-moir-rows·records·no-process (none-thm.met 𝓤 H 𝓜 𝓖 𝓡))
-    (cited 𝓤 H (GatherC 𝓤 H (𝓖 .A) (𝓜 .mem) (𝓡 .run)) 𝓜 𝓡 code.env #moir-bench·lent·gather gather-def.routine code.calls-moir-bench·lent·gather (gather-thm.met 𝓤 H 𝓜 𝓖 𝓡))
-    (cited 𝓤 H (DecideC 𝓤 H (𝓖 .A) (𝓜 .mem) (𝓡 .run)) 𝓜 𝓡 code.env #moir-machine·decide decide-def.routine code.calls-moir-machine·decide (decide-thm.met 𝓤 H 𝓜 𝓖 𝓡))
-    (cited 𝓤 H (StoreC 𝓤 H (𝓖 .A) (𝓜 .mem) (𝓡 .run)) 𝓜 𝓡 code.env #moir-bench·lent·store-at store-at-def.routine code.calls-moir-bench·lent·store-at (store-at-thm.met 𝓤 H 𝓜 𝓖 𝓡)))
+    (cited 𝓤 H (NoneC 𝓤 H (𝓖 .A) (𝓜 .mem) (𝓡 .run)) 𝓜 𝓡 code.env #moir-rows·records·no-process none-def.routine
+    code.calls-moir-rows·records·no-process (none-thm.met 𝓤 H 𝓜 𝓖 𝓡))
+    (cited 𝓤 H (GatherC 𝓤 H (𝓖 .A) (𝓜 .mem) (𝓡 .run)) 𝓜 𝓡 code.env #moir-bench·lent·gather gather-def.routine
+    code.calls-moir-bench·lent·gather (gather-thm.met 𝓤 H 𝓜 𝓖 𝓡))
+    (cited 𝓤 H (DecideC 𝓤 H (𝓖 .A) (𝓜 .mem) (𝓡 .run)) 𝓜 𝓡 code.env #moir-machine·decide decide-def.routine
+    code.calls-moir-machine·decide (decide-thm.met 𝓤 H 𝓜 𝓖 𝓡))
+    (cited 𝓤 H (StoreC 𝓤 H (𝓖 .A) (𝓜 .mem) (𝓡 .run)) 𝓜 𝓡 code.env #moir-bench·lent·store-at store-at-def.routine
+    code.calls-moir-bench·lent·store-at (store-at-thm.met 𝓤 H 𝓜 𝓖 𝓡)))

@@ -386,5 +386,7 @@ set-up-spec 𝓤 H 𝓜 𝓖 𝓡 =
     entered 𝓤 H (tripleOf 𝓤 H (𝓖 .A) f.signature (f.spec 𝓤 H (𝓖 .A) (𝓜 .mem) (𝓡 .run)))
     (tables 𝓤 H 𝓜 𝓡 code.env .C) (tables 𝓤 H 𝓜 𝓡 code.env .Λ) #key code.function (code.unfolded 𝓤 H 𝓜 𝓡)
     (meets 𝓤 H (𝓖 .A) (givenOf 𝓤 H 𝓜 𝓖) (𝓜 .mem) (𝓡 .run) (tablesOf 𝓤 H 𝓜 (tables 𝓤 H 𝓜 𝓡 code.env))
-    (cited 𝓤 H (ByValueC 𝓤 H (𝓖 .A) (𝓜 .mem) (𝓡 .run)) 𝓜 𝓡 code.env #moir-bench·set-up-by-value by-value-def.routine code.calls-moir-bench·set-up-by-value (by-value-thm.met 𝓤 H 𝓜 𝓖 𝓡))
-    (cited 𝓤 H (SetRecordsC 𝓤 H (𝓖 .A) (𝓜 .mem) (𝓡 .run)) 𝓜 𝓡 code.env #moir-bench·lent·set-up-records set-records-def.routine code.calls-moir-bench·lent·set-up-records (set-records-thm.met 𝓤 H 𝓜 𝓖 𝓡)))
+    (cited 𝓤 H (ByValueC 𝓤 H (𝓖 .A) (𝓜 .mem) (𝓡 .run)) 𝓜 𝓡 code.env #moir-bench·set-up-by-value by-value-def.routine
+    code.calls-moir-bench·set-up-by-value (by-value-thm.met 𝓤 H 𝓜 𝓖 𝓡))
+    (cited 𝓤 H (SetRecordsC 𝓤 H (𝓖 .A) (𝓜 .mem) (𝓡 .run)) 𝓜 𝓡 code.env #moir-bench·lent·set-up-records
+    set-records-def.routine code.calls-moir-bench·lent·set-up-records (set-records-thm.met 𝓤 H 𝓜 𝓖 𝓡)))

@@ -357,6 +357,9 @@ gather-spec 𝓤 H 𝓜 𝓖 𝓡 =
     entered 𝓤 H (tripleOf 𝓤 H (𝓖 .A) f.signature (f.spec 𝓤 H (𝓖 .A) (𝓜 .mem) (𝓡 .run)))
     (tables 𝓤 H 𝓜 𝓡 code.env .C) (tables 𝓤 H 𝓜 𝓡 code.env .Λ) #key code.function (code.unfolded 𝓤 H 𝓜 𝓡)
     (meets 𝓤 H (𝓖 .A) (givenOf 𝓤 H 𝓜 𝓖) (𝓜 .mem) (𝓡 .run) (tablesOf 𝓤 H 𝓜 (tables 𝓤 H 𝓜 𝓡 code.env))
-    (cited 𝓤 H (AllOf 𝓤 H (𝓖 .A) (𝓜 .mem) (𝓡 .run)) 𝓜 𝓡 code.env #moir-rows·records·records-of all-of-def.routine code.calls-moir-rows·records·records-of (all-of-thm.met 𝓤 H 𝓜 𝓖 𝓡))
-    (cited 𝓤 H (TakeOr 𝓤 H (𝓖 .A) (𝓜 .mem) (𝓡 .run)) 𝓜 𝓡 code.env #moir-bench·lent·record-or record-or-def.routine code.calls-moir-bench·lent·record-or (record-or-thm.met 𝓤 H 𝓜 𝓖 𝓡))
-    (cited 𝓤 H (With 𝓤 H (𝓖 .A) (𝓜 .mem) (𝓡 .run)) 𝓜 𝓡 code.env #moir-rows·records·with-record with-def.routine code.calls-moir-rows·records·with-record (with-thm.met 𝓤 H 𝓜 𝓖 𝓡)))
+    (cited 𝓤 H (AllOf 𝓤 H (𝓖 .A) (𝓜 .mem) (𝓡 .run)) 𝓜 𝓡 code.env #moir-rows·records·records-of all-of-def.routine
+    code.calls-moir-rows·records·records-of (all-of-thm.met 𝓤 H 𝓜 𝓖 𝓡))
+    (cited 𝓤 H (TakeOr 𝓤 H (𝓖 .A) (𝓜 .mem) (𝓡 .run)) 𝓜 𝓡 code.env #moir-bench·lent·record-or record-or-def.routine
+    code.calls-moir-bench·lent·record-or (record-or-thm.met 𝓤 H 𝓜 𝓖 𝓡))
+    (cited 𝓤 H (With 𝓤 H (𝓖 .A) (𝓜 .mem) (𝓡 .run)) 𝓜 𝓡 code.env #moir-rows·records·with-record
+    with-def.routine code.calls-moir-rows·records·with-record (with-thm.met 𝓤 H 𝓜 𝓖 𝓡)))

@@ -30,7 +30,12 @@ with-word-requires-2 : tie.Need-with-word-requires-2
 with-word-requires-2 c κs = search needs
 
 returns-2 : tie.Need-returns-2
-returns-2 c = simp (c .with-word2 .ensures, c .before .with-next-header .ensures, c .before .before .to2 .ensures, le-ltb _ _ (c .before .before .before .if1 .left))
+returns-2 c = simp (
+  c .with-word2 .ensures,
+  c .before .with-next-header .ensures,
+  c .before .before .to2 .ensures,
+  le-ltb _ _ (c .before .before .before .if1 .left),
+)
 
 pub do-line-17-spec : {M : Type 1} → statement M
 do-line-17-spec =

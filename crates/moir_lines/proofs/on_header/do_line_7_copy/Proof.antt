@@ -22,13 +22,21 @@ next-word-requires : tie.Need-next-word-requires
 next-word-requires c κs = search needs
 
 returns-2 : tie.Need-returns-2
-returns-2 c = simp (c .next-word .ensures, lt-ltb _ _ (c .before .if2 .taken), sym (c .before .before .before .same-header .ensures) ∙ not-false _ (c .before .before .if1 .left))
+returns-2 c = simp (
+  c .next-word .ensures,
+  lt-ltb _ _ (c .before .if2 .taken),
+  sym (c .before .before .before .same-header .ensures) ∙ not-false _ (c .before .before .if1 .left),
+)
 
 copy-ends-requires-2 : tie.Need-copy-ends-requires-2
 copy-ends-requires-2 c κs = search needs
 
 returns-3 : tie.Need-returns-3
-returns-3 c = simp (c .copy-ends2 .ensures, le-ltb _ _ (c .before .if2 .left), sym (c .before .before .before .same-header .ensures) ∙ not-false _ (c .before .before .if1 .left))
+returns-3 c = simp (
+  c .copy-ends2 .ensures,
+  le-ltb _ _ (c .before .if2 .left),
+  sym (c .before .before .before .same-header .ensures) ∙ not-false _ (c .before .before .if1 .left),
+)
 
 pub do-line-7-copy-spec : {M : Type 1} → statement M
 do-line-7-copy-spec =

@@ -25,7 +25,11 @@ with-y-requires-2 : tie.Need-with-y-requires-2
 with-y-requires-2 c κs = search needs
 
 returns-2 : tie.Need-returns-2
-returns-2 c = simp (c .with-y2 .ensures, c .before .to2 .ensures, ne-eqb _ _ (λ e. c .before .before .if1 .left (e ∙ sym (c .before .before .before .before .previous .ensures))))
+returns-2 c = simp (
+  c .with-y2 .ensures,
+  c .before .to2 .ensures,
+  ne-eqb _ _ (λ e. c .before .before .if1 .left (e ∙ sym (c .before .before .before .before .previous .ensures))),
+)
 
 pub do-line-2-spec : {M : Type 1} → statement M
 do-line-2-spec =

@@ -21,7 +21,8 @@ w-out-of-range-requires c κs = search needs
 
 returns-2 : tie.Need-returns-2
 unfolding setUpNumber
-returns-2 c = over _ 1 (sym (c .before .before .before .n-out-of-range .ensures) ∙ c .before .before .if1 .left) (here _ 2 _ (sym (c .before .w-out-of-range .ensures) ∙ c .if2 .taken))
+returns-2 c = over _ 1 (sym (c .before .before .before .n-out-of-range .ensures) ∙ c .before .before .if1 .left)
+    (here _ 2 _ (sym (c .before .w-out-of-range .ensures) ∙ c .if2 .taken))
 
 too-little-lent-requires : tie.Need-too-little-lent-requires
 too-little-lent-requires c κs =

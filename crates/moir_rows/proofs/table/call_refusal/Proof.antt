@@ -16,7 +16,8 @@ start-at-busy-requires : tie.Need-start-at-busy-requires
 start-at-busy-requires c κs = search needs
 
 returns-2 : tie.Need-returns-2
-returns-2 c = over _ 8 (sym (c .before .before .before .value-not-w-words .ensures) ∙ c .before .before .if1 .left) (here _ 5 _ (sym (c .before .start-at-busy .ensures) ∙ c .if2 .taken))
+returns-2 c = over _ 8 (sym (c .before .before .before .value-not-w-words .ensures) ∙ c .before .before .if1 .left)
+    (here _ 5 _ (sym (c .before .start-at-busy .ensures) ∙ c .if2 .taken))
 
 step-at-idle-requires : tie.Need-step-at-idle-requires
 step-at-idle-requires c κs = search needs

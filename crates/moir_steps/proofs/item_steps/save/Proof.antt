@@ -17,7 +17,9 @@ saves-word-requires c κs = search needs
 
 mul-words : tie.Need-mul-words
 mul-words c = let start = c .before .before .before .before in
-    simp (c .before .before .return-word .ensures) (let z = fits {r = start .args .bench .n + 1 + start .args .p .0} {w = start .args .bench .w} {k = start .args .process .word} (omega arith) (start .pre .0 .w-most) (omega arith) in omega arith)
+    simp (c .before .before .return-word .ensures)
+    (let z = fits {r = start .args .bench .n + 1 + start .args .p .0} {w = start .args .bench .w}
+    {k = start .args .process .word} (omega arith) (start .pre .0 .w-most) (omega arith) in omega arith)
 
 slice-write-words : tie.Need-slice-write-words
 slice-write-words c = let start = c .before .before .before .before in

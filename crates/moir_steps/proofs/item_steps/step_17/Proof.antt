@@ -16,7 +16,9 @@ offer-word-requires c κs = search needs
 
 mul-words : tie.Need-mul-words
 mul-words c = let start = c .before .before .before in
-    simp (c .offer-word .ensures) (let z = fits {r = 2 * start .args .bench .n + 1 + start .args .p .0} {w = start .args .bench .w} {k = start .args .process .word} (omega arith) (start .pre .0 .w-most) (omega arith) in omega arith)
+    simp (c .offer-word .ensures) (let z = fits {r = 2 * start .args .bench .n + 1 + start .args .p .0}
+    {w = start .args .bench .w} {k = start .args .process .word} (omega arith) (start .pre .0 .w-most)
+    (omega arith) in omega arith)
 
 slice-read-words : tie.Need-slice-read-words
 slice-read-words c = let start = c .before .before .before .before in
@@ -24,7 +26,9 @@ slice-read-words c = let start = c .before .before .before .before in
 
 mul-words-2 : tie.Need-mul-words-2
 mul-words-2 c = let start = c .before .before .before .before in
-    simp (c .before .before .announced-word .ensures) (let z = fits {r = start .args .p .0} {w = start .args .bench .w} {k = start .args .process .word} (omega arith) (start .pre .0 .w-most) (omega arith) in omega arith)
+    simp (c .before .before .announced-word .ensures)
+    (let z = fits {r = start .args .p .0} {w = start .args .bench .w} {k = start .args .process .word}
+    (omega arith) (start .pre .0 .w-most) (omega arith) in omega arith)
 
 slice-write-words : tie.Need-slice-write-words
 slice-write-words c = let start = c .before .before .before .before in
@@ -40,7 +44,12 @@ same-length : tie.Need-same-length
 same-length c = search needs
 
 returns : tie.Need-returns
-returns c = simp (c .moved-on .ensures, c .before .do-line-17 .ensures, c .before .before .before .offer-word .ensures, c .before .before .before .before .announced-word .ensures)
+returns c = simp (
+  c .moved-on .ensures,
+  c .before .do-line-17 .ensures,
+  c .before .before .before .offer-word .ensures,
+  c .before .before .before .before .announced-word .ensures,
+)
 
 pub step-17-spec : {M : Type 1} → statement M
 step-17-spec =

@@ -12,7 +12,8 @@ announced-word-requires c κs = search needs
 
 mul-do-line-4 : tie.Need-mul-do-line-4
 mul-do-line-4 c = let start = c .before .before in
-    simp (c .announced-word .ensures) (let z = fits {r = start .args .hdr .pid .0} {w = start .args .bench .w} {k = start .args .process .word} (omega arith) (start .pre .0 .w-most) (omega arith) in omega arith)
+    simp (c .announced-word .ensures) (let z = fits {r = start .args .hdr .pid .0} {w = start .args .bench .w}
+    {k = start .args .process .word} (omega arith) (start .pre .0 .w-most) (omega arith) in omega arith)
 
 slice-read-do-line-4 : tie.Need-slice-read-do-line-4
 slice-read-do-line-4 c = let start = c .before .before .before in

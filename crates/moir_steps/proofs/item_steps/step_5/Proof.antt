@@ -38,7 +38,14 @@ same-length : tie.Need-same-length
 same-length c = search needs
 
 returns : tie.Need-returns
-returns c = simp (c .moved-on .ensures, c .before .put-tag .ensures, c .before .before .to .ensures, c .before .before .before .do-line-5 .ensures, c .before .before .before .before .segment-with .ensures, c .before .before .before .before .before .before .segment-word .ensures)
+returns c = simp (
+  c .moved-on .ensures,
+  c .before .put-tag .ensures,
+  c .before .before .to .ensures,
+  c .before .before .before .do-line-5 .ensures,
+  c .before .before .before .before .segment-with .ensures,
+  c .before .before .before .before .before .before .segment-word .ensures,
+)
 
 pub step-5-spec : {M : Type 1} → statement M
 step-5-spec =

@@ -23,7 +23,12 @@ moved-on-requires : tie.Need-moved-on-requires
 moved-on-requires c κs = search needs
 
 returns : tie.Need-returns
-returns c = simp (c .moved-on .ensures, c .before .do-line-6 .ensures, c .before .before .segment-with .ensures, c .before .before .before .before .segment-word .ensures)
+returns c = simp (
+  c .moved-on .ensures,
+  c .before .do-line-6 .ensures,
+  c .before .before .segment-with .ensures,
+  c .before .before .before .before .segment-word .ensures,
+)
 
 pub step-6-spec : {M : Type 1} → statement M
 step-6-spec =

@@ -25,7 +25,8 @@ copy-in-requires : tie.Need-copy-in-requires
 copy-in-requires c κs = let start = c .before .before .before .before .before .before in
     let told = c .before .before .enum-told2 .given .1 in
     simp (c .before .offer-word .ensures)
-    (row-lies (start .args .bench .n) (omega (arith, start .pre .ready .process)) (start .pre .value (ap bringsValue told)) (start .pre .ready .standing .words))
+    (row-lies (start .args .bench .n) (omega (arith, start .pre .ready .process))
+    (start .pre .value (ap bringsValue told)) (start .pre .ready .standing .words))
 
 begun-requires-2 : tie.Need-begun-requires-2
 begun-requires-2 c κs = search needs
@@ -51,7 +52,12 @@ same-length c = search needs
 
 returns-2 : tie.Need-returns-2
 unfolding obey
-returns-2 c = simp (c .before .before .before .before .before .before .enum-told2 .given .1, c .begun2 .ensures, c .before .before .before .copy-in .ensures, c .before .before .before .before .before .offer-word .ensures)
+returns-2 c = simp (
+  c .before .before .before .before .before .before .enum-told2 .given .1,
+  c .begun2 .ensures,
+  c .before .before .before .copy-in .ensures,
+  c .before .before .before .before .before .offer-word .ensures,
+)
 
 returns-3 : tie.Need-returns-3
 unfolding obey

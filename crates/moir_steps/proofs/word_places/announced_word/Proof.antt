@@ -10,10 +10,18 @@ cast-result : tie.Need-cast-result
 cast-result c = search needs
 
 mul-result : tie.Need-mul-result
-mul-result c = omega (arith, fits {r = c .before .args .q .0} {w = c .before .args .w} {k = c .before .args .k} (omega arith) (c .before .pre .0) (c .before .pre .1))
+mul-result c = omega (
+  arith,
+  fits {r = c .before .args .q .0} {w = c .before .args .w} {k = c .before .args .k}
+      (omega arith) (c .before .pre .0) (c .before .pre .1),
+)
 
 add-result : tie.Need-add-result
-add-result c = omega (arith, fits {r = c .before .args .q .0} {w = c .before .args .w} {k = c .before .args .k} (omega arith) (c .before .pre .0) (c .before .pre .1))
+add-result c = omega (
+  arith,
+  fits {r = c .before .args .q .0} {w = c .before .args .w} {k = c .before .args .k}
+      (omega arith) (c .before .pre .0) (c .before .pre .1),
+)
 
 returns : tie.Need-returns
 returns c = search needs
