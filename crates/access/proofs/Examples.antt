@@ -4,8 +4,8 @@ use mathlib.Core.Path.{_≡_, refl}
 use mathlib.Core.List.{List, [], _∷_, _++_}
 use mathlib.Core.Bool.{true, false}
 use lib.ListN.{getD}
-use Rattle.model.specs.declared.Order.{Order}
-use Rattle.model.specs.declared.Order.the-variants.{StartLl, StartSc, StartVl, Step}
+use Rattle.llsc.specs.declared.Order.{Order}
+use Rattle.llsc.specs.declared.Order.the-variants.{StartLl, StartSc, StartVl, Step}
 use Rattle.model.specs.declared.Reply.{Reply}
 use Rattle.model.specs.declared.Reply.the-variants.{Refused, Accepted, LlAnswered, ScAnswered, VlAnswered}
 use Rattle.model.specs.Records.{recordAt}
@@ -15,7 +15,7 @@ use Rattle.model.specs.Machine.{Memory, stepAt, obey}
 use Rattle.model.specs.Refusals.{inRange}
 use Rattle.model.specs.Command.{refusal, command}
 use Rattle.model.specs.SetUp.{setUp, setUpRefusal}
-use Rattle.model.specs.History.{Command}
+use Rattle.llsc.specs.History.{Command}
 use Rattle.model.proofs.Schedules.{l, s, steps, dirty}
 use Rattle.listing.specs.Decimal.{digits, decimal}
 use Rattle.listing.specs.Lines.{letterL, letterS, letterV, answerHead, wordsOf, llLine, truthLine}

@@ -11,7 +11,7 @@ use lib.Seq.{getD-take}
 use borrow.Author.Tests.{ltb-true, leb-true}
 use Rattle.model.specs.declared.BufferNumber.{BufferNumber}
 use Rattle.model.specs.declared.SequenceNumber.{SequenceNumber}
-use Rattle.model.specs.declared.ProcessNumber.{ProcessNumber}
+use Rattle.llsc.specs.declared.ProcessNumber.{ProcessNumber}
 use Rattle.model.specs.declared.XContent.{XContent}
 use Rattle.model.specs.declared.HelpContent.{HelpContent}
 use Rattle.model.specs.declared.BankPlace.{BankPlace}
@@ -27,7 +27,8 @@ use Rattle.model.proofs.HalfLaws.{half-small}
 use Rattle.model.specs.Points.{Point, idle, line1, line2, line3, line4, line5, line6, line7, line7copy, line8, line9, line10, line11}
 use Rattle.model.specs.Points.{line12, line12valid, line13, line14, line14valid, line15, line17, line18, line19, line23}
 use Rattle.model.specs.Machine.{Memory}
-use Rattle.model.specs.Refusals.{every, bufferOk, sequenceOk, xOk, linksOk, xPlaceOk, bankPlaceOk, helpPlaceOk, lineOk, countOk, processOk, benchOk, inRange}
+use Rattle.llsc.specs.Rows.{every}
+use Rattle.model.specs.Refusals.{bufferOk, sequenceOk, xOk, linksOk, xPlaceOk, bankPlaceOk, helpPlaceOk, lineOk, countOk, processOk, benchOk, inRange}
 use Rattle.taken.specs.Ranges.{Ready}
 use Rattle.laws.proofs.AndLaws.{left, right}
 use Rattle.laws.proofs.ListLaws.{every-at}

@@ -8,7 +8,7 @@ use native.Mathlib.Omega.{arith}
 use lib.ListN.{length, getD}
 use Rattle.model.specs.declared.BufferNumber.{BufferNumber}
 use Rattle.model.specs.declared.SequenceNumber.{SequenceNumber}
-use Rattle.model.specs.declared.ProcessNumber.{ProcessNumber}
+use Rattle.llsc.specs.declared.ProcessNumber.{ProcessNumber}
 use Rattle.model.specs.declared.XContent.{XContent}
 use Rattle.model.specs.declared.HelpContent.{HelpContent}
 use Rattle.model.specs.declared.Bench.{Bench}

@@ -12,8 +12,8 @@ use crate::on_help;
 use crate::on_words;
 use crate::on_x;
 use lines::points;
+use llsc::ProcessNumber;
 use model::Process;
-use model::ProcessNumber;
 use taken::Taken;
 
 // What stands for no access: none is made, or none is shown.

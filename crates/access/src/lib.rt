@@ -1,6 +1,6 @@
 // What access a step makes, and its line of a trace. All functions are inner: the trace is made of them.
+use llsc::ProcessNumber;
 use model::BufferNumber;
-use model::ProcessNumber;
 use model::SequenceNumber;
 
 pub mod access_of;

@@ -9,9 +9,9 @@ use crate::Access;
 use crate::Act;
 use crate::Item;
 use lines::sequence;
+use llsc::ProcessNumber;
 use model::BankPlace;
 use model::BufferNumber;
-use model::ProcessNumber;
 use model::SequenceNumber;
 use model::XContent;
 

@@ -11,11 +11,11 @@ use crate::Item;
 use lines::on_help::ASKED;
 use lines::on_help::GIVEN;
 use lines::sequence;
+use llsc::ProcessNumber;
 use model::BufferNumber;
 use model::HelpContent;
 use model::HelpPlace;
 use model::Process;
-use model::ProcessNumber;
 
 fn on_help(line: u8, i: ProcessNumber, act: Act, content: HelpContent) -> Access
     ensures { λ r. ⌜ r ≡ helpAccess line i act content ⌝ }

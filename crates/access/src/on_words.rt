@@ -9,9 +9,9 @@ ghost use Rattle.access.specs.Accesses.{halfAccess, readHalf, writeHalf}
 use crate::Access;
 use crate::Act;
 use crate::Item;
+use llsc::ProcessNumber;
 use model::BufferNumber;
 use model::Process;
-use model::ProcessNumber;
 use words::word_places;
 
 // The half of place k of BUF[f], which takes or brings that half of the word that lies at `from`.

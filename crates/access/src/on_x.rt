@@ -9,8 +9,8 @@ use crate::Access;
 use crate::Act;
 use crate::Item;
 use lines::sequence;
+use llsc::ProcessNumber;
 use model::Process;
-use model::ProcessNumber;
 use model::XContent;
 use model::XPlace;
 

@@ -5,8 +5,8 @@ ghost use lib.ListN.{getD, set};
 ghost use Rattle.model.specs.Records.{noProcess};
 ghost use Rattle.tables.specs.Gathered.{gathered};
 ghost use Rattle.bench.specs.Lent.{recordFor, recordsStored, recordsToWrite, recordsWritten};
+use llsc::ProcessNumber;
 use model::Process;
-use model::ProcessNumber;
 use tables::records::Records;
 
 // The record at i, or another one where there is none.

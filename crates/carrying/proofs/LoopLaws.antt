@@ -9,10 +9,10 @@ use lib.ListN.{length, getD, set, take, length-map, length-take, List·getD-map}
 use lib.Seq.{getD-take, getD-set-other}
 use borrow.Author.Tests.{ltb-true}
 use Rattle.model.specs.declared.SequenceNumber.{SequenceNumber}
-use Rattle.model.specs.declared.ProcessNumber.{ProcessNumber}
+use Rattle.llsc.specs.declared.ProcessNumber.{ProcessNumber}
 use Rattle.model.specs.declared.Bench.{Bench}
 use Rattle.model.specs.declared.Process.{Process}
-use Rattle.model.specs.declared.Order.{Order}
+use Rattle.llsc.specs.declared.Order.{Order}
 use Rattle.model.specs.Records.{noProcess, recordAt}
 use Rattle.model.specs.Points.{pointOf}
 use Rattle.lines.specs.Ranges.{Sized}

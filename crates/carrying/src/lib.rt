@@ -9,7 +9,7 @@ use entry::refusals;
 use entry::state;
 use entry::state::Run;
 use entry::turn;
-use model::ProcessNumber;
+use llsc::ProcessNumber;
 use notation::entry_words;
 
 // The run after its list, and its place in it: that of the entry that stopped the run, or the end.

@@ -9,14 +9,15 @@ use lib.ListN.{length, take}
 use borrow.Author.Tests.{leb-true}
 use Rattle.model.specs.declared.Bench.{Bench}
 use Rattle.model.specs.declared.Process.{Process}
-use Rattle.model.specs.declared.Order.{Order}
+use Rattle.llsc.specs.declared.Order.{Order}
 use Rattle.model.specs.declared.Moved.{Moved}
 use Rattle.model.specs.declared.Reply.{Reply}
 use Rattle.model.specs.declared.Reply.the-variants.{Refused, Accepted, LlAnswered, ScAnswered, VlAnswered}
 use Rattle.model.specs.Records.{noProcess, recordAt}
 use Rattle.model.specs.Replies.{numberOf}
 use Rattle.model.specs.Machine.{obey}
-use Rattle.model.specs.Refusals.{Row, first, every, rowsOf}
+use Rattle.llsc.specs.Rows.{Row, first, every}
+use Rattle.model.specs.Refusals.{rowsOf}
 use Rattle.model.specs.Command.{command}
 use Rattle.tables.specs.declared.records.Records.{Records}
 use Rattle.machine.specs.declared.Outcome.{Outcome}

@@ -12,11 +12,12 @@ use Rattle.model.specs.Sizes.{halves, busyMost}
 use Rattle.model.specs.Replies.{numberOf}
 use Rattle.model.specs.declared.Bench.{Bench}
 use Rattle.model.specs.declared.Process.{Process}
-use Rattle.model.specs.declared.Order.{Order}
+use Rattle.llsc.specs.declared.Order.{Order}
 use Rattle.model.specs.declared.Reply.{Reply}
 use Rattle.model.specs.Records.{noProcess}
 use Rattle.model.specs.Words.{returnArea, returnWord}
-use Rattle.model.specs.Refusals.{inRange, benchOk, every, processOk, bufferOk, xOk, lineOk, countOk, isIdle}
+use Rattle.llsc.specs.Rows.{every}
+use Rattle.model.specs.Refusals.{inRange, benchOk, processOk, bufferOk, xOk, lineOk, countOk, isIdle}
 use Rattle.machine.specs.declared.Outcome.{Outcome}
 use Rattle.laws.proofs.AndLaws.{right}
 use Rattle.laws.proofs.ListLaws.{every-at}

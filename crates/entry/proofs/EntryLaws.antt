@@ -10,20 +10,21 @@ use lib.ListN.{length, getD, set, take, replicate, length-replicate}
 use lib.Seq.{getD-take, getD-set-same}
 use borrow.Author.Tests.{eq-eqb, ne-eqb, leb-true, leb-false, ltb-true, ltb-false, lt-ltb, le-ltb, le-leb, lt-leb}
 use Rattle.model.specs.declared.SequenceNumber.{SequenceNumber}
-use Rattle.model.specs.declared.ProcessNumber.{ProcessNumber}
+use Rattle.llsc.specs.declared.ProcessNumber.{ProcessNumber}
 use Rattle.model.specs.declared.Bench.{Bench}
 use Rattle.model.specs.declared.Process.{Process}
-use Rattle.model.specs.declared.Order.{Order}
+use Rattle.llsc.specs.declared.Order.{Order}
 use Rattle.model.specs.declared.Moved.{Moved}
 use Rattle.model.specs.Records.{noProcess, recordAt}
 use Rattle.model.specs.Points.{pointOf}
 use Rattle.model.specs.Machine.{obey}
-use Rattle.model.specs.Refusals.{first, row4, row5, row6, row7}
+use Rattle.llsc.specs.Rows.{first, row4}
+use Rattle.model.specs.Refusals.{row5, row6, row7}
 use Rattle.model.specs.Replies.{numberOf}
 use Rattle.taken.specs.declared.Taken.{Taken}
 use Rattle.taken.specs.declared.Stepped.{Stepped}
 use Rattle.machine.specs.declared.Outcome.{Outcome}
-use Rattle.model.specs.Refusals.{row8}
+use Rattle.llsc.specs.Rows.{row8}
 use Rattle.rows.specs.CommandRows.{decisionNumber, lateNumber}
 use Rattle.machine.specs.Decision.{refusedOutcome, obeyedOutcome, decided}
 use Rattle.taken.specs.Ranges.{Ready}

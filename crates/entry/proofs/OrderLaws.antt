@@ -9,8 +9,9 @@ use lib.ListN.{length, take}
 use lib.Seq.{take-take}
 use borrow.Author.Tests.{ltb-false}
 use Rattle.model.specs.declared.Process.{Process}
-use Rattle.model.specs.declared.Order.the-variants.{Step}
-use Rattle.model.specs.Refusals.{inRange, benchOk, every, processOk, row9}
+use Rattle.llsc.specs.declared.Order.the-variants.{Step}
+use Rattle.llsc.specs.Rows.{every, row9}
+use Rattle.model.specs.Refusals.{inRange, benchOk, processOk}
 use Rattle.rows.specs.CommandRows.{InOrder}
 use Rattle.rows.proofs.RowLaws.{neither, n-in}
 use Rattle.entry.specs.RunState.{RunState, progress, Sound}

@@ -8,11 +8,11 @@ use lib.ListN.{length}
 use lib.Seq.{getD-take}
 use borrow.Author.Tests.{not-true, not-false, lt-leb}
 use Rattle.model.specs.declared.SequenceNumber.{SequenceNumber}
-use Rattle.model.specs.declared.ProcessNumber.{ProcessNumber}
+use Rattle.llsc.specs.declared.ProcessNumber.{ProcessNumber}
 use Rattle.model.specs.declared.Bench.{Bench}
 use Rattle.model.specs.declared.Process.{Process}
-use Rattle.model.specs.declared.Order.{Order}
-use Rattle.model.specs.declared.Order.the-variants as order
+use Rattle.llsc.specs.declared.Order.{Order}
+use Rattle.llsc.specs.declared.Order.the-variants as order
 use Rattle.model.specs.declared.Reply.{Reply}
 use Rattle.model.specs.Records.{noProcess, recordAt}
 use Rattle.model.specs.Points.{pointOf}

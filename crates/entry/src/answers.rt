@@ -1,7 +1,7 @@
 // The listing's line for an answer (01, "The listing has a line for each answer").
 ghost use Rattle.listing.specs.Writing.{Wrote};
 ghost use Rattle.entry.specs.RunState.{answerLine, Listable};
-use model::ProcessNumber;
+use llsc::ProcessNumber;
 use model::Reply;
 use words::word_places;
 

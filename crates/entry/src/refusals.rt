@@ -2,7 +2,7 @@
 ghost use mathlib.Core.Path.{_≡_};
 ghost use Rattle.entry.specs.Turned.{refusalOf};
 use crate::limits;
-use model::Order;
+use llsc::Order;
 use model::Process;
 use rows::causes;
 

@@ -5,9 +5,9 @@ use mathlib.Core.List.{List, [], _∷_, map}
 use Prim.Native.Nat.{ℕ}
 use lib.Dec.{eqb, leb}
 use borrow.Author.Tests.{eqb-true, eq-eqb}
-use Rattle.model.specs.Replies.{Answer, llWords, scTruth, vlTruth}
-use Rattle.model.specs.Linearizable.{Timed, insert, sortInto, inMomentOrder}
-use Rattle.linearization.proofs.Updates.{contra}
+use Rattle.llsc.specs.Answers.{Answer, llWords, scTruth, vlTruth}
+use Rattle.llsc.specs.Linearizable.{Timed, insert, sortInto, inMomentOrder}
+use Rattle.laws.proofs.Updates.{contra}
 use Rattle.laws.proofs.AndLaws.{left, right}
 use Rattle.laws.proofs.AllLaws.{and-both}
 use Rattle.verdicts.specs.Verdicts.{sameWords, sameTruth, sameAnswer, sameAnswers}

@@ -11,14 +11,15 @@ use borrow.Author.Tests.{ltb-true}
 use Rattle.model.specs.Sizes.{halves}
 use Rattle.model.specs.Points.{Point, idle, line1, line2, line3, line4, line5, line6, line7, line7copy, line8, line9, line10, line11}
 use Rattle.model.specs.Points.{line12, line12valid, line13, line14, line14valid, line15, line17, line18, line19, line23}
-use Rattle.model.specs.Object.{setAt}
-use Rattle.model.specs.History.{Slot, none, running, Call}
-use Rattle.model.specs.Linearizable.{All, Timed}
-use Rattle.linearization.proofs.Updates.{upd, upd-same, upd-other, Split, same, other, split, by-test, by-test₂, contra, ifb-eq, ifb-ne}
+use Rattle.llsc.specs.Object.{setAt}
+use Rattle.llsc.specs.History.{Slot, none, running, Call}
+use Rattle.llsc.specs.Linearizable.{All, Timed}
+use Rattle.laws.proofs.Updates.{upd, upd-same, upd-other, Split, same, other, split, by-test, by-test₂, contra, ifb-eq, ifb-ne}
 use Rattle.linearization.proofs.PointFacts.{isIdle}
 use Rattle.linearization.proofs.GhostMachine
 use Rattle.linearization.proofs.GhostMachine.{Local, Shared, State, quiet, noisy}
-use Rattle.linearization.proofs.WordLists.{tab, wordsOf}
+use Rattle.laws.proofs.Parts.{tab}
+use Rattle.linearization.proofs.WordLists.{wordsOf}
 use Rattle.linearization.proofs.Slots.{slotOf}
 use Rattle.linearization.proofs.GhostRuns
 use Rattle.linearization.proofs.GhostRuns.{Cmd, starts, exec, callAt, callF, callsF, setup}

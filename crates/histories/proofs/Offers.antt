@@ -6,15 +6,16 @@ use mathlib.Core.List.{List, [], _∷_, map}
 use Prim.Native.Nat.{ℕ, _+_}
 use lib.Dec.{leb}
 use lib.ListN.{getD, drop}
-use Rattle.model.specs.declared.Order.{Order}
-use Rattle.model.specs.declared.Order.the-variants.{StartLl, StartSc, StartVl, Step}
+use Rattle.llsc.specs.declared.Order.{Order}
+use Rattle.llsc.specs.declared.Order.the-variants.{StartLl, StartSc, StartVl, Step}
 use Rattle.model.specs.Machine.{Memory}
-use Rattle.model.specs.Replies.{Said, Answer, llWords, scTruth, vlTruth, refused, accepted, answered}
-use Rattle.model.specs.Object.{Kind, ll, sc, vl, setAt, Object, fresh, tell, feed, serve}
-use Rattle.model.specs.History.{Command, Event, eventOf, events, Slot, none, running, Call, callOf, slotAfter, slotsAfter, ordered, callsFrom, calls}
-use Rattle.model.specs.Linearizable.{All, Timed, Linearization, insert, sortInto, inMomentOrder, fed}
-use Rattle.linearization.proofs.Updates.{Split, same, other, split, ifb-eq, ifb-ne, by-test}
-use Rattle.linearization.proofs.Sorting.{all-insert}
+use Rattle.llsc.specs.Answers.{Said, Answer, llWords, scTruth, vlTruth, refused, accepted, answered}
+use Rattle.llsc.specs.Object.{Kind, ll, sc, vl, setAt, Object, fresh, tell, feed, serve}
+use Rattle.llsc.specs.History.{Command, Event, Slot, none, running, Call, callOf, slotAfter, slotsAfter, ordered, callsFrom, calls}
+use Rattle.model.specs.History.{eventOf, events}
+use Rattle.llsc.specs.Linearizable.{All, Timed, Linearization, insert, sortInto, inMomentOrder, fed}
+use Rattle.laws.proofs.Updates.{Split, same, other, split, ifb-eq, ifb-ne, by-test}
+use Rattle.serving.proofs.Sorting.{all-insert}
 use Rattle.laws.proofs.AllLaws.{all-join, all-both, map-all}
 
 module _ (P : List ℕ → Type 0) where

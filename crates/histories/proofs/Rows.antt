@@ -5,9 +5,9 @@ use Prim.Native.Nat.{ℕ, zero, suc, _+_, _*_, _/_, _%_}
 use native.Mathlib.Nat.{mul-div-cancel, mul-mod-left, suc-mul, div-eq-of-lt, add-mul-div-right}
 use native.Mathlib.Omega.{arith}
 use lib.ListN.{length, take, drop, length-append, length-replicate}
-use Rattle.model.specs.Object.{Kind, ll, sc, vl}
-use Rattle.model.specs.Replies.{Answer, llWords, scTruth, vlTruth}
-use Rattle.model.specs.Linearizable.{All, Timed}
+use Rattle.llsc.specs.Object.{Kind, ll, sc, vl}
+use Rattle.llsc.specs.Answers.{Answer, llWords, scTruth, vlTruth}
+use Rattle.llsc.specs.Linearizable.{All, Timed}
 use Rattle.verdicts.specs.Log.{Entry, width, rows, entries, begun}
 use Rattle.histories.specs.BenchLogs.{wordsFor, entryFor, numbersOf, logFor}
 use Rattle.histories.specs.CallFacts.{Formed}

@@ -6,9 +6,9 @@ use Prim.Native.Nat.{ℕ, _≤_, _<_}
 use native.Mathlib.Omega.{arith}
 use lib.Dec.{eqb, ltb}
 use borrow.Author.Tests.{eqb-true, eqb-false, ltb-true, leb-true, not-true}
-use Rattle.model.specs.Linearizable.{All, Timed, Distinct, Inside, Linearization}
-use Rattle.model.specs.Refusals.{every}
-use Rattle.linearization.proofs.Updates.{contra}
+use Rattle.llsc.specs.Linearizable.{All, Timed, Distinct, Inside, Linearization}
+use Rattle.llsc.specs.Rows.{every}
+use Rattle.laws.proofs.Updates.{contra}
 use Rattle.laws.proofs.AndLaws.{left, right}
 use Rattle.laws.specs.Lists.{Pairs}
 use Rattle.laws.proofs.AllLaws.{all-of, all-map, every-all, pairs-of, pairs-map, map-map}

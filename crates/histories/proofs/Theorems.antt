@@ -8,10 +8,11 @@ use native.Mathlib.Omega.{arith}
 use lib.ListN.{length, replicate}
 use Rattle.model.specs.Machine.{Memory, Shaped}
 use Rattle.model.specs.SetUp.{setUp}
-use Rattle.model.specs.Replies.{Answer, llWords, scTruth, vlTruth}
-use Rattle.model.specs.Object.{Kind, ll, sc, vl}
-use Rattle.model.specs.History.{Command, Call, events, calls}
-use Rattle.model.specs.Linearizable.{All, Timed, Inside, Linearization}
+use Rattle.llsc.specs.Answers.{Answer, llWords, scTruth, vlTruth}
+use Rattle.llsc.specs.Object.{Kind, ll, sc, vl}
+use Rattle.llsc.specs.History.{Command, Call, calls}
+use Rattle.model.specs.History.{events}
+use Rattle.llsc.specs.Linearizable.{All, Timed, Inside, Linearization}
 use Rattle.linearization.proofs.Outcome.{toF}
 use Rattle.linearization.proofs.WordLists.{cells}
 use Rattle.linearization.proofs.SetUpSimulation.{set-up-admits}

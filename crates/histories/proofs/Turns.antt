@@ -4,14 +4,15 @@ use mathlib.Core.List.{List, [], _∷_, _++_}
 use Prim.Native.Nat.{ℕ, suc, _+_, _≤_, _<_}
 use native.Mathlib.Omega.{arith}
 use lib.ListN.{length}
-use Rattle.model.specs.declared.Order.{Order}
-use Rattle.model.specs.declared.Order.the-variants.{StartLl, StartSc, StartVl, Step}
+use Rattle.llsc.specs.declared.Order.{Order}
+use Rattle.llsc.specs.declared.Order.the-variants.{StartLl, StartSc, StartVl, Step}
 use Rattle.model.specs.Machine.{Memory}
 use Rattle.model.specs.Command.{command}
-use Rattle.model.specs.Replies.{Said, Answer, refused, accepted, answered}
-use Rattle.model.specs.History.{Command, Event, events, Slot, none, running, Call, callOf, ended, slotAfter, slotsAfter, ordered, callsFrom, calls}
-use Rattle.model.specs.Linearizable.{All}
-use Rattle.linearization.proofs.Updates.{Split, same, other, split, ifb-eq, ifb-ne}
+use Rattle.llsc.specs.Answers.{Said, Answer, refused, accepted, answered}
+use Rattle.llsc.specs.History.{Command, Event, Slot, none, running, Call, callOf, ended, slotAfter, slotsAfter, ordered, callsFrom, calls}
+use Rattle.model.specs.History.{events}
+use Rattle.llsc.specs.Linearizable.{All}
+use Rattle.laws.proofs.Updates.{Split, same, other, split, ifb-eq, ifb-ne}
 use Rattle.laws.proofs.AllLaws.{all-of, all-join}
 use Rattle.histories.specs.CallFacts.{Follows, InTurn}
 

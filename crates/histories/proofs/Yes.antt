@@ -9,12 +9,12 @@ use native.Mathlib.Omega.{arith}
 use lib.Dec.{eqb, ltb, leb}
 use lib.ListN.{length, length-map}
 use borrow.Author.Tests.{eq-eqb, ne-eqb, lt-ltb, le-ltb, le-leb, lt-leb}
-use Rattle.model.specs.Replies.{Answer, llWords, scTruth, vlTruth}
-use Rattle.model.specs.Object.{Kind, ll, sc, vl, fresh, serve}
-use Rattle.model.specs.History.{Call}
-use Rattle.model.specs.Linearizable.{All, Timed, Distinct, Inside, inMomentOrder, fed}
-use Rattle.model.specs.Refusals.{Row, first, every, some, between}
-use Rattle.linearization.proofs.Updates.{Split, same, other, split, contra}
+use Rattle.llsc.specs.Answers.{Answer, llWords, scTruth, vlTruth}
+use Rattle.llsc.specs.Object.{Kind, ll, sc, vl, fresh, serve}
+use Rattle.llsc.specs.History.{Call}
+use Rattle.llsc.specs.Linearizable.{All, Timed, Distinct, Inside, inMomentOrder, fed}
+use Rattle.llsc.specs.Rows.{Row, first, every, some, between}
+use Rattle.laws.proofs.Updates.{Split, same, other, split, contra}
 use Rattle.laws.proofs.AllLaws.{and-both, or-left, or-right, all-of, all-both, all-map, map-all, all-every, all-none, map-map}
 use Rattle.laws.specs.Lists.{Pairs, Any}
 use Rattle.laws.proofs.AllLaws.{map-pairs, pairs-map, pairs-of, any-of, any-map, map-any, any-some, all-any}

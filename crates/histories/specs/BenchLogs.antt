@@ -3,9 +3,9 @@ use Prim.Native.Nat.{ℕ, _*_}
 use mathlib.Core.List.{List, [], _∷_, _++_}
 use mathlib.Core.Bool.{cond}
 use lib.ListN.{replicate}
-use Rattle.model.specs.Replies.{Answer, llWords, scTruth, vlTruth}
-use Rattle.model.specs.Object.{Kind, ll, sc, vl}
-use Rattle.model.specs.Linearizable.{Timed}
+use Rattle.llsc.specs.Answers.{Answer, llWords, scTruth, vlTruth}
+use Rattle.llsc.specs.Object.{Kind, ll, sc, vl}
+use Rattle.llsc.specs.Linearizable.{Timed}
 use Rattle.verdicts.specs.Log.{Entry}
 
 -- "1 for LL, 2 for SC or 3 for VL"

@@ -4,10 +4,10 @@ use mathlib.Core.Bool.{Bool, true, false}
 use mathlib.Core.List.{List}
 use Prim.Native.Nat.{ℕ, _<_}
 use lib.ListN.{length}
-use Rattle.model.specs.Replies.{Answer, llWords, scTruth, vlTruth}
-use Rattle.model.specs.Object.{Kind, ll, sc, vl}
-use Rattle.model.specs.History.{Call}
-use Rattle.model.specs.Linearizable.{All}
+use Rattle.llsc.specs.Answers.{Answer, llWords, scTruth, vlTruth}
+use Rattle.llsc.specs.Object.{Kind, ll, sc, vl}
+use Rattle.llsc.specs.History.{Call}
+use Rattle.llsc.specs.Linearizable.{All}
 use Rattle.laws.specs.Lists.{Any, Pairs}
 
 -- an answer of the call's kind, and W words where it has words

@@ -5,8 +5,9 @@ use mathlib.Core.List.{List, map}
 use lib.ListN.{length}
 use Rattle.model.specs.Machine.{Memory, Shaped}
 use Rattle.model.specs.SetUp.{setUp}
-use Rattle.model.specs.History.{Command, Call, events, calls}
-use Rattle.model.specs.Linearizable.{All, Timed, Linearization}
+use Rattle.llsc.specs.History.{Command, Call, calls}
+use Rattle.model.specs.History.{events}
+use Rattle.llsc.specs.Linearizable.{All, Timed, Linearization}
 use Rattle.verdicts.specs.declared.Verdict.the-variants.{Yes}
 use Rattle.verdicts.specs.Log.{entries}
 use Rattle.verdicts.specs.Verdicts.{callOf, timedOf, judged}

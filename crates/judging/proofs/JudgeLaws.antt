@@ -4,8 +4,8 @@ use Prim.Native.Nat.{ℕ}
 use mathlib.Core.List.{List, [], _∷_}
 use mathlib.Core.Bool.{Bool, true, false, not, _&&_, _||_, cond}
 use borrow.Author.Tests.{eq-eqb, ne-eqb}
-use Rattle.model.specs.Object.{fresh}
-use Rattle.model.specs.Refusals.{every, some}
+use Rattle.llsc.specs.Object.{fresh}
+use Rattle.llsc.specs.Rows.{every, some}
 use Rattle.verdicts.specs.declared.Verdict.{Verdict}
 use Rattle.verdicts.specs.declared.Verdict.the-variants.{Refused, Yes, No}
 use Rattle.verdicts.specs.Log.{Entry, rows, entries}

@@ -10,9 +10,9 @@ use lib.Dec.{eqb}
 use lib.ListN.{length, getD, set, take, drop, replicate, drop-of-length-le}
 use lib.Seq.{drop-cons, drop-drop, getD-drop, getD-take, take-all, length-take-le, getD-set-same, getD-set-other}
 use borrow.Author.Tests.{eq-eqb, ne-eqb}
-use Rattle.model.specs.Replies.{llWords, scTruth, vlTruth}
-use Rattle.model.specs.Object.{ll, sc, vl, Object, fresh, setAt, tell, feed}
-use Rattle.model.specs.Linearizable.{All}
+use Rattle.llsc.specs.Answers.{llWords, scTruth, vlTruth}
+use Rattle.llsc.specs.Object.{ll, sc, vl, Object, fresh, setAt, tell, feed}
+use Rattle.llsc.specs.Linearizable.{All}
 use Rattle.verdicts.specs.Log.{Entry, width, entryOf}
 use Rattle.verdicts.specs.Verdicts.{sameWords, sameTruth, sameAnswer}
 use Rattle.judging.specs.declared.heads.Head.{Head}

@@ -11,7 +11,7 @@ use lib.Dec.{eqb, leb}
 use lib.ListN.{length, getD, drop}
 use lib.Seq.{getD-drop, drop-drop}
 use borrow.Author.Tests.{eqb-true, ltb-false, leb-false, lt-leb, not-false}
-use Rattle.model.specs.Refusals.{row1, row2, first, some}
+use Rattle.llsc.specs.Rows.{row1, row2, first, some}
 use Rattle.rows.proofs.RowLaws.{cleared, n-in, w-in}
 use Rattle.laws.proofs.AllLaws.{all-of, all-none, none-all, or-none}
 use Rattle.verdicts.specs.Log.{Entry, width, entryOf, rows, entries, begun}

@@ -5,7 +5,7 @@ use mathlib.Core.List.{List, [], _∷_}
 use mathlib.Core.Bool.{Bool, false, not, _&&_, _||_}
 use lib.Dec.{eqb, ltb, leb}
 use lib.ListN.{length, getD}
-use Rattle.model.specs.Refusals.{some, between}
+use Rattle.llsc.specs.Rows.{some, between}
 use Rattle.verdicts.specs.Log.{Entry, width}
 use Rattle.judging.specs.declared.heads.Head.{Head}
 use Rattle.judging.specs.declared.heads.Test.{Test}

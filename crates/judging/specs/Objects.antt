@@ -4,8 +4,8 @@ use Prim.Native.Nat.{ℕ, _+_, _≤_}
 use mathlib.Core.List.{List, map}
 use mathlib.Core.Bool.{Bool, false, cond}
 use lib.ListN.{length, getD, take, drop}
-use Rattle.model.specs.Object.{Object, tell, feed, serve}
-use Rattle.model.specs.Linearizable.{fed}
+use Rattle.llsc.specs.Object.{Object, tell, feed, serve}
+use Rattle.llsc.specs.Linearizable.{fed}
 use Rattle.verdicts.specs.Log.{Entry, entryOf}
 use Rattle.verdicts.specs.Verdicts.{kindOf, answerOf, answersOf, sameAnswer, sameAnswers}
 use Rattle.judging.specs.declared.object.Held.{Held}

@@ -2,7 +2,7 @@
 ghost use mathlib.Core.Path.{_≡_};
 ghost use Prim.Native.Nat.{_+_, _≤_};
 ghost use lib.ListN.{length, take, drop};
-ghost use Rattle.model.specs.Object.{fresh};
+ghost use Rattle.llsc.specs.Object.{fresh};
 ghost use Rattle.verdicts.specs.Verdicts.{sameWords};
 ghost use Rattle.judging.specs.Orders.{placesOf, Good, GoodPlaces};
 ghost use Rattle.judging.specs.Objects.{Sane, toldAlike, MovedOn, allAlike};

@@ -2,8 +2,8 @@
 use mathlib.Core.Path.{_≡_, refl, ap, ap₂}
 use mathlib.Core.Bool.{Bool, true, false, _&&_, _||_}
 use mathlib.Core.List.{List, [], _∷_, _++_, map}
-use Rattle.model.specs.Refusals.{every, some}
-use Rattle.model.specs.Linearizable.{All}
+use Rattle.llsc.specs.Rows.{every, some}
+use Rattle.llsc.specs.Linearizable.{All}
 use Rattle.laws.specs.Lists.{Any, here, there, Pairs}
 use Rattle.laws.proofs.AndLaws.{left, right}
 

@@ -1,3 +1,9 @@
 pub mod AndLaws
 pub mod ListLaws
 pub mod AllLaws
+pub mod Updates
+pub mod Claimed
+pub mod Parts
+pub mod ListFacts
+pub mod Residues
+pub mod Pigeonhole

@@ -8,7 +8,7 @@ use native.Mathlib.Numerals.{add-one}
 use native.Mathlib.Omega.{arith}
 use lib.ListN.{length, take, drop, getD, set, replicate, length-take, length-replicate, replicate-append-replicate}
 use lib.Seq.{sets, take-suc, drop-cons}
-use Rattle.model.specs.Refusals.{every}
+use Rattle.llsc.specs.Rows.{every}
 use Rattle.laws.proofs.AndLaws.{left, right}
 
 module _ {ℓ} {A : Type ℓ} where

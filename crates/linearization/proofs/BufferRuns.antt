@@ -13,7 +13,7 @@ use Rattle.model.specs.Machine.{Memory, stepAt, obey}
 use Rattle.model.specs.Refusals.{inRange}
 use Rattle.model.specs.Command.{command, refusal}
 use Rattle.model.specs.SetUp.{setUp, setUpRefusal, numbers}
-use Rattle.model.specs.History.{Command}
+use Rattle.llsc.specs.History.{Command}
 use Rattle.model.proofs.Schedules.{l, v, s, steps, dirty}
 use Rattle.linearization.specs.After.{after}
 use Rattle.linearization.specs.Buffers.{held, occurrences}

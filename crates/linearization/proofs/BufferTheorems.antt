@@ -11,7 +11,7 @@ use Rattle.model.specs.Sizes.{halves}
 use Rattle.model.specs.Points.{Point, lineNumber, idle, line1, line2, line3, line4, line5, line6, line7, line7copy}
 use Rattle.model.specs.Points.{line8, line9, line10, line11, line12, line12valid, line13, line14, line14valid, line15}
 use Rattle.model.specs.Points.{line17, line18, line19, line23}
-use Rattle.model.specs.Refusals.{some}
+use Rattle.llsc.specs.Rows.{some}
 use Rattle.model.specs.Machine.{Memory}
 use Rattle.model.specs.SetUp.{numbers}
 use Rattle.linearization.specs.Buffers

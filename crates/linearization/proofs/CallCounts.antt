@@ -9,12 +9,13 @@ use Rattle.model.specs.Sizes.{halves}
 use Rattle.model.specs.Points.{Point, idle, line1, line2, line3, line4, line5, line6, line7, line7copy, line8, line9}
 use Rattle.model.specs.Points.{line10, line11, line12, line12valid, line13, line14, line14valid, line15, line17, line18}
 use Rattle.model.specs.Points.{line19, line23}
-use Rattle.model.specs.History.{Call}
-use Rattle.model.specs.Linearizable.{All, Timed, Counted}
-use Rattle.linearization.proofs.Updates.{by-test}
+use Rattle.llsc.specs.History.{Call}
+use Rattle.llsc.specs.Linearizable.{All, Timed}
+use Rattle.model.specs.Linearizable.{Counted}
+use Rattle.laws.proofs.Updates.{by-test}
 use Rattle.linearization.proofs.GhostMachine.{State}
 use Rattle.linearization.proofs.Invariants.{ProcessClauses, Invariant}
-use Rattle.linearization.proofs.Sorting.{all-append}
+use Rattle.serving.proofs.Sorting.{all-append}
 use Rattle.linearization.proofs.WordLists.{wordsOf}
 use Rattle.linearization.proofs.GhostRuns.{Cmd, exec, callAt, callF, callsF, setup}
 use Rattle.linearization.proofs.InvariantRuns.{exec-inv}

@@ -6,9 +6,9 @@ use Rattle.model.specs.Sizes.{halves}
 use Rattle.model.specs.Machine.{Memory, Shaped}
 use Rattle.model.specs.Command.{command, refusal}
 use Rattle.model.specs.SetUp.{setUp}
-use Rattle.model.specs.History.{Command}
+use Rattle.llsc.specs.History.{Command}
 use Rattle.linearization.specs.After.{after}
-use Rattle.linearization.specs.OwnDoing.{NotLentMemory}
+use Rattle.llsc.specs.Rows.{NotLentMemory}
 use Rattle.linearization.proofs.GhostMachine.{State}
 use Rattle.linearization.proofs.Invariants.{Invariant}
 use Rattle.linearization.proofs.GhostRuns.{exec, setup}

@@ -8,11 +8,11 @@ use lib.Dec.{T, eqb, leb}
 use borrow.Author.Tests.{leb-true, leb-false, eqb-true, eq-eqb, ne-eqb, le-ltb, le-leb, lt-leb}
 use lib.ListN.{length, getD, set, length-set}
 use lib.Seq.{getD-set-same, getD-set-other}
-use Rattle.model.specs.declared.ProcessNumber.{ProcessNumber}
+use Rattle.llsc.specs.declared.ProcessNumber.{ProcessNumber}
 use Rattle.model.specs.declared.Bench.{Bench}
 use Rattle.model.specs.declared.Process.{Process}
-use Rattle.model.specs.declared.Order.{Order}
-use Rattle.model.specs.declared.Order.the-variants.{StartLl, StartSc, StartVl, Step}
+use Rattle.llsc.specs.declared.Order.{Order}
+use Rattle.llsc.specs.declared.Order.the-variants.{StartLl, StartSc, StartVl, Step}
 use Rattle.model.specs.declared.Reply.the-variants.{Refused, Accepted}
 use Rattle.model.specs.declared.Moved.{Moved}
 use Rattle.model.specs.Sizes.{halves}
@@ -21,13 +21,13 @@ use Rattle.model.specs.Records.{recordAt, noProcess}
 use Rattle.model.specs.Machine
 use Rattle.model.specs.Machine.{Memory, obey}
 use Rattle.model.specs.Refusals
-use Rattle.model.specs.Refusals.{isStart, needsLl, bringsValue}
+use Rattle.llsc.specs.Rows.{isStart, needsLl, bringsValue}
 use Rattle.model.specs.Command.{command, refusal, storedBack, obeyed}
 use Rattle.model.specs.Replies.{says}
-use Rattle.model.specs.History.{Command}
-use Rattle.linearization.specs.OwnDoing.{NotLentMemory}
+use Rattle.llsc.specs.History.{Command}
+use Rattle.llsc.specs.Rows.{NotLentMemory}
 use Rattle.linearization.proofs.PointFacts
-use Rattle.linearization.proofs.Updates.{Split, same, other, split, by-test, contra}
+use Rattle.laws.proofs.Updates.{Split, same, other, split, by-test, contra}
 use Rattle.linearization.proofs.GhostMachine
 use Rattle.linearization.proofs.GhostMachine.{State}
 use Rattle.linearization.proofs.WordLists.{wordsOf}

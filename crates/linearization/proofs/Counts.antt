@@ -8,15 +8,16 @@ use native.Mathlib.Omega.{arith}
 use lib.Dec.{ltb, eqb, lit≤}
 use borrow.Author.Tests.{ltb-false}
 use Rattle.linearization.proofs.PointFacts.{moving}
-use Rattle.linearization.proofs.Updates.{upd, upd-same, upd-other, Split, same, other, split, by-test, contra}
+use Rattle.laws.proofs.Updates.{upd, upd-same, upd-other, Split, same, other, split, by-test, contra}
 use Rattle.linearization.proofs.GhostMachine.{Local, Shared, State, quiet, noisy, word, step, stepAt, to, setLinkHelp, setLinkBank, setLinkX, setReturned}
 use Rattle.model.specs.Sizes.{halves, busyMost}
 use Rattle.model.specs.Points.{Point, idle, line1, line2, line3, line4, line5, line6, line7, line7copy, line8, line9}
 use Rattle.model.specs.Points.{line10, line11, line12, line12valid, line13, line14, line14valid, line15, line17, line18}
 use Rattle.model.specs.Points.{line19, line23}
-use Rattle.model.specs.Object.{Kind, ll, sc, vl}
+use Rattle.llsc.specs.Object.{Kind, ll, sc, vl}
 use Rattle.model.specs.Linearizable.{OwnSteps, largest}
-use Rattle.linearization.proofs.Invariants.{ProcessClauses, Invariant, On, on-map, lines, still, apart}
+use Rattle.laws.proofs.Claimed.{On, on-map}
+use Rattle.linearization.proofs.Invariants.{ProcessClauses, Invariant, lines, still, apart}
 use Rattle.linearization.proofs.GhostRuns.{Cmd, exec, setup}
 use Rattle.linearization.proofs.InvariantRuns
 use Rattle.linearization.proofs.InvariantRuns.{First, numberAfter, execs, along, by-command, exec-inv}

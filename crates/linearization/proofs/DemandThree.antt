@@ -8,8 +8,10 @@ use lib.ListN.{length, length-map}
 use Rattle.model.specs.Sizes.{halves}
 use Rattle.model.specs.Machine.{Memory, Shaped}
 use Rattle.model.specs.SetUp.{setUp}
-use Rattle.model.specs.History.{Command, Call, events, calls, slots, none}
-use Rattle.model.specs.Linearizable.{All, Timed, Counted, OpenCounted, Linearization, Demand3}
+use Rattle.llsc.specs.History.{Command, Call, calls, slots, none}
+use Rattle.model.specs.History.{events}
+use Rattle.llsc.specs.Linearizable.{All, Timed, Linearization}
+use Rattle.model.specs.Linearizable.{Counted, OpenCounted, Demand3}
 use Rattle.linearization.specs.After.{after}
 use Rattle.linearization.proofs.GhostMachine.{State}
 use Rattle.linearization.proofs.WordLists.{wordsOf, cells}

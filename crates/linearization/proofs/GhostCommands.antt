@@ -7,14 +7,14 @@ use native.Mathlib.Omega.{arith}
 use lib.Dec.{eqb}
 use borrow.Author.Tests.{eq-eqb, lt-ltb, le-ltb}
 use lib.ListN.{length}
-use Rattle.model.specs.declared.Order.{Order}
-use Rattle.model.specs.declared.Order.the-variants.{StartLl, StartSc, StartVl, Step}
+use Rattle.llsc.specs.declared.Order.{Order}
+use Rattle.llsc.specs.declared.Order.the-variants.{StartLl, StartSc, StartVl, Step}
 use Rattle.model.specs.Sizes.{halves}
 use Rattle.model.specs.Points.{Point, line1, line12, line23}
-use Rattle.model.specs.Refusals.{isStart, needsLl, bringsValue}
-use Rattle.model.specs.Replies.{refused, accepted}
+use Rattle.llsc.specs.Rows.{isStart, needsLl, bringsValue}
+use Rattle.llsc.specs.Answers.{refused, accepted}
 use Rattle.linearization.proofs.PointFacts
-use Rattle.linearization.proofs.Updates.{by-test, contra}
+use Rattle.laws.proofs.Updates.{by-test, contra}
 use Rattle.linearization.proofs.GhostMachine
 use Rattle.linearization.proofs.GhostMachine.{State, noisy}
 use Rattle.linearization.proofs.GhostRuns

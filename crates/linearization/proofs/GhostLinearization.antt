@@ -2,13 +2,13 @@
 use mathlib.Core.List.{List, [], _∷_, map}
 use Prim.Native.Nat.{ℕ, suc, _≤_, _<_}
 use lib.ListN.{length}
-use Rattle.model.specs.Object.{fresh}
-use Rattle.model.specs.Linearizable.{All, Timed, sortInto, Linearization}
+use Rattle.llsc.specs.Object.{fresh}
+use Rattle.llsc.specs.Linearizable.{All, Timed, sortInto, Linearization}
 use Rattle.linearization.proofs.GhostMachine.{State}
 use Rattle.linearization.proofs.WordLists.{wordsOf}
-use Rattle.linearization.proofs.Serving.{Served}
-use Rattle.linearization.proofs.Sorting.{Sorted, all-append, sortInto-append}
-use Rattle.linearization.proofs.Moments.{Within, moments}
+use Rattle.serving.proofs.Serving.{Served}
+use Rattle.serving.proofs.Sorting.{Sorted, all-append, sortInto-append}
+use Rattle.serving.proofs.Moments.{Within, moments}
 use Rattle.linearization.proofs.GhostRuns.{Cmd, exec, callF, callsF, setup}
 use Rattle.linearization.proofs.GhostLog.{Good, exec-good, exec-within}
 use Rattle.linearization.proofs.GhostSetUp.{setup-good}

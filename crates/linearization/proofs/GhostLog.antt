@@ -9,17 +9,17 @@ use borrow.Author.Tests.{ltb-true}
 use Rattle.model.specs.Points.{Point, idle, line1, line2, line3, line4, line5, line6, line7, line7copy, line8, line9}
 use Rattle.model.specs.Points.{line10, line11, line12, line12valid, line13, line14, line14valid, line15, line17, line18}
 use Rattle.model.specs.Points.{line19, line23}
-use Rattle.model.specs.Replies.{llWords, scTruth, vlTruth}
-use Rattle.model.specs.Object.{Object, fresh}
-use Rattle.model.specs.Linearizable.{All, Timed, insert, sortInto}
-use Rattle.linearization.proofs.Updates.{by-test, by-test₂}
+use Rattle.llsc.specs.Answers.{llWords, scTruth, vlTruth}
+use Rattle.llsc.specs.Object.{Object, fresh}
+use Rattle.llsc.specs.Linearizable.{All, Timed, insert, sortInto}
+use Rattle.laws.proofs.Updates.{by-test, by-test₂}
 use Rattle.linearization.proofs.GhostMachine.{Local, Shared, State, step, stepAt}
 use Rattle.linearization.proofs.Invariants.{ProcessClauses, Invariant}
 use Rattle.linearization.proofs.InvariantRuns.{exec-inv}
 use Rattle.linearization.proofs.WordLists.{wordsOf, wordsOf-ext}
-use Rattle.linearization.proofs.Serving.{feeds, after, successes}
+use Rattle.serving.proofs.Serving.{feeds, after, successes}
 use Rattle.linearization.proofs.ServedLog.{Logged, log-tick, log-same, log-success, log-ll}
-use Rattle.linearization.proofs.Moments.{Within}
+use Rattle.serving.proofs.Moments.{Within}
 use Rattle.linearization.proofs.GhostRuns.{Cmd, LL, VL, SC, go, starts, exec, llCall, scCall, vlCall, callAt, callF}
 use Rattle.linearization.proofs.PointFacts.{isIdle}
 

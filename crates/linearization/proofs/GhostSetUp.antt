@@ -7,8 +7,9 @@ use native.Mathlib.Nat.{zero-mod}
 use native.Mathlib.Omega.{arith}
 use lib.Dec.{eqb}
 use Rattle.model.specs.Points.{idle}
-use Rattle.linearization.proofs.Updates.{ifb-eq, ifb-ne, Split, same, other, split, contra}
-use Rattle.linearization.proofs.Invariants.{ProcessClauses, SharedClauses, Invariant, SamePart}
+use Rattle.laws.proofs.Updates.{ifb-eq, ifb-ne, Split, same, other, split, contra}
+use Rattle.laws.proofs.Parts.{SamePart}
+use Rattle.linearization.proofs.Invariants.{ProcessClauses, SharedClauses, Invariant}
 use Rattle.linearization.proofs.WordLists.{wordsOf}
 use Rattle.linearization.proofs.GhostRuns.{Cmd, loc0, sh0, setup}
 use Rattle.linearization.proofs.InvariantRuns.{numberAfter, execs, execs-inv}

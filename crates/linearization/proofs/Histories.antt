@@ -7,27 +7,29 @@ use native.Mathlib.Omega.{arith}
 use native.Mathlib.Numerals.{add-one}
 use lib.Dec.{ltb, eqb}
 use lib.ListN.{length}
-use Rattle.model.specs.declared.Order.{Order}
-use Rattle.model.specs.declared.Order.the-variants.{StartLl, StartSc, StartVl, Step}
+use Rattle.llsc.specs.declared.Order.{Order}
+use Rattle.llsc.specs.declared.Order.the-variants.{StartLl, StartSc, StartVl, Step}
 use Rattle.model.specs.Sizes.{halves}
 use Rattle.model.specs.Points.{Point, idle, line1, line2, line3, line4, line5, line6, line7, line7copy, line8, line9}
 use Rattle.model.specs.Points.{line10, line11, line12, line12valid, line13, line14, line14valid, line15, line17, line18}
 use Rattle.model.specs.Points.{line19, line23}
 use Rattle.model.specs.Machine.{Memory}
 use Rattle.model.specs.Command.{command}
-use Rattle.model.specs.Replies.{Said, accepted, refused, answered}
-use Rattle.model.specs.Object.{ll, sc, vl, setAt}
-use Rattle.model.specs.History.{Command, Event, eventOf, events, Slot, none, running, stepped, Call, ordered, slotAfter, slotsAfter, callOf, callsFrom, slotsFrom}
-use Rattle.model.specs.Refusals.{isStart, bringsValue}
-use Rattle.model.specs.Linearizable.{Timed}
-use Rattle.linearization.proofs.Updates.{Split, same, other, split, contra, ifb-eq, ifb-ne, by-test₂}
+use Rattle.llsc.specs.Answers.{Said, accepted, refused, answered}
+use Rattle.llsc.specs.Object.{ll, sc, vl, setAt}
+use Rattle.llsc.specs.History.{Command, Event, Slot, none, running, stepped, Call, ordered, slotAfter, slotsAfter, callOf, callsFrom, slotsFrom}
+use Rattle.model.specs.History.{eventOf, events}
+use Rattle.llsc.specs.Rows.{isStart, bringsValue}
+use Rattle.llsc.specs.Linearizable.{Timed}
+use Rattle.laws.proofs.Updates.{Split, same, other, split, contra, ifb-eq, ifb-ne, by-test₂}
 use Rattle.linearization.proofs.GhostMachine
 use Rattle.linearization.proofs.GhostMachine.{Local, State}
 use Rattle.linearization.proofs.WordLists.{wordsOf, cells}
 use Rattle.linearization.proofs.GhostRuns.{exec, callAt, callF, callsF}
 use Rattle.linearization.proofs.InvariantRuns.{execs}
 use Rattle.linearization.proofs.Slots.{slotOf, slotIn, slotAfterStep, SlotStep, slot-step, slot-start}
-use Rattle.linearization.proofs.ListFacts.{words-whole, map-append}
+use Rattle.laws.proofs.ListFacts.{map-append}
+use Rattle.linearization.proofs.ListFacts.{words-whole}
 use Rattle.linearization.proofs.Simulation.{begun}
 use Rattle.linearization.proofs.ReplySimulation.{saidAt}
 use Rattle.linearization.proofs.Outcome.{cmdOf, toF, Outcome, refusedWith, started, stepped as stepped-case, IsRefused, IsStarted, IsStepped}

@@ -15,13 +15,14 @@ use Rattle.model.specs.Tables.{noBank, noHelp}
 use Rattle.model.specs.Records.{noProcess}
 use Rattle.model.specs.Points.{idle}
 use Rattle.model.specs.Machine.{Memory}
-use Rattle.model.specs.Refusals.{linksOk, xPlaceOk, bankPlaceOk, helpPlaceOk, processOk, countOk, inRange, every}
+use Rattle.llsc.specs.Rows.{every}
+use Rattle.model.specs.Refusals.{linksOk, xPlaceOk, bankPlaceOk, helpPlaceOk, processOk, countOk, inRange}
 use Rattle.linearization.proofs.GhostMachine.{Local, State}
 use Rattle.linearization.proofs.Invariants.{Invariant}
 use Rattle.linearization.proofs.PointFacts.{isIdle, idle-is}
 use Rattle.linearization.proofs.Ranges.{ProcessRanges, InRanges}
 use Rattle.linearization.proofs.Counts.{ProcessCount, AllCounts, busy-count, idle-count}
-use Rattle.linearization.proofs.ListFacts.{every-true}
+use Rattle.laws.proofs.ListFacts.{every-true}
 use Rattle.linearization.proofs.PointFacts.{line-ok}
 use Rattle.linearization.proofs.Relation.{recordOf, LinksLike, XLike, BankLike, HelpLike, Related}
 

@@ -5,7 +5,7 @@ use mathlib.Core.List.{List, [], _∷_}
 use Prim.Native.Nat.{ℕ, suc, _<_}
 use lib.Dec.{ltb}
 use borrow.Author.Tests.{ltb-true}
-use Rattle.linearization.proofs.Updates.{by-test}
+use Rattle.laws.proofs.Updates.{by-test}
 use Rattle.linearization.proofs.GhostMachine.{State, noisy, wStart, begin, step}
 use Rattle.model.specs.Points.{Point, idle, line1, line12, line23}
 use Rattle.linearization.proofs.Invariants.{ProcessClauses, Invariant, later, laterG, noisy-inv}

@@ -6,30 +6,14 @@ use lib.Dec.{ltb, leb, eqb, lit≤}
 use borrow.Author.Tests.{leb-true, le-leb}
 use native.Mathlib.Decide.{decLe}
 use native.Mathlib.Omega.{arith}
+use Rattle.laws.proofs.Claimed.{On}
+use Rattle.laws.proofs.Parts.{SamePart}
 use Rattle.linearization.proofs.PointFacts.{busy, moving}
-use Rattle.linearization.proofs.Updates.{upd, upd-same, upd-other, Split, same, other, split, by-test, contra, is-true, is-false}
+use Rattle.laws.proofs.Updates.{upd, upd-same, upd-other, Split, same, other, split, by-test, contra, is-true, is-false}
 use Rattle.linearization.proofs.GhostMachine.{Local, Shared, State, quiet, noisy, wEnd}
 use Rattle.model.specs.Points.{Point, idle, line1, line2, line3, line4, line5, line6, line7, line7copy, line8, line9}
 use Rattle.model.specs.Points.{line10, line11, line12, line12valid, line13, line14, line14valid, line15, line17, line18}
 use Rattle.model.specs.Points.{line19, line23}
-
--- a fact that is claimed at some lines only
-abbrev pub On : Bool → Type 0 → Type 0
-On true A = A
-On false A = Unit {0}
-
-pub on-map : (b : Bool) {A B : Type 0} → (A → B) → On b A → On b B
-on-map true f x = f x
-on-map false f x = tt
-
--- a fact that is not claimed
-pub on-no : (b : Bool) (A : Type 0) → b ≡ false → On b A
-on-no true A e = absurd (contra refl e)
-on-no false A e = tt
-
-pub on-get : (b : Bool) (A : Type 0) → b ≡ true → On b A → A
-on-get true A e x = x
-on-get false A e x = absurd (contra e refl)
 
 -- the lines in an order in which every set of lines that a clause names is a range
 abbrev pub lineOrder : Point → ℕ
@@ -117,11 +101,6 @@ above b y e = is-true _ (λ z. go (decLe (lineOrder y) b) z)
 pub apart : (a b c d : ℕ) (y : Point) → suc b ≤ c → lines a b y ≡ true → lines c d y ≡ false
 apart a b c d y p e = is-false _ (λ x. let z = rng-get a b y e in let w = rng-get c d y x in omega arith)
 
--- a clause's fact, kept with the help of another clause that is claimed at these lines too
-pub on-with : (a b : Bool) {A A′ B : Type 0} → (a ≡ true → b ≡ true) → (B → A → A′) → On b B → On a A → On a A′
-on-with true b {B = B} s f x y = f (on-get b B (s refl) x) y
-on-with false b s f x y = tt
-
 -- lines inside a call that are no run of words
 abbrev pub still : Point → Bool
 still y = both (busy y) (not (moving y))
@@ -161,9 +140,6 @@ H8 h t x = x ≡ true → h .flag t ≡ true → h .asked t ≡ h .successes
 
 abbrev pub H9 : ℕ → Shared → ℕ → Type 0
 H9 N h q = h .flag q ≡ true → (s : ℕ) → h .asked q < s → s < h .successes → s % N ≡ q → ⊥
-
-abbrev pub SamePart : (ℕ → ℕ) → (ℕ → ℕ) → ℕ → Type 0
-SamePart f g n = (w : ℕ) → w < n → f w ≡ g w
 
 -- moment t lies in the life of value i
 abbrev pub Within : Shared → ℕ → ℕ → Type 0

@@ -1,7 +1,5 @@
 pub mod BufferRuns
 pub mod StayRuns
-pub mod Updates
-pub mod Residues
 pub mod PointFacts
 pub mod GhostMachine
 pub mod Invariants
@@ -12,12 +10,8 @@ pub mod BufferWrites
 pub mod XWrites
 pub mod Starts
 pub mod Preservation
-pub mod Serving
-pub mod Sorting
-pub mod Insertion
 pub mod WordLists
 pub mod ServedLog
-pub mod Moments
 pub mod GhostRuns
 pub mod InvariantRuns
 pub mod GhostLog
@@ -29,12 +23,10 @@ pub mod Counts
 pub mod CallCounts
 pub mod Slots
 pub mod OpenCounts
-pub mod Pigeonhole
 pub mod Ownership
 pub mod Retention
 pub mod WordPlace
 pub mod ListFacts
-pub mod RefusalFacts
 pub mod Relation
 pub mod Simulation
 pub mod SetUpSimulation

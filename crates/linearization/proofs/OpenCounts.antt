@@ -6,7 +6,7 @@ use Rattle.model.specs.Sizes.{halves}
 use Rattle.model.specs.Points.{Point, idle, line1, line2, line3, line4, line5, line6, line7, line7copy, line8, line9}
 use Rattle.model.specs.Points.{line10, line11, line12, line12valid, line13, line14, line14valid, line15, line17, line18}
 use Rattle.model.specs.Points.{line19, line23}
-use Rattle.model.specs.Object.{ll, sc, vl}
+use Rattle.llsc.specs.Object.{ll, sc, vl}
 use Rattle.model.specs.Linearizable.{OpenCounted}
 use Rattle.linearization.proofs.GhostMachine.{Local, Shared}
 use Rattle.linearization.proofs.Invariants.{ProcessClauses}

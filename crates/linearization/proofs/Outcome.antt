@@ -5,16 +5,17 @@ use mathlib.Core.List.{List, []}
 use Prim.Native.Nat.{ℕ, _<_}
 use lib.Dec.{eqb}
 use lib.ListN.{length}
-use Rattle.model.specs.declared.Order.{Order}
-use Rattle.model.specs.declared.Order.the-variants.{StartLl, StartSc, StartVl, Step}
+use Rattle.llsc.specs.declared.Order.{Order}
+use Rattle.llsc.specs.declared.Order.the-variants.{StartLl, StartSc, StartVl, Step}
 use Rattle.model.specs.declared.Reply.the-variants.{Refused}
 use Rattle.model.specs.Sizes.{halves}
 use Rattle.model.specs.Points.{idle}
 use Rattle.model.specs.Machine.{Memory}
-use Rattle.model.specs.Refusals.{isStart, needsLl, bringsValue}
+use Rattle.llsc.specs.Rows.{isStart, needsLl, bringsValue}
 use Rattle.model.specs.Command.{command, refusal}
-use Rattle.model.specs.Replies.{refused, accepted}
-use Rattle.model.specs.History.{Command, eventOf}
+use Rattle.llsc.specs.Answers.{refused, accepted}
+use Rattle.llsc.specs.History.{Command}
+use Rattle.model.specs.History.{eventOf}
 use Rattle.linearization.proofs.PointFacts
 use Rattle.linearization.proofs.GhostMachine
 use Rattle.linearization.proofs.GhostMachine.{State, noisy}

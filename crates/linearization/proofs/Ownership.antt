@@ -6,15 +6,16 @@ use Prim.Native.Nat.{ℕ, _+_, _*_, _-_, _<_}
 use native.Mathlib.Omega.{arith}
 use lib.Dec.{ltb, eqb}
 use borrow.Author.Tests.{ltb-true, ltb-false}
-use Rattle.linearization.proofs.Updates.{by-test, contra}
+use Rattle.laws.proofs.Updates.{by-test, contra}
 use Rattle.linearization.proofs.GhostMachine.{Local, Shared, State}
-use Rattle.linearization.proofs.Invariants.{ProcessClauses, Invariant, on-get, lines, above}
+use Rattle.laws.proofs.Claimed.{on-get}
+use Rattle.linearization.proofs.Invariants.{ProcessClauses, Invariant, lines, above}
 use Rattle.linearization.proofs.Ranges.{InRanges}
 use Rattle.linearization.proofs.GhostRuns.{Cmd, setup}
 use Rattle.linearization.proofs.InvariantRuns.{numberAfter, execs}
 use Rattle.linearization.proofs.GhostSetUp.{run-inv}
 use Rattle.linearization.proofs.RangeRuns.{run-range}
-use Rattle.linearization.proofs.Pigeonhole.{Injection, pigeonhole}
+use Rattle.laws.proofs.Pigeonhole.{Injection, pigeonhole}
 
 -- Help[p]'s buffer at lines 2 to 10 while its flag is 0, else mybuf
 abbrev pub owned : State → ℕ → ℕ

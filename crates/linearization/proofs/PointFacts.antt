@@ -7,7 +7,7 @@ use borrow.Author.Tests.{eqb-true}
 use Rattle.model.specs.Points.{Point, lineNumber, pointOf, busyPoints, idle, line1, line2, line3, line4, line5, line6}
 use Rattle.model.specs.Points.{line7, line7copy, line8, line9, line10, line11, line12, line12valid, line13, line14}
 use Rattle.model.specs.Points.{line14valid, line15, line17, line18, line19, line23}
-use Rattle.model.specs.Refusals.{some}
+use Rattle.llsc.specs.Rows.{some}
 
 pub point-of : (y : Point) → pointOf (lineNumber y) ≡ y
 point-of idle = refl

@@ -4,31 +4,20 @@ use mathlib.Core.Bool.{Bool, true, false, not}
 use Prim.Native.Nat.{ℕ, zero, suc, _+_, _*_, _%_, _≤_, _<_}
 use native.Mathlib.Nat.{suc-mod}
 use native.Mathlib.Decide.{decLt}
-use Rattle.linearization.proofs.Residues.{hit}
+use Rattle.laws.proofs.Residues.{hit}
 use native.Mathlib.Omega.{arith}
 use lib.Dec.{ltb, eqb}
-use Rattle.linearization.proofs.Updates.{upd, upd-same, upd-other, Split, same, other, split, by-test, contra, is-false, is-true}
+use Rattle.laws.proofs.Updates.{upd, upd-same, upd-other, Split, same, other, split, by-test, contra, is-false, is-true}
 use Rattle.linearization.proofs.GhostMachine.{Local, Shared, State, quiet, noisy, to, setWord, word, llX}
 use Rattle.linearization.proofs.GhostMachine.{setReturned, setLinkHelp, setMoment, setB, setC, setMybuf, setE}
 use Rattle.linearization.proofs.GhostMachine.{setLinkBank, setD, setCheckedAt, rest, wEnd}
 use Rattle.model.specs.Points.{Point, idle, line1, line2, line3, line4, line5, line6, line7, line7copy, line8, line9}
 use Rattle.model.specs.Points.{line10, line11, line12, line12valid, line13, line14, line14valid, line15, line17, line18}
 use Rattle.model.specs.Points.{line19, line23}
-use Rattle.linearization.proofs.Invariants.{On, on-map, ProcessClauses, SharedClauses, Invariant, Withdrawing, Asking, K2, K3, H6, H7, H8, H9, K4x, Both, SamePart, Within, Got, D6}
-
--- one word more
-pub pre-put : (f g : ℕ → ℕ) (k v : ℕ) → SamePart f g k → v ≡ g k → SamePart (upd f k v) g (suc k)
-pre-put f g k v d e w hw = go (split w k)
-  where
-    go : Split w k → upd f k v w ≡ g w
-    go (same z) = rw z (upd-same f k v ∙ e)
-    go (other n) = upd-other f k w v n ∙ d w (omega arith)
-
-pub pre-all : (f g : ℕ → ℕ) (k m : ℕ) → k ≤ m → SamePart f g m → SamePart f g k
-pre-all f g k m h d w hw = d w (omega arith)
-
-pub pre-none : (f g : ℕ → ℕ) (k : ℕ) → k ≡ 0 → SamePart f g k
-pre-none f g k e w hw = absurd (omega arith)
+use Rattle.laws.proofs.Parts.{pre-put, pre-all, pre-none}
+use Rattle.laws.proofs.Parts.{SamePart}
+use Rattle.laws.proofs.Claimed.{On, on-map}
+use Rattle.linearization.proofs.Invariants.{ProcessClauses, SharedClauses, Invariant, Withdrawing, Asking, K2, K3, H6, H7, H8, H9, K4x, Both, Within, Got, D6}
 
 -- Lemma 4: with the flag up, fewer than 2N successes since the read of X
 pub fresh : (N : ℕ) (h : Shared) (p r : ℕ) → p < N → H9 N h p → h .flag p ≡ true → h .asked p ≤ r → h .successes < r + 2 * N

@@ -2,7 +2,7 @@
 use mathlib.Core.List.{List}
 use Prim.Native.Nat.{ℕ, _<_}
 use native.Mathlib.Omega.{arith}
-use Rattle.linearization.proofs.Updates.{upd, upd-same, upd-other, Split, same, other, split}
+use Rattle.laws.proofs.Updates.{upd, upd-same, upd-other, Split, same, other, split}
 use Rattle.linearization.proofs.GhostMachine.{State, begin, step}
 use Rattle.model.specs.Points.{Point}
 use Rattle.linearization.proofs.Ranges.{ProcessRanges, InRanges, range-step}

@@ -23,10 +23,10 @@ use Rattle.model.specs.Tables.{noBank, noHelp}
 use Rattle.model.specs.Points.{lineNumber}
 use Rattle.model.specs.Records.{recordAt}
 use Rattle.model.specs.Machine.{Memory}
-use Rattle.linearization.proofs.Updates.{upd, upd-same, upd-other, Split, same, other, split}
+use Rattle.laws.proofs.Updates.{upd, upd-same, upd-other, Split, same, other, split}
 use Rattle.linearization.proofs.GhostMachine.{Local, Shared, State}
 use Rattle.linearization.proofs.WordLists.{cells}
-use Rattle.linearization.proofs.ListFacts.{sets-out, sets-in}
+use Rattle.laws.proofs.ListFacts.{sets-out, sets-in}
 
 -- the process record of a process of the ghost machine
 abbrev pub recordOf : Local → Process

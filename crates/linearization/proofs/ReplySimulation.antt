@@ -19,8 +19,9 @@ use Rattle.model.specs.Sizes.{halves}
 use Rattle.model.specs.Words.{returnArea, wordOf, half}
 use Rattle.model.specs.Machine
 use Rattle.model.specs.Machine.{Memory}
-use Rattle.model.specs.Replies.{Said, accepted, answered, llWords, scTruth, vlTruth, says}
-use Rattle.linearization.proofs.Updates.{upd-same, by-test}
+use Rattle.llsc.specs.Answers.{Said, accepted, answered, llWords, scTruth, vlTruth}
+use Rattle.model.specs.Replies.{says}
+use Rattle.laws.proofs.Updates.{upd-same, by-test}
 use Rattle.linearization.proofs.GhostMachine
 use Rattle.linearization.proofs.GhostMachine.{Local, State}
 use Rattle.linearization.proofs.WordLists.{wordsOf, wordsOf-ext}

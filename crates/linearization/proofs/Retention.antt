@@ -5,7 +5,7 @@ use mathlib.Core.List.{List}
 use Prim.Native.Nat.{ℕ, suc, _+_, _*_, _%_, _≤_, _<_}
 use native.Mathlib.Omega.{arith}
 use lib.Dec.{ltb, eqb}
-use Rattle.linearization.proofs.Updates.{upd, upd-other, by-test}
+use Rattle.laws.proofs.Updates.{upd, upd-other, by-test}
 use Rattle.linearization.proofs.GhostMachine.{Shared, State, step, stepAt}
 use Rattle.model.specs.Points.{Point, idle, line1, line2, line3, line4, line5, line6, line7, line7copy, line8, line9}
 use Rattle.model.specs.Points.{line10, line11, line12, line12valid, line13, line14, line14valid, line15, line17, line18}

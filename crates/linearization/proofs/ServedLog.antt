@@ -7,14 +7,14 @@ use native.Mathlib.Decide.{decLt}
 use native.Mathlib.Omega.{arith}
 use lib.Dec.{eqb}
 use borrow.Author.Tests.{eqb-true, eq-eqb}
-use Rattle.model.specs.Replies.{llWords}
-use Rattle.model.specs.Object.{ll, Object, fresh}
-use Rattle.model.specs.Linearizable.{All, Timed, insert}
-use Rattle.linearization.proofs.Updates.{upd, upd-same, upd-other, Split, same, other, split, contra, is-false}
+use Rattle.llsc.specs.Answers.{llWords}
+use Rattle.llsc.specs.Object.{ll, Object, fresh}
+use Rattle.llsc.specs.Linearizable.{All, Timed, insert}
+use Rattle.laws.proofs.Updates.{upd, upd-same, upd-other, Split, same, other, split, contra, is-false}
 use Rattle.linearization.proofs.WordLists.{wordsOf}
-use Rattle.linearization.proofs.Serving.{tells, feeds, after, Served, Free, successes, after-append, served-append, successes-append}
-use Rattle.linearization.proofs.Sorting.{Sorted, sorted-insert, all-map, all-insert, upto, past, upto-past, insert-end, upto-all, upto-before, free-past}
-use Rattle.linearization.proofs.Insertion.{Inserted, insert-ll}
+use Rattle.serving.proofs.Serving.{tells, feeds, after, Served, Free, successes, after-append, served-append, successes-append}
+use Rattle.serving.proofs.Sorting.{Sorted, sorted-insert, all-map, all-insert, upto, past, upto-past, insert-end, upto-all, upto-before, free-past}
+use Rattle.serving.proofs.Insertion.{Inserted, insert-ll}
 
 -- before command number n, and not after the last moment of its process
 abbrev pub Low : ℕ → (ℕ → ℕ) → Timed → Type 0

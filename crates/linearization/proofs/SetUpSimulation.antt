@@ -17,12 +17,13 @@ use Rattle.model.specs.Records.{noProcess}
 use Rattle.model.specs.Machine.{Memory, Shaped}
 use Rattle.model.specs.Refusals.{setUpRows}
 use Rattle.model.specs.SetUp.{setUp, setUpRefusal, atSetUp, numbers, bankAtSetUp, helpAtSetUp, processAtSetUp}
-use Rattle.linearization.proofs.Updates.{ifb-ne}
+use Rattle.laws.proofs.Updates.{ifb-ne}
 use Rattle.linearization.proofs.GhostMachine.{State}
 use Rattle.linearization.proofs.GhostRuns
 use Rattle.linearization.proofs.WordLists.{cells}
-use Rattle.linearization.proofs.ListFacts.{sets-front, map-at, numbers-length, numbers-at, zeros}
-use Rattle.linearization.proofs.RefusalFacts.{or-false, noRow, none-holds, inside}
+use Rattle.laws.proofs.ListFacts.{sets-front, map-at, zeros}
+use Rattle.linearization.proofs.ListFacts.{numbers-length, numbers-at}
+use Rattle.serving.proofs.RefusalFacts.{or-false, noRow, none-holds, inside}
 use Rattle.linearization.proofs.Relation.{Sizes, Related, links-none}
 
 -- what an accepted set-up found

@@ -8,7 +8,7 @@ use native.Mathlib.Numerals.{add-one}
 use native.Mathlib.Omega.{arith}
 use lib.Dec.{ltb, eqb}
 use lib.ListN.{length, getD, set, length-set}
-use Rattle.model.specs.declared.ProcessNumber.{ProcessNumber}
+use Rattle.llsc.specs.declared.ProcessNumber.{ProcessNumber}
 use Rattle.model.specs.declared.BufferNumber.{BufferNumber}
 use Rattle.model.specs.declared.XContent.{XContent}
 use Rattle.model.specs.declared.XPlace.{XPlace}
@@ -17,8 +17,8 @@ use Rattle.model.specs.declared.HelpPlace.{HelpPlace}
 use Rattle.model.specs.declared.Bench.{Bench}
 use Rattle.model.specs.declared.Process.{Process}
 use Rattle.model.specs.declared.Reply.{Reply}
-use Rattle.model.specs.declared.Order.{Order}
-use Rattle.model.specs.declared.Order.the-variants.{StartLl, StartSc, StartVl, Step}
+use Rattle.llsc.specs.declared.Order.{Order}
+use Rattle.llsc.specs.declared.Order.the-variants.{StartLl, StartSc, StartVl, Step}
 use Rattle.model.specs.declared.Reply.the-variants.{Accepted, LlAnswered, ScAnswered, VlAnswered}
 use Rattle.model.specs.declared.Moved.{Moved}
 use Rattle.model.specs.Places.{linked, link, noLinks, writeHelp, llHelp, llBank}
@@ -27,12 +27,12 @@ use Rattle.model.specs.Words.{wordOf, half, withHalf}
 use Rattle.model.specs.Tables.{noBank, noHelp}
 use Rattle.model.specs.Records
 use Rattle.model.specs.Machine
-use Rattle.model.specs.Refusals.{bringsValue, isStart}
+use Rattle.llsc.specs.Rows.{bringsValue, isStart}
 use Rattle.model.specs.Lines.{doLine2, doWord}
 use Rattle.model.specs.Points.{Point, lineNumber, idle, line1, line2, line3, line4, line5, line6, line7, line7copy}
 use Rattle.model.specs.Points.{line8, line9, line10, line11, line12, line12valid, line13, line14, line14valid, line15}
 use Rattle.model.specs.Points.{line17, line18, line19, line23}
-use Rattle.linearization.proofs.Updates.{upd, upd-same, upd-other, Split, same, other, split, by-test, contra}
+use Rattle.laws.proofs.Updates.{upd, upd-same, upd-other, Split, same, other, split, by-test, contra}
 use Rattle.linearization.proofs.GhostMachine
 use Rattle.linearization.proofs.GhostMachine.{Local, Shared, State, quiet, noisy}
 use Rattle.linearization.proofs.WordLists.{cells}

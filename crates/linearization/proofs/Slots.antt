@@ -5,15 +5,15 @@ use mathlib.Core.List.{List}
 use Prim.Native.Nat.{ℕ, suc, _+_, _*_, _%_}
 use native.Mathlib.Numerals.{add-one}
 use lib.Dec.{ltb, eqb}
-use Rattle.linearization.proofs.Updates.{upd, upd-same, upd-other, by-test, by-test₂}
+use Rattle.laws.proofs.Updates.{upd, upd-same, upd-other, by-test, by-test₂}
 use Rattle.linearization.proofs.GhostMachine
 use Rattle.linearization.proofs.GhostMachine.{Local, Shared, State, quiet, noisy}
 use Rattle.linearization.proofs.WordLists.{wordsOf}
 use Rattle.model.specs.Points.{Point, idle, line1, line2, line3, line4, line5, line6, line7, line7copy, line8, line9}
 use Rattle.model.specs.Points.{line10, line11, line12, line12valid, line13, line14, line14valid, line15, line17, line18}
 use Rattle.model.specs.Points.{line19, line23}
-use Rattle.model.specs.Object.{Kind, ll, sc, vl}
-use Rattle.model.specs.History.{Slot, none, running, stepped}
+use Rattle.llsc.specs.Object.{Kind, ll, sc, vl}
+use Rattle.llsc.specs.History.{Slot, none, running, stepped}
 
 -- the open call of a process at point y, started at command st, with c own steps and the words w offered
 abbrev pub slotOf : Point → ℕ → ℕ → List ℕ → Slot

@@ -5,12 +5,13 @@ use Prim.Native.Nat.{ℕ, _+_}
 use mathlib.Core.List.{List, [], _∷_, _++_}
 use lib.Dec.{lit<}
 use native.Mathlib.Omega.{arith}
-use Rattle.model.specs.declared.Order.the-variants.{Step}
+use Rattle.llsc.specs.declared.Order.the-variants.{Step}
 use Rattle.model.specs.Machine.{Memory, Shaped, stepAt, obey}
 use Rattle.model.specs.Refusals.{inRange}
 use Rattle.model.specs.Command.{command, refusal}
 use Rattle.model.specs.SetUp.{setUp, setUpRefusal}
-use Rattle.model.specs.History.{Command, events, callsFrom, calls, slotsFrom}
+use Rattle.llsc.specs.History.{Command, callsFrom, calls, slotsFrom}
+use Rattle.model.specs.History.{events}
 use Rattle.model.proofs.Schedules.{l, s, steps, dirty}
 use Rattle.linearization.specs.After.{after}
 use Rattle.linearization.specs.Changes.{changes, successes}

@@ -1,25 +1,13 @@
--- A function's first values as a list, and its first cells, joined two by two, as a list of words.
-use mathlib.Core.Path.{_≡_, refl, ap, ap₂, _∙_}
-use mathlib.Core.List.{List, [], _∷_}
-use Prim.Native.Nat.{ℕ, zero, suc, _+_, _*_, _/_}
+-- A function's first cells, joined two by two, as a list of words.
+use mathlib.Core.Path.{_≡_, ap, ap₂, _∙_}
+use mathlib.Core.List.{List}
+use Prim.Native.Nat.{ℕ, _+_, _*_, _/_}
 use native.Mathlib.Omega.{arith}
-use lib.ListN.{length, getD}
+use lib.ListN.{getD}
 use Rattle.model.specs.Sizes.{halves}
 use Rattle.model.specs.Words.{wordOf, halfValues, half}
 use Rattle.model.proofs.HalfLaws.{halves-joined}
-use Rattle.linearization.proofs.Invariants.{SamePart}
-
-abbrev pub tab : ℕ → (ℕ → ℕ) → List ℕ
-tab zero f = []
-tab (suc n) f = f 0 ∷ tab n (λ k. f (suc k))
-
-pub tab-ext : (n : ℕ) (f g : ℕ → ℕ) → SamePart f g n → tab n f ≡ tab n g
-tab-ext zero f g e = refl
-tab-ext (suc n) f g e = ap₂ _∷_ (e 0 (omega arith)) (tab-ext n (λ k. f (suc k)) (λ k. g (suc k)) (λ k h. e (suc k) (omega arith)))
-
-pub tab-list : (w : List ℕ) → tab (length w) (λ k. getD w k 0) ≡ w
-tab-list [] = refl
-tab-list (x ∷ xs) = ap (x ∷_) (tab-list xs)
+use Rattle.laws.proofs.Parts.{SamePart, tab, tab-ext}
 
 -- the cells of a buffer are half words: W of them, low half first, make W / 2 words
 abbrev pub wordsOf : ℕ → (ℕ → ℕ) → List ℕ

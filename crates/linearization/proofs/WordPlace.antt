@@ -3,7 +3,7 @@ use mathlib.Core.Path.{_≡_, refl, subst}
 use mathlib.Core.Bool.{false}
 use Prim.Native.Nat.{ℕ, suc, _%_, _<_}
 use lib.Dec.{ltb, eqb}
-use Rattle.linearization.proofs.Updates.{upd, upd-same, upd-other, Split, same, other, split, by-test}
+use Rattle.laws.proofs.Updates.{upd, upd-same, upd-other, Split, same, other, split, by-test}
 use Rattle.linearization.proofs.GhostMachine.{Local, Shared, State, quiet, noisy, step, stepAt, setLinkHelp, setLinkBank, setLinkX, wBuf, wStart, begin}
 use Rattle.linearization.proofs.GhostRuns.{Cmd, exec, setup}
 use Rattle.linearization.proofs.InvariantRuns.{First, ll, vl, sc, by-command}

@@ -10,10 +10,12 @@ use Rattle.model.specs.Sizes.{halves}
 use Rattle.model.specs.Words.{wordOf, half}
 use Rattle.model.specs.Machine.{Memory, Shaped}
 use Rattle.model.specs.SetUp.{setUp}
-use Rattle.model.specs.Replies.{answered, scTruth}
-use Rattle.model.specs.Object.{sc}
-use Rattle.model.specs.History.{Command, eventOf, events, Slot, running, callOf, callsFrom, calls, slotsAfter, slotsFrom}
-use Rattle.linearization.specs.After.{next, after}
+use Rattle.llsc.specs.Answers.{answered, scTruth}
+use Rattle.llsc.specs.Object.{sc}
+use Rattle.llsc.specs.History.{Command, Slot, running, callOf, callsFrom, calls, slotsAfter, slotsFrom}
+use Rattle.model.specs.History.{eventOf, events}
+use Rattle.model.specs.History.{next}
+use Rattle.linearization.specs.After.{after}
 use Rattle.linearization.specs.Changes.{changes}
 use Rattle.linearization.specs.WordsStay.{bufferWords, lasting, SetUpValueStays, WrittenWordsStay, WordsStay}
 use Rattle.linearization.proofs.GhostMachine.{State}

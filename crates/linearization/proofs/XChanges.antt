@@ -10,10 +10,10 @@ use borrow.Author.Tests.{eq-eqb, ne-eqb}
 use Rattle.model.specs.declared.XContent.{XContent}
 use Rattle.model.specs.Sizes.{halves}
 use Rattle.model.specs.Machine.{Memory}
-use Rattle.model.specs.History.{Command}
-use Rattle.linearization.specs.After.{next}
+use Rattle.llsc.specs.History.{Command}
+use Rattle.model.specs.History.{next}
 use Rattle.linearization.specs.Changes.{sameContent, changes, successes, ChangesAreSuccesses}
-use Rattle.linearization.proofs.Residues.{suc-mod-ne}
+use Rattle.laws.proofs.Residues.{suc-mod-ne}
 use Rattle.linearization.proofs.GhostMachine.{State}
 use Rattle.linearization.proofs.GhostRuns.{exec, setup}
 use Rattle.linearization.proofs.InvariantRuns.{execs}

@@ -10,10 +10,10 @@ use Rattle.model.specs.Sizes.{buffers, sequenceNumbers}
 use Rattle.model.specs.Points.{Point, lineNumber, line2, line3, line4, line5, line6, line7, line7copy, line8, line9, line10}
 use Rattle.model.specs.Tables.{bankAt, helpAt}
 use Rattle.model.specs.Records.{recordAt}
-use Rattle.model.specs.Refusals.{some}
+use Rattle.llsc.specs.Rows.{some}
 use Rattle.model.specs.Machine.{Memory, Shaped}
 use Rattle.model.specs.SetUp.{setUp, numbers}
-use Rattle.model.specs.History.{Command}
+use Rattle.llsc.specs.History.{Command}
 use Rattle.linearization.specs.After.{after}
 
 -- "if p has done line 1 but not line 10 of an LL": its next step is at line 2 or a later one, up to line 10

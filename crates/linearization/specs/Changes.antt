@@ -7,9 +7,10 @@ use lib.Dec.{eqb}
 use Rattle.model.specs.declared.XContent.{XContent}
 use Rattle.model.specs.Machine.{Memory, Shaped}
 use Rattle.model.specs.SetUp.{setUp}
-use Rattle.model.specs.Replies.{Answer, llWords, scTruth, vlTruth}
-use Rattle.model.specs.History.{Command, events, Call, calls}
-use Rattle.linearization.specs.After.{next}
+use Rattle.llsc.specs.Answers.{Answer, llWords, scTruth, vlTruth}
+use Rattle.llsc.specs.History.{Command, Call, calls}
+use Rattle.model.specs.History.{events}
+use Rattle.model.specs.History.{next}
 
 -- X's content: a buffer number and a sequence number
 abbrev pub sameContent : XContent → XContent → Bool

@@ -2,18 +2,12 @@
 use mathlib.Core.Path.{_≡_}
 use Prim.Native.Nat.{ℕ}
 use mathlib.Core.List.{List}
+use Rattle.llsc.specs.Rows.{NotLentMemory}
 use Rattle.model.specs.Machine.{Memory, Shaped}
 use Rattle.model.specs.Command.{refusal}
 use Rattle.model.specs.SetUp.{setUp}
-use Rattle.model.specs.History.{Command}
+use Rattle.llsc.specs.History.{Command}
 use Rattle.linearization.specs.After.{after}
-
--- none of the rows that speak of the lent memory
-pub record NotLentMemory (row : ℕ) : Type 0 where
-  pub not-1 : row ≡ 1 → ⊥
-  pub not-2 : row ≡ 2 → ⊥
-  pub not-3 : row ≡ 3 → ⊥
-  pub not-9 : row ≡ 9 → ⊥
 
 abbrev pub NeverForItsOwnDoing : Type 0
 NeverForItsOwnDoing =

@@ -10,9 +10,10 @@ use Rattle.model.specs.Sizes.{sequenceNumbers}
 use Rattle.model.specs.Words.{bufferWord}
 use Rattle.model.specs.Machine.{Memory, Shaped}
 use Rattle.model.specs.SetUp.{setUp}
-use Rattle.model.specs.Replies.{answered, scTruth}
-use Rattle.model.specs.Object.{sc}
-use Rattle.model.specs.History.{Command, events, eventOf, running, slots}
+use Rattle.llsc.specs.Answers.{answered, scTruth}
+use Rattle.llsc.specs.Object.{sc}
+use Rattle.llsc.specs.History.{Command, running, slots}
+use Rattle.model.specs.History.{events, eventOf}
 use Rattle.linearization.specs.After.{after}
 use Rattle.linearization.specs.Changes.{changes}
 

@@ -1,7 +1,7 @@
 -- The ranges that the lines rely on.
 -- Inner: conditions of the code alone; the ranges of crate taken, which every accepted command meets, have them.
 use Prim.Native.Nat.{ℕ, _<_, _≤_}
-use Rattle.model.specs.declared.ProcessNumber.{ProcessNumber}
+use Rattle.llsc.specs.declared.ProcessNumber.{ProcessNumber}
 use Rattle.model.specs.declared.Process.{Process}
 
 -- A line with links: the process has a link in each place, and its count can be raised.

@@ -5,10 +5,10 @@ ghost use Rattle.model.specs.Lines.{doLine12, doLine13, doLine18};
 ghost use Rattle.lines.specs.Ranges.{Stepping};
 use crate::points;
 use crate::records;
+use llsc::ProcessNumber;
 use model::BankPlace;
 use model::BankStep;
 use model::Process;
-use model::ProcessNumber;
 
 // Line 12: if LL(Bank[x.seq]) differs from x.buf, the buffer of the last success is still to be banked.
 pub fn do_line_12(p: ProcessNumber, bank: BankPlace, process: Process) -> BankStep

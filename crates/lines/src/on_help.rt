@@ -5,11 +5,11 @@ ghost use Rattle.model.specs.Lines.{doLine1, doLine4, doLine8, doLine9, doLine1
 ghost use Rattle.lines.specs.Ranges.{Stepping};
 use crate::points;
 use crate::records;
+use llsc::ProcessNumber;
 use model::HelpContent;
 use model::HelpPlace;
 use model::HelpStep;
 use model::Process;
-use model::ProcessNumber;
 
 // A flag of Help: the process asks for help, or none is asked or it was given.
 pub const ASKED: u8 = 1;

@@ -3,7 +3,7 @@ ghost use mathlib.Core.Path.{_≡_};
 ghost use Prim.Native.Nat.{_%_, _<_, _≤_};
 ghost use Rattle.model.specs.Tables.{next, helped};
 ghost use Rattle.lines.specs.Ranges.{Sized};
-use model::ProcessNumber;
+use llsc::ProcessNumber;
 use model::SequenceNumber;
 use model::sizes;
 

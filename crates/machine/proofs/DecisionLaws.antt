@@ -10,10 +10,11 @@ use lib.Seq.{set-out}
 use borrow.Author.Tests.{eq-eqb, ne-eqb, ltb-false, leb-false}
 use Rattle.model.specs.declared.Bench.{Bench}
 use Rattle.model.specs.declared.Process.{Process}
-use Rattle.model.specs.declared.Order.{Order}
+use Rattle.llsc.specs.declared.Order.{Order}
 use Rattle.model.specs.Records.{noProcess}
 use Rattle.model.specs.Machine.{Memory, obey}
-use Rattle.model.specs.Refusals.{inRange, benchOk, every, processOk, row1, row2, row3, row4, row5, row6, row7, row8}
+use Rattle.llsc.specs.Rows.{every, row1, row2, row4, row8}
+use Rattle.model.specs.Refusals.{inRange, benchOk, processOk, row3, row5, row6, row7}
 use Rattle.model.specs.Command.{refusal, command}
 use Rattle.rows.specs.CommandRows.{decisionNumber}
 use Rattle.machine.specs.Decision.{decided, obeyedAt}

@@ -9,11 +9,12 @@ use lib.Seq.{getD-take}
 use borrow.Author.Tests.{eq-eqb, ne-eqb}
 use Rattle.model.specs.declared.Bench.{Bench}
 use Rattle.model.specs.declared.Process.{Process}
-use Rattle.model.specs.declared.Order.{Order}
+use Rattle.llsc.specs.declared.Order.{Order}
 use Rattle.model.specs.declared.Moved.{Moved}
 use Rattle.model.specs.Records.{noProcess, recordAt}
 use Rattle.model.specs.Machine.{obey}
-use Rattle.model.specs.Refusals.{inRange, benchOk, every, processOk}
+use Rattle.llsc.specs.Rows.{every}
+use Rattle.model.specs.Refusals.{inRange, benchOk, processOk}
 use Rattle.taken.specs.Ranges.{Obeyable}
 use Rattle.rows.specs.CommandRows.{decisionNumber}
 use Rattle.machine.specs.Decision.{refusedOutcome, obeyedAt, decided}

@@ -7,7 +7,7 @@ use Rattle.model.specs.Machine.{Memory, stepAt, obey}
 use Rattle.model.specs.Refusals.{inRange}
 use Rattle.model.specs.Command.{command, refusal}
 use Rattle.model.specs.SetUp.{setUp, setUpRefusal}
-use Rattle.model.specs.History.{Command}
+use Rattle.llsc.specs.History.{Command}
 use Rattle.model.proofs.Schedules.{l, s, steps, dirty}
 
 abbrev after : Memory → List Command → Memory

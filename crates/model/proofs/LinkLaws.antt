@@ -8,7 +8,7 @@ use native.Mathlib.Omega.{arith}
 use lib.Dec.{eqb, lit<}
 use lib.Pow.{pow-pos, pow-mono, pow-add, shr-shr, shr-lt, shl-exact}
 use borrow.Author.Tests.{eqb-false, eq-eqb}
-use Rattle.model.specs.declared.ProcessNumber.{ProcessNumber}
+use Rattle.llsc.specs.declared.ProcessNumber.{ProcessNumber}
 use Rattle.model.specs.Places.{noLinks, linked, link}
 
 abbrev bit : ℕ → ℕ → ℕ

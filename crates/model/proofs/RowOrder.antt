@@ -5,7 +5,7 @@ use mathlib.Core.List.{List, [], _∷_}
 use mathlib.Core.Bool.{Bool, true, false}
 use lib.ListN.{replicate}
 use Rattle.model.specs.declared.Process.{Process}
-use Rattle.model.specs.declared.Order.the-variants.{StartSc}
+use Rattle.llsc.specs.declared.Order.the-variants.{StartSc}
 use Rattle.model.specs.declared.Reply.the-variants.{Refused}
 use Rattle.model.specs.Machine.{Memory}
 use Rattle.model.specs.Records.{noProcess}

@@ -8,9 +8,11 @@ use Rattle.model.specs.Machine.{stepAt, obey}
 use Rattle.model.specs.Refusals.{inRange}
 use Rattle.model.specs.Command.{command, refusal}
 use Rattle.model.specs.SetUp.{setUp, setUpRefusal}
-use Rattle.model.specs.Replies.{llWords, scTruth, vlTruth}
-use Rattle.model.specs.History.{events, calls, callsFrom}
-use Rattle.model.specs.Linearizable.{All, Counted}
+use Rattle.llsc.specs.Answers.{llWords, scTruth, vlTruth}
+use Rattle.llsc.specs.History.{calls, callsFrom}
+use Rattle.model.specs.History.{events}
+use Rattle.llsc.specs.Linearizable.{All}
+use Rattle.model.specs.Linearizable.{Counted}
 use Rattle.model.proofs.Schedules.{l, v, s, steps, answer, refusal as no, Run, Right, eventsOf}
 
 -- 0l 0! 0s7 0! 1l 1! 0v 0!

@@ -6,11 +6,12 @@ use mathlib.Core.Bool.{Bool, true, false}
 use lib.ListN.{length, replicate}
 use Rattle.model.specs.declared.Bench.{Bench}
 use Rattle.model.specs.declared.Process.{Process}
-use Rattle.model.specs.declared.Order.the-variants.{StartLl, StartSc, StartVl, Step}
+use Rattle.llsc.specs.declared.Order.the-variants.{StartLl, StartSc, StartVl, Step}
 use Rattle.model.specs.Machine.{Memory}
 use Rattle.model.specs.SetUp.{setUp}
-use Rattle.model.specs.Replies.{Answer, llWords, scTruth, vlTruth, Said, refused, accepted, answered}
-use Rattle.model.specs.History.{Command, Event, events}
+use Rattle.llsc.specs.Answers.{Answer, llWords, scTruth, vlTruth, Said, refused, accepted, answered}
+use Rattle.llsc.specs.History.{Command, Event}
+use Rattle.model.specs.History.{events}
 
 -- `pl`, `pv`, `ps` with the value k in each of w words, and n times `p.` (the n steps that `p!` makes)
 abbrev pub l : ℕ → List Command

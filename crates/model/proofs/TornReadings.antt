@@ -6,7 +6,7 @@ use Rattle.model.specs.Machine.{stepAt, obey}
 use Rattle.model.specs.Refusals.{inRange}
 use Rattle.model.specs.Command.{command, refusal}
 use Rattle.model.specs.SetUp.{setUp, setUpRefusal}
-use Rattle.model.specs.Replies.{llWords, scTruth, vlTruth}
+use Rattle.llsc.specs.Answers.{llWords, scTruth, vlTruth}
 use Rattle.model.specs.History.{events}
 use Rattle.model.proofs.Schedules.{l, v, s, steps, answer, Run, Right}
 

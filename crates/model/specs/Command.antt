@@ -4,16 +4,15 @@ use mathlib.Core.List.{List}
 use mathlib.Core.Bool.{cond}
 use lib.Dec.{eqb}
 use lib.ListN.{set}
-use Rattle.model.specs.declared.ProcessNumber.{ProcessNumber}
-use Rattle.model.specs.declared.Bench.{Bench}
-use Rattle.model.specs.declared.Process.{Process}
-use Rattle.model.specs.declared.Order.{Order}
+use Rattle.llsc.specs.declared.ProcessNumber.{ProcessNumber}
+use Rattle.llsc.specs.declared.Order.{Order}
 use Rattle.model.specs.declared.Reply.{Reply}
 use Rattle.model.specs.declared.Reply.the-variants.{Refused}
 use Rattle.model.specs.declared.Moved.{Moved}
 use Rattle.model.specs.Records.{recordAt}
 use Rattle.model.specs.Machine.{Memory, obey}
-use Rattle.model.specs.Refusals.{first, commandRows}
+use Rattle.llsc.specs.Rows.{first}
+use Rattle.model.specs.Refusals.{commandRows}
 
 -- what process p's part of a command leaves, stored back into all lent memory
 abbrev pub storedBack : Memory → ProcessNumber → Moved × List ℕ → Reply × Memory

@@ -11,6 +11,5 @@ pub mod Command
 pub mod SetUp
 pub mod View
 pub mod Replies
-pub mod Object
 pub mod History
 pub mod Linearizable

@@ -4,7 +4,7 @@
 use Prim.Native.Nat.{ℕ, _+_}
 use mathlib.Core.Bool.{Bool, true, false, cond}
 use lib.Dec.{eqb, ltb}
-use Rattle.model.specs.declared.ProcessNumber.{ProcessNumber}
+use Rattle.llsc.specs.declared.ProcessNumber.{ProcessNumber}
 use Rattle.model.specs.declared.XPlace.{XPlace}
 use Rattle.model.specs.declared.BankPlace.{BankPlace}
 use Rattle.model.specs.declared.HelpPlace.{HelpPlace}

@@ -5,7 +5,7 @@ use mathlib.Core.Bool.{Bool, cond}
 use lib.Dec.{eqb}
 use Rattle.model.specs.declared.BufferNumber.{BufferNumber}
 use Rattle.model.specs.declared.SequenceNumber.{SequenceNumber}
-use Rattle.model.specs.declared.ProcessNumber.{ProcessNumber}
+use Rattle.llsc.specs.declared.ProcessNumber.{ProcessNumber}
 use Rattle.model.specs.declared.XContent.{XContent}
 use Rattle.model.specs.declared.HelpContent.{HelpContent}
 use Rattle.model.specs.declared.XPlace.{XPlace}

@@ -4,7 +4,7 @@ use mathlib.Core.List.{List}
 use mathlib.Core.Bool.{Bool, true, false}
 use lib.ListN.{getD}
 use Rattle.model.specs.declared.BufferNumber.{BufferNumber}
-use Rattle.model.specs.declared.ProcessNumber.{ProcessNumber}
+use Rattle.llsc.specs.declared.ProcessNumber.{ProcessNumber}
 use Rattle.model.specs.declared.XContent.{XContent}
 use Rattle.model.specs.declared.Process.{Process}
 use Rattle.model.specs.Points.{Point, lineNumber, idle}

@@ -1,23 +1,11 @@
 -- What a reply says: 01's number and values for each of its cases.
 use Prim.Native.Nat.{ℕ}
-use mathlib.Core.List.{List}
-use mathlib.Core.Bool.{Bool}
-use Rattle.model.specs.declared.ProcessNumber.{ProcessNumber}
+use Rattle.llsc.specs.declared.ProcessNumber.{ProcessNumber}
 use Rattle.model.specs.declared.Reply.{Reply}
 use Rattle.model.specs.declared.Reply.the-variants.{Refused, Accepted, LlAnswered, ScAnswered, VlAnswered}
+use Rattle.llsc.specs.Answers.{llWords, scTruth, vlTruth, Said, refused, accepted, answered}
 use Rattle.model.specs.Words.{returnArea}
 use Rattle.model.specs.Machine.{Memory}
-
--- an answer: the words of an LL, the truth of an SC or of a VL
-pub data Answer : Type 0 where
-  llWords : List ℕ → Answer
-  scTruth vlTruth : Bool → Answer
-
--- refused with a number; accepted with no answer; or an answer with the count of own steps
-pub data Said : Type 0 where
-  refused : ℕ → Said
-  accepted : Said
-  answered : Answer → ℕ → Said
 
 -- the number of a refusal, 0 for none
 abbrev pub numberOf : Reply → ℕ

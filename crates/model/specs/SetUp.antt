@@ -15,7 +15,8 @@ use Rattle.model.specs.Places.{noLinks}
 use Rattle.model.specs.Points.{lineNumber, idle}
 use Rattle.model.specs.Sizes.{sequenceNumbers, lentWords}
 use Rattle.model.specs.Machine.{Memory}
-use Rattle.model.specs.Refusals.{first, setUpRows}
+use Rattle.llsc.specs.Rows.{first}
+use Rattle.model.specs.Refusals.{setUpRows}
 
 -- the numbers a, a + 1, .., n of them
 abbrev pub numbers : ℕ → ℕ → List ℕ

@@ -3,7 +3,7 @@ use Prim.Native.Nat.{ℕ, _+_, _*_, _%_}
 use lib.ListN.{getD, set}
 use Rattle.model.specs.Sizes.{sequenceNumbers}
 use Rattle.model.specs.declared.SequenceNumber.{SequenceNumber}
-use Rattle.model.specs.declared.ProcessNumber.{ProcessNumber}
+use Rattle.llsc.specs.declared.ProcessNumber.{ProcessNumber}
 use Rattle.model.specs.declared.XPlace.{XPlace}
 use Rattle.model.specs.declared.BankPlace.{BankPlace}
 use Rattle.model.specs.declared.HelpPlace.{HelpPlace}

@@ -5,7 +5,8 @@ use mathlib.Core.Bool.{cond}
 use lib.Dec.{eqb}
 use lib.ListN.{take, drop}
 use denote.Ref.{RefT, now}
-use Rattle.model.specs.Refusals.{first, viewRows}
+use Rattle.llsc.specs.Rows.{first}
+use Rattle.model.specs.Refusals.{viewRows}
 
 -- "A second entry on the same inputs gives the number, 0 for none."
 unfoldable pub viewNumber : ℕ → List ℕ → List ℕ → ℕ → ℕ

@@ -7,7 +7,7 @@ use lib.Dec.{eqb}
 use lib.ListN.{getD, set, take, drop}
 use Rattle.model.specs.Sizes.{buffers, rowsBeforeOffers}
 use Rattle.model.specs.declared.BufferNumber.{BufferNumber}
-use Rattle.model.specs.declared.ProcessNumber.{ProcessNumber}
+use Rattle.llsc.specs.declared.ProcessNumber.{ProcessNumber}
 
 -- where word k of BUF[b] lies
 abbrev pub bufferWord : ℕ → BufferNumber → ℕ → ℕ

@@ -1,6 +1,5 @@
 // The declared types of the bench, and the values of them that a set-up writes.
 ghost use mathlib.Core.Path.{_≡_};
-ghost use Rattle.model.specs.Refusals.{isStart};
 ghost use Rattle.model.specs.SetUp.{xAtSetUp, bankAtSetUp, helpAtSetUp, processAtSetUp, emptyBench};
 ghost use Rattle.model.specs.Replies.{numberOf};
 
@@ -11,9 +10,6 @@ pub struct BufferNumber(pub u8);
 
 // A sequence number, below 2N.
 pub struct SequenceNumber(pub u8);
-
-// A process's number, below N.
-pub struct ProcessNumber(pub u8);
 
 // What X holds: Figure 2's xtype.
 pub struct XContent {
@@ -66,14 +62,6 @@ pub struct Process {
     pub c: BufferNumber,
     pub d: BufferNumber,
     pub e: BufferNumber,
-}
-
-// What a command orders.
-pub enum Order {
-    StartLl,
-    StartSc,
-    StartVl,
-    Step,
 }
 
 // What a command answers: refused with its number; accepted, with no answer yet; or a call's answer with its count of
@@ -186,18 +174,6 @@ pub fn process_at_set_up(mybuf: u8) -> Process
         c: BufferNumber(0),
         d: BufferNumber(0),
         e: BufferNumber(0),
-    }
-}
-
-// Whether an order is a start.
-pub fn is_start(order: Order) -> bool
-    ensures { λ r. ⌜ r ≡ isStart order ⌝ }
-{
-    match order {
-        Order::StartLl => true,
-        Order::StartSc => true,
-        Order::StartVl => true,
-        Order::Step => false,
     }
 }
 

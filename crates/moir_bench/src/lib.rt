@@ -4,7 +4,7 @@ ghost use Rattle.moir_model.specs.Command.{command};
 ghost use Rattle.moir_model.specs.SetUp.{setUp};
 ghost use Rattle.moir_bench.specs.Lent.{memory};
 ghost use Rattle.moir_bench.specs.SettingUp.{setUpByValue};
-use model::Order;
+use llsc::Order;
 use moir_model::Bench;
 use moir_model::Process;
 use moir_model::Reply;

@@ -7,8 +7,8 @@ use native.Mathlib.Omega.{arith}
 use lib.Dec.{ltb, eqb}
 use lib.ListN.{length}
 use borrow.Author.Tests.{ltb-true, eq-eqb, ne-eqb}
-use Rattle.linearization.proofs.Updates.{upd, upd-same, upd-other, Split, same, other, split, by-test, by-test₂, contra}
-use Rattle.linearization.proofs.WordLists.{tab}
+use Rattle.laws.proofs.Updates.{upd, upd-same, upd-other, Split, same, other, split, by-test, by-test₂, contra}
+use Rattle.laws.proofs.Parts.{tab}
 use Rattle.moir_model.specs.Points.{Point, idle, ll10, ll2, ll4, ll5, ll6, ll7, sc14, sc17, sc19, sc2, sc4, sc5, sc6, sc7, vl13}
 use Rattle.moir_linearization.proofs.PointRanges.{copying}
 use Rattle.moir_linearization.proofs.GhostMachine.{Local, Shared, State, quiet, noisy, begin, prev, eqPair, to, rest, setH, setKey, wHeader}

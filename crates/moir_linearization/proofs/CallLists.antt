@@ -3,8 +3,8 @@ use mathlib.Core.Path.{_≡_, refl, sym, ap, _∙_}
 use mathlib.Core.List.{List, [], _∷_, _++_, append-assoc, map}
 use Prim.Native.Nat.{ℕ, zero, suc, _<_}
 use native.Mathlib.Omega.{arith}
-use Rattle.model.specs.Linearizable.{All}
-use Rattle.linearization.proofs.Updates.{Split, same, other, split}
+use Rattle.llsc.specs.Linearizable.{All}
+use Rattle.laws.proofs.Updates.{Split, same, other, split}
 use Rattle.moir_model.specs.History.{Known, Call, openOf, openCalls}
 use Rattle.moir_linearization.specs.Linearizable.{Served, servedAs, servedCalls}
 use Rattle.moir_linearization.proofs.Watching.{called}

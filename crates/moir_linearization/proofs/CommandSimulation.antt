@@ -8,13 +8,13 @@ use lib.Dec.{T, ltb, leb, eqb}
 use lib.ListN.{length, getD, set, length-set}
 use lib.Seq.{getD-set-same, getD-set-other, sets}
 use borrow.Author.Tests.{ltb-true, ltb-false, eqb-true, eq-eqb, ne-eqb, lt-ltb, le-ltb, le-leb, lt-leb}
-use Rattle.model.specs.declared.ProcessNumber.{ProcessNumber}
-use Rattle.model.specs.declared.Order.{Order}
-use Rattle.model.specs.declared.Order.the-variants.{StartLl, StartSc, StartVl, Step}
-use Rattle.model.specs.Refusals.{isStart, needsLl, bringsValue}
-use Rattle.model.specs.History.{Command}
-use Rattle.linearization.specs.OwnDoing.{NotLentMemory}
-use Rattle.linearization.proofs.Updates.{upd, upd-same, upd-other, Split, same, other, split, by-test, contra}
+use Rattle.llsc.specs.declared.ProcessNumber.{ProcessNumber}
+use Rattle.llsc.specs.declared.Order.{Order}
+use Rattle.llsc.specs.declared.Order.the-variants.{StartLl, StartSc, StartVl, Step}
+use Rattle.llsc.specs.Rows.{isStart, needsLl, bringsValue}
+use Rattle.llsc.specs.History.{Command}
+use Rattle.llsc.specs.Rows.{NotLentMemory}
+use Rattle.laws.proofs.Updates.{upd, upd-same, upd-other, Split, same, other, split, by-test, contra}
 use Rattle.moir_model.specs.declared.Bench.{Bench}
 use Rattle.moir_model.specs.declared.Process.{Process}
 use Rattle.moir_model.specs.declared.Reply.{Reply}
@@ -29,7 +29,8 @@ use Rattle.moir_model.specs.Machine as L
 use Rattle.moir_model.specs.Machine.{Memory, obey}
 use Rattle.moir_model.specs.Refusals as F
 use Rattle.moir_model.specs.Command.{command, refusal, putBack, obeyed}
-use Rattle.moir_model.specs.Replies.{Said, refused, accepted}
+use Rattle.llsc.specs.Answers.{refused, accepted}
+use Rattle.moir_model.specs.Replies.{Said}
 use Rattle.moir_model.specs.Replies as S
 use Rattle.moir_model.specs.History as H
 use Rattle.moir_model.specs.History.{Event, headerChanges}

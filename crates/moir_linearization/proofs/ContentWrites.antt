@@ -5,9 +5,10 @@ use mathlib.Core.Logic.{_⊎_, inl, inr}
 use Prim.Native.Nat.{ℕ, suc, _+_, _%_, _≤_, _<_}
 use native.Mathlib.Omega.{arith}
 use lib.Dec.{lit≤}
-use Rattle.linearization.proofs.Updates.{upd, upd-same, upd-other, Split, same, other, split, contra, is-false}
-use Rattle.linearization.proofs.Invariants.{On, on-map, on-with, SamePart}
-use Rattle.linearization.proofs.Residues.{suc-mod-ne}
+use Rattle.laws.proofs.Updates.{upd, upd-same, upd-other, Split, same, other, split, contra, is-false}
+use Rattle.laws.proofs.Parts.{SamePart}
+use Rattle.laws.proofs.Claimed.{On, on-map, on-with}
+use Rattle.laws.proofs.Residues.{suc-mod-ne}
 use Rattle.moir_model.specs.Points.{Point, idle, ll5, ll6, sc17, sc19, sc2, sc5, sc6}
 use Rattle.moir_linearization.proofs.GhostMachine.{Local, Shared, State, prev, next, to, setWord, setNew, setKey, wSeg, wRow, wHeader}
 use Rattle.moir_linearization.proofs.PointRanges.{lines, wide}

@@ -7,8 +7,8 @@ use Prim.Native.Nat.{ℕ, suc, _+_, _*_, _≤_, _<_}
 use native.Mathlib.Omega.{arith}
 use lib.Dec.{ltb, eqb}
 use borrow.Author.Tests.{ltb-true, ltb-false}
-use Rattle.model.specs.Linearizable.{All}
-use Rattle.linearization.proofs.Updates.{upd, upd-same, upd-other, Split, same, other, split, by-test}
+use Rattle.llsc.specs.Linearizable.{All}
+use Rattle.laws.proofs.Updates.{upd, upd-same, upd-other, Split, same, other, split, by-test}
 use Rattle.moir_model.specs.Points.{Point, idle, ll10, ll2, ll4, ll5, ll6, ll7, sc14, sc17, sc19, sc2, sc4, sc5, sc6, sc7, vl13}
 use Rattle.moir_linearization.proofs.PointRanges.{busy, isIdle}
 use Rattle.moir_linearization.proofs.GhostMachine.{Local, Shared, State, noisy, prev, eqPair, step, stepAt}

@@ -4,9 +4,9 @@ use mathlib.Core.List.{List, [], _∷_, map}
 use Prim.Native.Nat.{ℕ, suc, _≤_, _<_}
 use native.Mathlib.Omega.{arith}
 use lib.ListN.{length}
-use Rattle.model.specs.Linearizable.{All, Timed, insert}
-use Rattle.linearization.proofs.WordLists.{tab}
-use Rattle.linearization.proofs.Moments.{Within, moments}
+use Rattle.llsc.specs.Linearizable.{All, Timed, insert}
+use Rattle.laws.proofs.Parts.{tab}
+use Rattle.serving.proofs.Moments.{Within, moments}
 use Rattle.moir_model.specs.Replies.{Answer, words, names, scTruth, vlTruth}
 use Rattle.moir_linearization.proofs.GhostRuns.{Effect, effects, setUp, MoirOrder}
 use Rattle.moir_linearization.specs.Linearizable.{Fits, AllMatch, Linearizable}

@@ -8,14 +8,15 @@ use native.Mathlib.Omega.{arith}
 use lib.Dec.{ltb, eqb}
 use lib.ListN.{length}
 use borrow.Author.Tests.{lt-ltb}
-use Rattle.model.specs.declared.Order.{Order}
-use Rattle.model.specs.declared.Order.the-variants.{StartLl, StartSc, StartVl, Step}
-use Rattle.model.specs.Object.{Kind}
-use Rattle.model.specs.History.{Command}
-use Rattle.model.specs.Linearizable.{All}
-use Rattle.linearization.proofs.Updates.{Split, same, other, split, by-test, contra, is-false, ifb-eq, ifb-ne}
+use Rattle.llsc.specs.declared.Order.{Order}
+use Rattle.llsc.specs.declared.Order.the-variants.{StartLl, StartSc, StartVl, Step}
+use Rattle.llsc.specs.Object.{Kind}
+use Rattle.llsc.specs.History.{Command}
+use Rattle.llsc.specs.Linearizable.{All}
+use Rattle.laws.proofs.Updates.{Split, same, other, split, by-test, contra, is-false, ifb-eq, ifb-ne}
 use Rattle.moir_model.specs.Points.{Point, idle}
-use Rattle.moir_model.specs.Replies.{Said, refused, accepted, answered}
+use Rattle.llsc.specs.Answers.{refused, accepted, answered}
+use Rattle.moir_model.specs.Replies.{Said}
 use Rattle.moir_model.specs.History.{Event, Slot, none, running, Known, Call, stepped, knownAfter, watch, endedBy, callOf, openOf, callsFrom}
 use Rattle.moir_model.specs.History.{successesUpTo, WonFrom}
 use Rattle.moir_linearization.specs.Bound.{CallBounded}

@@ -5,12 +5,12 @@ use Prim.Native.Nat.{ℕ, suc, _+_, _≤_, _<_}
 use lib.Dec.{ltb}
 use lib.ListN.{length}
 use borrow.Author.Tests.{ltb-true}
-use Rattle.model.specs.declared.Order.{Order}
-use Rattle.model.specs.declared.Order.the-variants.{StartLl, StartSc, StartVl, Step}
-use Rattle.model.specs.History.{Command}
-use Rattle.model.specs.Linearizable.{All}
-use Rattle.linearization.proofs.Updates.{by-test}
-use Rattle.linearization.proofs.WordLists.{tab}
+use Rattle.llsc.specs.declared.Order.{Order}
+use Rattle.llsc.specs.declared.Order.the-variants.{StartLl, StartSc, StartVl, Step}
+use Rattle.llsc.specs.History.{Command}
+use Rattle.llsc.specs.Linearizable.{All}
+use Rattle.laws.proofs.Updates.{by-test}
+use Rattle.laws.proofs.Parts.{tab}
 use Rattle.moir_model.specs.History.{Event, Known, Call, openOf, callOf, callsFrom, calls, nothingKnown, successesUpTo, WonFrom}
 use Rattle.moir_linearization.specs.Bound.{BoundedBy}
 use Rattle.moir_linearization.specs.Linearizable.{Linearizable, Counted, NamedWrote, FalseWithCause, FalseAfterNaming, Claim, Always}
@@ -85,7 +85,7 @@ module _ (N M W : ℕ) (hW : 0 < W) (hN : 0 < N) (v : ℕ → ℕ) (cs : List Co
   always = record {
     counted =
         all-calls N M W hW ES (Counted W) (λ m cs s. Unit {0}) (λ m c cs s q. tt)
-        (λ m cs s last x p v r q hp. all-imply _ _ (answerAt W (s .loc p .point) (suc m) p s) (λ z o. (refl, o))
+        (λ m cs s last x p v r q hp. all-imply _ _ (answerAt W (s .loc p .point) (suc m) p s) (λ z o. record { true-count = refl; own-steps = o })
         (step-brings M W (suc m) hW s p (r .sound .counts) (r .sound .numbers)))
         (λ m s last x r q p hp.
         let k = r .watches .each p hp in

@@ -7,14 +7,15 @@ use native.Mathlib.Omega.{arith}
 use lib.Dec.{ltb, eqb}
 use lib.ListN.{length, getD}
 use borrow.Author.Tests.{ltb-true, ltb-false, eqb-true, eq-eqb, ne-eqb}
-use Rattle.model.specs.declared.Order.{Order}
-use Rattle.model.specs.declared.Order.the-variants.{StartLl, StartSc, StartVl, Step}
-use Rattle.model.specs.Object.{sc, setAt}
-use Rattle.model.specs.History.{Command}
-use Rattle.linearization.proofs.Updates.{upd, upd-same, upd-other, Split, same, other, split, by-test, by-test₂, contra, ifb-eq, ifb-ne}
-use Rattle.linearization.proofs.WordLists.{tab, tab-list}
+use Rattle.llsc.specs.declared.Order.{Order}
+use Rattle.llsc.specs.declared.Order.the-variants.{StartLl, StartSc, StartVl, Step}
+use Rattle.llsc.specs.Object.{sc, setAt}
+use Rattle.llsc.specs.History.{Command}
+use Rattle.laws.proofs.Updates.{upd, upd-same, upd-other, Split, same, other, split, by-test, by-test₂, contra, ifb-eq, ifb-ne}
+use Rattle.laws.proofs.Parts.{tab, tab-list}
 use Rattle.moir_model.specs.Points.{Point, idle, ll10, sc14, vl13}
-use Rattle.moir_model.specs.Replies.{Said, refused, accepted}
+use Rattle.llsc.specs.Answers.{refused, accepted}
+use Rattle.moir_model.specs.Replies.{Said}
 use Rattle.moir_model.specs.History.{Event, Slot, none, running, Known, Call, knownAfter, watch, callOf, nothingKnown}
 use Rattle.moir_linearization.specs.Linearizable.{Served}
 use Rattle.moir_linearization.proofs.PointRanges.{isIdle, busy, copying}

@@ -2,11 +2,11 @@
 use mathlib.Core.Path.{_≡_, refl, ap, _∙_}
 use mathlib.Core.List.{List, [], _∷_, _++_}
 use Prim.Native.Nat.{ℕ}
-use Rattle.model.specs.Replies as R
-use Rattle.model.specs.Object.{Object, fresh}
-use Rattle.model.specs.Linearizable.{Timed, insert, sortInto}
-use Rattle.linearization.proofs.Serving.{after}
-use Rattle.linearization.proofs.Sorting.{upto}
+use Rattle.llsc.specs.Answers as R
+use Rattle.llsc.specs.Object.{Object, fresh}
+use Rattle.llsc.specs.Linearizable.{Timed, insert, sortInto}
+use Rattle.serving.proofs.Serving.{after}
+use Rattle.serving.proofs.Sorting.{upto}
 use Rattle.moir_model.specs.Replies.{Answer, words, names, scTruth, vlTruth}
 use Rattle.moir_linearization.proofs.GhostRuns.{Effect}
 

@@ -1,7 +1,7 @@
 -- What a step owes: a family G of facts about shared memory, and one P about each process.
 use mathlib.Core.Path.{_≡_, refl}
 use Prim.Native.Nat.{ℕ, suc}
-use Rattle.linearization.proofs.Updates.{upd, upd-same, upd-other, Split, same, other, split}
+use Rattle.laws.proofs.Updates.{upd, upd-same, upd-other, Split, same, other, split}
 use Rattle.moir_model.specs.Points.{Point}
 use Rattle.moir_linearization.proofs.GhostMachine.{Local, Shared, State, noisy}
 

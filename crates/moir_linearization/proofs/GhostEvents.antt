@@ -4,10 +4,11 @@ use mathlib.Core.List.{List, [], _∷_}
 use Prim.Native.Nat.{ℕ, suc, _+_}
 use lib.Dec.{ltb, eqb}
 use lib.ListN.{length, getD}
-use Rattle.model.specs.declared.Order.{Order}
-use Rattle.model.specs.declared.Order.the-variants.{StartLl, StartSc, StartVl, Step}
-use Rattle.model.specs.History.{Command}
-use Rattle.moir_model.specs.Replies.{Said, refused, accepted, answered}
+use Rattle.llsc.specs.declared.Order.{Order}
+use Rattle.llsc.specs.declared.Order.the-variants.{StartLl, StartSc, StartVl, Step}
+use Rattle.llsc.specs.History.{Command}
+use Rattle.llsc.specs.Answers.{refused, accepted, answered}
+use Rattle.moir_model.specs.Replies.{Said}
 use Rattle.moir_model.specs.History.{Event}
 use Rattle.moir_linearization.specs.Linearizable.{Served}
 use Rattle.moir_linearization.proofs.PointRanges.{isIdle, copying}

@@ -6,9 +6,9 @@ use mathlib.Core.Logic.{_⊎_}
 use Prim.Native.Nat.{ℕ, zero, suc, _+_, _*_, _≤_, _<_}
 use lib.Dec.{ltb, eqb}
 use lib.ListN.{length}
-use Rattle.model.specs.Object.{Kind, ll, sc, vl}
-use Rattle.linearization.proofs.Updates.{upd}
-use Rattle.linearization.proofs.WordLists.{tab}
+use Rattle.llsc.specs.Object.{Kind, ll, sc, vl}
+use Rattle.laws.proofs.Updates.{upd}
+use Rattle.laws.proofs.Parts.{tab}
 use Rattle.moir_model.specs.Points.{Point, idle, ll10, ll2, ll4, ll5, ll6, ll7, sc14, sc17, sc19, sc2, sc4, sc5, sc6, sc7, vl13}
 use Rattle.moir_linearization.proofs.GhostMachine.{Local, Shared, State, eqPair}
 use Rattle.moir_linearization.proofs.GhostRuns.{Cmd, WLL, VL, SC, go, exec, isStep, BoundedRun, setUp}

@@ -3,7 +3,7 @@
 use mathlib.Core.Bool.{Bool, true, false, _&&_, cond}
 use Prim.Native.Nat.{ℕ, suc, _+_, _-_, _%_, _<_}
 use lib.Dec.{ltb, eqb}
-use Rattle.linearization.proofs.Updates.{upd}
+use Rattle.laws.proofs.Updates.{upd}
 use Rattle.moir_model.specs.Points.{Point, idle, ll10, ll2, ll4, ll5, ll6, ll7, sc14, sc17, sc19, sc2, sc4, sc5, sc6, sc7, vl13}
 
 -- a process: Figure 6's private variables, its two areas, the mark of an answered WLL, and (from startVersion on) ghosts: the

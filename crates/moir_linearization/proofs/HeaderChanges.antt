@@ -5,8 +5,8 @@ use Prim.Native.Nat.{ℕ, suc, _<_}
 use native.Mathlib.Omega.{arith}
 use lib.Dec.{ltb, eqb}
 use borrow.Author.Tests.{eq-eqb, ne-eqb}
-use Rattle.linearization.proofs.Updates.{upd-same, by-test}
-use Rattle.linearization.proofs.Residues.{suc-mod-ne}
+use Rattle.laws.proofs.Updates.{upd-same, by-test}
+use Rattle.laws.proofs.Residues.{suc-mod-ne}
 use Rattle.moir_model.specs.Points.{Point, idle, ll10, ll2, ll4, ll5, ll6, ll7, sc14, sc17, sc19, sc2, sc4, sc5, sc6, sc7, vl13}
 use Rattle.moir_linearization.proofs.PointRanges.{copying}
 use Rattle.moir_linearization.proofs.GhostMachine.{Local, Shared, State, noisy, prev, eqPair, stepAt}

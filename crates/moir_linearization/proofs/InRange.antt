@@ -7,8 +7,8 @@ use lib.Dec.{leb}
 use lib.ListN.{take}
 use lib.Seq.{length-take-le, getD-take}
 use borrow.Author.Tests.{lt-ltb, le-leb}
-use Rattle.model.specs.Refusals.{every}
-use Rattle.linearization.proofs.ListFacts.{every-true}
+use Rattle.llsc.specs.Rows.{every}
+use Rattle.laws.proofs.ListFacts.{every-true}
 use Rattle.moir_model.specs.Sizes.{busyMost}
 use Rattle.moir_model.specs.Tags.{tagValues}
 use Rattle.moir_model.specs.Points.{Point, idle, ll10, ll2, ll4, ll5, ll6, ll7, sc14, sc17, sc19, sc2, sc4, sc5, sc6, sc7, vl13}

@@ -8,8 +8,8 @@ use native.Mathlib.Nat.{zero-mod}
 use native.Mathlib.Omega.{arith}
 use lib.Dec.{ltb, eqb}
 use borrow.Author.Tests.{ltb-true}
-use Rattle.linearization.proofs.Updates.{upd, by-test, contra}
-use Rattle.linearization.proofs.Invariants.{SamePart}
+use Rattle.laws.proofs.Updates.{upd, by-test, contra}
+use Rattle.laws.proofs.Parts.{SamePart}
 use Rattle.moir_model.specs.Points.{Point, idle, ll10, ll2, ll4, ll5, ll6, ll7, sc14, sc17, sc19, sc2, sc4, sc5, sc6, sc7, vl13}
 use Rattle.moir_linearization.proofs.PointRanges.{busy, isIdle}
 use Rattle.moir_linearization.proofs.GhostMachine.{Local, Shared, State, noisy, step, begin, Bounded}

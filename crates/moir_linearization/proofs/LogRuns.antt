@@ -6,12 +6,12 @@ use Prim.Native.Nat.{ℕ, suc, _+_, _≤_, _<_}
 use native.Mathlib.Omega.{arith}
 use lib.Dec.{ltb, eqb}
 use borrow.Author.Tests.{ltb-true, eqb-true}
-use Rattle.model.specs.Object.{fresh}
-use Rattle.model.specs.Linearizable.{All, Timed, insert, sortInto}
-use Rattle.linearization.proofs.Updates.{by-test, by-test₂}
-use Rattle.linearization.proofs.Serving.{Served}
-use Rattle.linearization.proofs.Sorting.{Sorted, all-map, sortInto-append}
-use Rattle.linearization.proofs.WordLists.{tab}
+use Rattle.llsc.specs.Object.{fresh}
+use Rattle.llsc.specs.Linearizable.{All, Timed, insert, sortInto}
+use Rattle.laws.proofs.Updates.{by-test, by-test₂}
+use Rattle.serving.proofs.Serving.{Served}
+use Rattle.serving.proofs.Sorting.{Sorted, all-map, sortInto-append}
+use Rattle.laws.proofs.Parts.{tab}
 use Rattle.moir_model.specs.Points.{Point, idle, ll10, ll2, ll4, ll5, ll6, ll7, sc14, sc17, sc19, sc2, sc4, sc5, sc6, sc7, vl13}
 use Rattle.moir_linearization.proofs.PointRanges.{isIdle, busy, copying}
 use Rattle.moir_linearization.proofs.GhostMachine.{Local, Shared, State, begin, eqPair, step}

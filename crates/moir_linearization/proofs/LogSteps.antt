@@ -6,13 +6,13 @@ use Prim.Native.Nat.{ℕ, suc, _+_, _%_, _≤_, _<_}
 use native.Mathlib.Omega.{arith}
 use lib.Dec.{ltb, eqb}
 use borrow.Author.Tests.{ltb-true, ltb-false, eqb-true, eqb-false}
-use Rattle.model.specs.Replies as R
-use Rattle.model.specs.Object.{Object, fresh}
-use Rattle.model.specs.Linearizable.{All, Timed, insert, sortInto}
-use Rattle.linearization.proofs.Updates.{upd, by-test, by-test₂, contra, is-false, ifb-eq, ifb-ne}
-use Rattle.linearization.proofs.Invariants.{On, on-map}
-use Rattle.linearization.proofs.WordLists.{tab, tab-ext}
-use Rattle.linearization.proofs.Serving.{feeds, tells, after, successes}
+use Rattle.llsc.specs.Answers as R
+use Rattle.llsc.specs.Object.{Object, fresh}
+use Rattle.llsc.specs.Linearizable.{All, Timed, insert, sortInto}
+use Rattle.laws.proofs.Updates.{upd, by-test, by-test₂, contra, is-false, ifb-eq, ifb-ne}
+use Rattle.laws.proofs.Claimed.{On, on-map}
+use Rattle.laws.proofs.Parts.{tab, tab-ext}
+use Rattle.serving.proofs.Serving.{feeds, tells, after, successes}
 use Rattle.moir_model.specs.Points.{Point, idle, ll10, ll2, ll4, ll5, ll6, ll7, sc14, sc17, sc19, sc2, sc4, sc5, sc6, sc7, vl13}
 use Rattle.moir_linearization.proofs.PointRanges.{busy, lines}
 use Rattle.moir_linearization.proofs.GhostMachine.{Local, Shared, State, quiet, noisy, step, stepAt, prev, eqPair, wSeg, wRow, wHeader, to}

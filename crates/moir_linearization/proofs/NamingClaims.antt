@@ -6,8 +6,8 @@ use Prim.Native.Nat.{ℕ, suc, _+_}
 use native.Mathlib.Omega.{arith}
 use lib.Dec.{ltb, eqb}
 use borrow.Author.Tests.{eqb-true}
-use Rattle.model.specs.Linearizable.{All}
-use Rattle.linearization.proofs.Updates.{by-test, contra}
+use Rattle.llsc.specs.Linearizable.{All}
+use Rattle.laws.proofs.Updates.{by-test, contra}
 use Rattle.moir_model.specs.Points.{Point, idle, ll10, ll2, ll4, ll5, ll6, ll7, sc14, sc17, sc19, sc2, sc4, sc5, sc6, sc7, vl13}
 use Rattle.moir_model.specs.History.{Known, openOf}
 use Rattle.moir_linearization.specs.Linearizable.{Served, FalseAfterNaming}

@@ -3,7 +3,8 @@ use mathlib.Core.Path.{_≡_, refl, sym, ap, _∙_}
 use mathlib.Core.Bool.{Bool, true, false}
 use Prim.Native.Nat.{ℕ, suc, _+_, _%_, _≤_, _<_}
 use native.Mathlib.Omega.{arith}
-use Rattle.linearization.proofs.Invariants.{On, on-map, SamePart}
+use Rattle.laws.proofs.Parts.{SamePart}
+use Rattle.laws.proofs.Claimed.{On, on-map}
 use Rattle.moir_model.specs.Points.{Point}
 use Rattle.moir_linearization.proofs.GhostMachine.{Local, Shared, State, prev}
 use Rattle.moir_linearization.proofs.PointRanges.{lines}

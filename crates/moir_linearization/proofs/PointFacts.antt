@@ -2,7 +2,7 @@
 use mathlib.Core.Path.{_≡_, refl}
 use mathlib.Core.Bool.{true, _||_}
 use lib.Dec.{eqb}
-use Rattle.model.specs.Refusals.{some}
+use Rattle.llsc.specs.Rows.{some}
 use Rattle.moir_model.specs.Points.{Point, lineNumber, pointOf, busyPoints, idle, ll10, ll2, ll4, ll5, ll6, ll7, sc14, sc17, sc19, sc2, sc4, sc5, sc6, sc7, vl13}
 
 pub point-of : (y : Point) → pointOf (lineNumber y) ≡ y

@@ -6,7 +6,7 @@ use native.Mathlib.Decide.{decLe}
 use native.Mathlib.Omega.{arith}
 use lib.Dec.{leb, eqb, lit≤}
 use borrow.Author.Tests.{leb-true, le-leb}
-use Rattle.linearization.proofs.Updates.{contra, is-true, is-false}
+use Rattle.laws.proofs.Updates.{contra, is-true, is-false}
 use Rattle.moir_model.specs.Points.{Point, lineNumber, idle, ll10, ll2, ll4, ll5, ll6, ll7, sc14, sc17, sc19, sc2, sc4, sc5, sc6, sc7, vl13}
 
 abbrev pub lineOrder : Point → ℕ

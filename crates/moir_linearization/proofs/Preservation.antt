@@ -6,7 +6,7 @@ use native.Mathlib.Nat.{suc-mod}
 use native.Mathlib.Omega.{arith}
 use lib.Dec.{ltb, eqb}
 use borrow.Author.Tests.{ltb-true, ltb-false, eqb-true, eqb-false}
-use Rattle.linearization.proofs.Updates.{upd, by-test, contra}
+use Rattle.laws.proofs.Updates.{upd, by-test, contra}
 use Rattle.moir_model.specs.Points.{Point, idle, ll10, ll2, ll4, ll5, ll6, ll7, sc14, sc17, sc19, sc2, sc4, sc5, sc6, sc7, vl13}
 use Rattle.moir_linearization.proofs.PointRanges.{busy}
 use Rattle.moir_linearization.proofs.GhostMachine.{Local, Shared, State, quiet, noisy, step, stepAt, prev, eqPair, to, rest, restLL, wSeg}

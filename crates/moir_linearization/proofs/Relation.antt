@@ -8,8 +8,8 @@ use native.Mathlib.Decide.{decLt}
 use native.Mathlib.Omega.{arith}
 use lib.ListN.{length, getD, set, length-set}
 use lib.Seq.{getD-set-same, getD-set-other, sets, length-sets}
-use Rattle.linearization.proofs.Updates.{upd, upd-same, upd-other, Split, same, other, split}
-use Rattle.linearization.proofs.ListFacts.{sets-out, sets-in}
+use Rattle.laws.proofs.Updates.{upd, upd-same, upd-other, Split, same, other, split}
+use Rattle.laws.proofs.ListFacts.{sets-out, sets-in}
 use Rattle.moir_model.specs.declared.Header.{Header}
 use Rattle.moir_model.specs.declared.Bench.{Bench}
 use Rattle.moir_model.specs.declared.Process.{Process}

@@ -7,8 +7,8 @@ use native.Mathlib.Decide.{decLe}
 use native.Mathlib.Omega.{arith}
 use lib.Dec.{leb}
 use borrow.Author.Tests.{le-leb, lt-leb}
-use Rattle.model.specs.Object.{fresh, serve}
-use Rattle.model.specs.Linearizable.{All, Timed, insert, sortInto, inMomentOrder, Distinct, Inside, fed, Linearization}
+use Rattle.llsc.specs.Object.{fresh, serve}
+use Rattle.llsc.specs.Linearizable.{All, Timed, insert, sortInto, inMomentOrder, Distinct, Inside, fed, Linearization}
 use Rattle.moir_linearization.specs.Linearizable.{Served, AllMatch, Linearizable}
 use Rattle.moir_linearization.proofs.Permutations.{Perm, none, more, swap, both, perm-refl, perm-map, perm-all, perm-distinct}
 

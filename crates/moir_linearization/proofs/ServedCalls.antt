@@ -4,7 +4,7 @@ use mathlib.Core.Bool.{true, cond}
 use mathlib.Core.List.{List, [], _∷_, _++_, map}
 use Prim.Native.Nat.{ℕ, zero, suc, _+_, _<_}
 use native.Mathlib.Omega.{arith}
-use Rattle.model.specs.History.{Command}
+use Rattle.llsc.specs.History.{Command}
 use Rattle.moir_model.specs.Points.{Point, idle, ll10, ll2, ll4, ll5, ll6, ll7, sc14, sc17, sc19, sc2, sc4, sc5, sc6, sc7, vl13}
 use Rattle.moir_model.specs.History.{Event, Known, openOf, openCalls, callOf, callsFrom, calls, successesUpTo}
 use Rattle.moir_linearization.specs.Linearizable.{servedCalls}

@@ -7,15 +7,15 @@ use native.Mathlib.Decide.{decLt}
 use native.Mathlib.Omega.{arith}
 use lib.Dec.{eqb}
 use borrow.Author.Tests.{eqb-true, ne-eqb}
-use Rattle.model.specs.Replies.{llWords}
-use Rattle.model.specs.Object.{Kind, ll, sc, vl, Object, fresh, feed}
-use Rattle.model.specs.Linearizable.{All, Timed, insert}
-use Rattle.linearization.proofs.Updates.{ifb-eq, ifb-ne, contra}
-use Rattle.linearization.proofs.Invariants.{On, on-map}
-use Rattle.linearization.proofs.WordLists.{tab}
-use Rattle.linearization.proofs.Serving.{tells, feeds, after, Served, Free, successes, after-append, served-append, successes-append}
-use Rattle.linearization.proofs.Sorting.{Sorted, sorted-insert, all-map, all-insert, upto, past, upto-past, insert-end, upto-all, upto-before, free-past}
-use Rattle.linearization.proofs.Insertion.{Inserted, insert-ll}
+use Rattle.llsc.specs.Answers.{llWords}
+use Rattle.llsc.specs.Object.{Kind, ll, sc, vl, Object, fresh, feed}
+use Rattle.llsc.specs.Linearizable.{All, Timed, insert}
+use Rattle.laws.proofs.Updates.{ifb-eq, ifb-ne, contra}
+use Rattle.laws.proofs.Claimed.{On, on-map}
+use Rattle.laws.proofs.Parts.{tab}
+use Rattle.serving.proofs.Serving.{tells, feeds, after, Served, Free, successes, after-append, served-append, successes-append}
+use Rattle.serving.proofs.Sorting.{Sorted, sorted-insert, all-map, all-insert, upto, past, upto-past, insert-end, upto-all, upto-before, free-past}
+use Rattle.serving.proofs.Insertion.{Inserted, insert-ll}
 use Rattle.moir_model.specs.Points.{Point}
 use Rattle.moir_linearization.proofs.GhostMachine.{Local, Shared, State}
 use Rattle.moir_linearization.proofs.PointRanges.{lines}

@@ -9,9 +9,9 @@ use native.Mathlib.Omega.{arith}
 use lib.ListN.{length, getD, replicate, length-replicate, getD-replicate, length-append, List·getD-append}
 use lib.Seq.{sets, length-sets, getD-append-add}
 use borrow.Author.Tests.{ltb-false, eqb-true, eq-eqb, not-false}
-use Rattle.linearization.proofs.Updates.{upd, upd-same, upd-other, Split, same, other, split}
-use Rattle.linearization.proofs.ListFacts.{sets-front, zeros}
-use Rattle.linearization.proofs.RefusalFacts.{or-false, noRow, none-holds, inside}
+use Rattle.laws.proofs.Updates.{upd, upd-same, upd-other, Split, same, other, split}
+use Rattle.laws.proofs.ListFacts.{sets-front, zeros}
+use Rattle.serving.proofs.RefusalFacts.{or-false, noRow, none-holds, inside}
 use Rattle.moir_model.specs.Records.{noProcess}
 use Rattle.moir_model.specs.Machine.{Memory, Shaped}
 use Rattle.moir_model.specs.Refusals.{setUpRows}

@@ -9,10 +9,10 @@ use native.Mathlib.Omega.{arith}
 use lib.Dec.{ltb, eqb}
 use lib.ListN.{length, getD, set, take, drop, length-set}
 use lib.Seq.{getD-set-same, getD-set-other, set-getD}
-use Rattle.model.specs.declared.ProcessNumber.{ProcessNumber}
-use Rattle.linearization.proofs.Updates.{upd, upd-same, upd-other, Split, same, other, split, by-test₂, contra}
-use Rattle.linearization.proofs.ListFacts.{cut-tab}
-use Rattle.linearization.proofs.WordLists.{tab, tab-ext}
+use Rattle.llsc.specs.declared.ProcessNumber.{ProcessNumber}
+use Rattle.laws.proofs.Updates.{upd, upd-same, upd-other, Split, same, other, split, by-test₂, contra}
+use Rattle.laws.proofs.ListFacts.{cut-tab}
+use Rattle.laws.proofs.Parts.{tab, tab-ext}
 use Rattle.moir_model.specs.declared.Header.{Header}
 use Rattle.moir_model.specs.declared.Segment.{Segment}
 use Rattle.moir_model.specs.declared.Bench.{Bench}
@@ -27,7 +27,8 @@ use Rattle.moir_model.specs.Records.{toLine}
 use Rattle.moir_model.specs.Words.{putTag, putValue, putHeader}
 use Rattle.moir_model.specs.Machine as L
 use Rattle.moir_model.specs.Machine.{Memory}
-use Rattle.moir_model.specs.Replies.{Said, answered, words, says}
+use Rattle.llsc.specs.Answers.{answered}
+use Rattle.moir_model.specs.Replies.{Said, words, says}
 use Rattle.moir_linearization.specs.Linearizable.{Served}
 use Rattle.moir_linearization.proofs.PointRanges.{busy}
 use Rattle.moir_linearization.proofs.GhostMachine as G

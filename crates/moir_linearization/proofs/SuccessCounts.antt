@@ -9,7 +9,7 @@ use native.Mathlib.Numerals.{add-one}
 use native.Mathlib.Omega.{arith}
 use lib.Dec.{leb}
 use borrow.Author.Tests.{le-leb, lt-leb, leb-true}
-use Rattle.linearization.proofs.Updates.{contra}
+use Rattle.laws.proofs.Updates.{contra}
 use Rattle.moir_model.specs.History.{Event, successesFrom, WonFrom}
 
 -- S counts them, from the event of command number m + 1 on

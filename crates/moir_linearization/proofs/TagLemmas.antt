@@ -6,8 +6,8 @@ use Prim.Native.Nat.{ℕ, suc, _+_, _%_, _≤_, _<_}
 use native.Mathlib.Omega.{arith}
 use lib.Dec.{eqb}
 use borrow.Author.Tests.{eqb-true, eqb-false, eq-eqb}
-use Rattle.linearization.proofs.Updates.{contra}
-use Rattle.linearization.proofs.Residues.{mod-ne, mod-inj}
+use Rattle.laws.proofs.Updates.{contra}
+use Rattle.laws.proofs.Residues.{mod-ne, mod-inj}
 use Rattle.moir_model.specs.Points.{Point, ll7, sc14, sc19, vl13, ll5, sc5}
 use Rattle.moir_linearization.proofs.GhostMachine.{Local, Shared, prev, eqPair}
 use Rattle.moir_linearization.proofs.Tags.{prev-ne, prev-inj, next-of}

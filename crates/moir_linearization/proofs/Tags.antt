@@ -3,7 +3,7 @@ use mathlib.Core.Path.{_≡_, refl, sym, ap, _∙_}
 use Prim.Native.Nat.{ℕ, suc, _+_, _-_, _%_, _≤_, _<_}
 use native.Mathlib.Nat.{mod-lt, mod-eq-of-lt, suc-mod, mod-add-mod, add-mod-right}
 use native.Mathlib.Omega.{arith}
-use Rattle.linearization.proofs.Residues.{mod-ne, mod-inj, suc-mod-ne}
+use Rattle.laws.proofs.Residues.{mod-ne, mod-inj, suc-mod-ne}
 use Rattle.moir_linearization.proofs.GhostMachine.{prev}
 
 module _ (M : ℕ) (two : 1 < M) where

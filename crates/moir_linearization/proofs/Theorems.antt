@@ -3,8 +3,8 @@ use mathlib.Core.Path.{_≡_, refl, sym, subst, _∙_}
 use mathlib.Core.List.{List}
 use Prim.Native.Nat.{ℕ, _<_}
 use lib.ListN.{getD}
-use Rattle.model.specs.History.{Command}
-use Rattle.linearization.proofs.ListFacts.{tab-whole}
+use Rattle.llsc.specs.History.{Command}
+use Rattle.laws.proofs.ListFacts.{tab-whole}
 use Rattle.moir_model.specs.Tags.{tagValues}
 use Rattle.moir_model.specs.Machine.{Memory, Shaped}
 use Rattle.moir_model.specs.SetUp.{setUp}

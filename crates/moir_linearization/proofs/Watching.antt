@@ -4,10 +4,10 @@ use mathlib.Core.Bool.{Bool, true, false, cond}
 use mathlib.Core.List.{List, [], _∷_, map}
 use Prim.Native.Nat.{ℕ, suc, _+_}
 use lib.Dec.{ltb, eqb}
-use Rattle.model.specs.declared.Order.the-variants.{Step}
-use Rattle.model.specs.Object.{Kind, ll, sc, vl}
-use Rattle.linearization.proofs.Updates.{upd-same, by-test, by-test₂, contra}
-use Rattle.linearization.proofs.WordLists.{tab}
+use Rattle.llsc.specs.declared.Order.the-variants.{Step}
+use Rattle.llsc.specs.Object.{Kind, ll, sc, vl}
+use Rattle.laws.proofs.Updates.{upd-same, by-test, by-test₂, contra}
+use Rattle.laws.proofs.Parts.{tab}
 use Rattle.moir_model.specs.Points.{Point, idle, ll10, ll2, ll4, ll5, ll6, ll7, sc14, sc17, sc19, sc2, sc4, sc5, sc6, sc7, vl13}
 use Rattle.moir_model.specs.Replies.{Said}
 use Rattle.moir_model.specs.History.{Event, Slot, none, running, Known, ended, Call, namedBy, stepped, knownAfter, endedBy, callOf}

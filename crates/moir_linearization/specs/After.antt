@@ -1,10 +1,9 @@
 -- The memory after a list of commands.
-use mathlib.Core.List.{List, [], _∷_}
-use Rattle.model.specs.History.{Command}
+use mathlib.Core.List.{List}
+use Rattle.llsc.specs.History.{Command, afterAll}
 use Rattle.moir_model.specs.Machine.{Memory}
-use Rattle.moir_model.specs.Command.{command}
+use Rattle.moir_model.specs.History.{next}
 
 -- "each gets the memory that the one before it left"
 unfoldable pub after : Memory → List Command → Memory
-after m [] = m
-after m (c ∷ cs) = after (command m (c .process) (c .order) (c .value) .1) cs
+after m cs = afterAll next m cs

@@ -2,7 +2,7 @@
 -- VL of that process before its next WLL, an open call ending at its last step". An SC succeeds at its CAS on the header.
 use Prim.Native.Nat.{ℕ, _+_, _<_}
 use mathlib.Core.List.{List}
-use Rattle.model.specs.Linearizable.{All}
+use Rattle.llsc.specs.Linearizable.{All}
 use Rattle.moir_model.specs.History.{Event, Call, calls, successesUpTo}
 
 abbrev pub successLimit : ℕ

@@ -1,14 +1,15 @@
 -- CR 8's claims: the order that Figure 1's object serves, under the bound; what holds without it; and the counts.
 use mathlib.Core.Path.{_≡_}
-use mathlib.Core.Bool.{Bool, true, false}
+use mathlib.Core.Bool.{true, false}
 use mathlib.Core.Logic.{_⊎_}
 use mathlib.Core.List.{List, [], _∷_, _++_}
 use Prim.Native.Nat.{ℕ, _+_, _*_, _≤_, _<_}
 use lib.ListN.{length}
-use Rattle.model.specs.Replies as R
-use Rattle.model.specs.Object.{Kind, ll, sc, vl}
-use Rattle.model.specs.History as H
-use Rattle.model.specs.Linearizable.{All, Linearization}
+use Rattle.llsc.specs.Answers as R
+use Rattle.llsc.specs.Object.{Kind, ll, sc, vl}
+use Rattle.llsc.specs.History as H
+use Rattle.llsc.specs.Linearizable as Any
+use Rattle.llsc.specs.Linearizable.{All, Linearization}
 use Rattle.moir_model.specs.Sizes.{wllMost, scMost}
 use Rattle.moir_model.specs.Machine.{Memory, Shaped}
 use Rattle.moir_model.specs.SetUp.{setUp}
@@ -54,7 +55,7 @@ AllMatch [] (d ∷ ds) = ⊥
 AllMatch (c ∷ cs) [] = ⊥
 AllMatch (c ∷ cs) (d ∷ ds) = Matches c d × AllMatch cs ds
 
--- There are words for each naming WLL such that the calls have moments as demand 3 says: `model`'s own statement.
+-- There are words for each naming WLL such that the calls have moments as demand 3 says: the statement that both benches share.
 pub record Linearizable (places : ℕ) (value : List ℕ) (cs : List Served) : Type 0 where
   pub filled : List H.Call
   pub matches : AllMatch cs filled
@@ -112,7 +113,7 @@ largest w vl = 1
 
 -- "each answer brings the true count of own steps", "open calls have fewer than their kind's largest"
 abbrev pub CountedAs : ℕ → Call → Outcome → Type 0
-CountedAs w c (ended a n) = (n ≡ c .steps) × OwnSteps w a (c .steps)
+CountedAs w c (ended a n) = Any.Counted (OwnSteps w a) n (c .steps)
 CountedAs w c (pending b) = c .steps < largest w (c .kind)
 
 abbrev pub Counted : ℕ → Call → Type 0

@@ -2,8 +2,8 @@
 use mathlib.Core.Path.{_≡_}
 use Prim.Native.Nat.{ℕ}
 use mathlib.Core.List.{List}
-use Rattle.model.specs.History.{Command}
-use Rattle.linearization.specs.OwnDoing.{NotLentMemory}
+use Rattle.llsc.specs.History.{Command}
+use Rattle.llsc.specs.Rows.{NotLentMemory}
 use Rattle.moir_model.specs.Machine.{Memory, Shaped}
 use Rattle.moir_model.specs.Command.{refusal}
 use Rattle.moir_model.specs.SetUp.{setUp}

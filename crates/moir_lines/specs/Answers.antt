@@ -2,7 +2,7 @@
 -- Inner: `moir_model`'s lines are made of them, as the contracts of `on_header` and `on_array` say.
 use Prim.Native.Nat.{ℕ, _+_}
 use mathlib.Core.Bool.{false}
-use Rattle.model.specs.declared.ProcessNumber.{ProcessNumber}
+use Rattle.llsc.specs.declared.ProcessNumber.{ProcessNumber}
 use Rattle.moir_model.specs.declared.Header.{Header}
 use Rattle.moir_model.specs.declared.Process.{Process}
 use Rattle.moir_model.specs.declared.LineStep.{LineStep}

@@ -7,7 +7,7 @@ ghost use Rattle.moir_lines.specs.Ranges.{Moving};
 use crate::points;
 use crate::records;
 use crate::tags;
-use model::ProcessNumber;
+use llsc::ProcessNumber;
 use moir_model::Header;
 use moir_model::Process;
 use moir_model::Segment;

@@ -10,10 +10,10 @@ use lib.Seq.{set-out}
 use borrow.Author.Tests.{eq-eqb, ne-eqb, ltb-false, leb-false}
 use Rattle.moir_model.specs.declared.Bench.{Bench}
 use Rattle.moir_model.specs.declared.Process.{Process}
-use Rattle.model.specs.declared.Order.{Order}
+use Rattle.llsc.specs.declared.Order.{Order}
 use Rattle.moir_model.specs.Records.{noProcess}
 use Rattle.moir_model.specs.Machine.{Memory, obey}
-use Rattle.model.specs.Refusals.{every, row1, row2, row4, row8}
+use Rattle.llsc.specs.Rows.{every, row1, row2, row4, row8}
 use Rattle.moir_model.specs.Refusals.{headerOk, processOk, inRange, row3, row5, row6, row7}
 use Rattle.moir_model.specs.Command.{refusal, command}
 use Rattle.moir_rows.specs.CommandRows.{decisionNumber}

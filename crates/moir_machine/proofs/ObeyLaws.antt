@@ -9,11 +9,11 @@ use lib.Seq.{getD-take}
 use borrow.Author.Tests.{eq-eqb, ne-eqb}
 use Rattle.moir_model.specs.declared.Bench.{Bench}
 use Rattle.moir_model.specs.declared.Process.{Process}
-use Rattle.model.specs.declared.Order.{Order}
+use Rattle.llsc.specs.declared.Order.{Order}
 use Rattle.moir_model.specs.declared.Moved.{Moved}
 use Rattle.moir_model.specs.Records.{noProcess, recordAt}
 use Rattle.moir_model.specs.Machine.{obey}
-use Rattle.model.specs.Refusals.{every}
+use Rattle.llsc.specs.Rows.{every}
 use Rattle.moir_model.specs.Refusals.{headerOk, processOk, inRange}
 use Rattle.moir_steps.specs.Ranges.{Obeyable}
 use Rattle.moir_rows.specs.CommandRows.{decisionNumber}

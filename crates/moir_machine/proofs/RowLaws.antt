@@ -6,8 +6,8 @@ use Prim.Native.Nat.{ℕ, _+_, _*_, _<_, _≤_}
 use native.Mathlib.Omega.{arith}
 use lib.Dec.{eqb, ltb, leb}
 use borrow.Author.Tests.{ltb-true, ltb-false, leb-true, leb-false, eqb-true, not-false}
-use Rattle.model.specs.declared.Order.{Order}
-use Rattle.model.specs.Refusals.{row1, row2, row4, row8, row9, bringsValue}
+use Rattle.llsc.specs.declared.Order.{Order}
+use Rattle.llsc.specs.Rows.{row1, row2, row4, row8, row9, bringsValue}
 use Rattle.moir_model.specs.declared.Header.{Header}
 use Rattle.moir_model.specs.declared.Bench.{Bench}
 use Rattle.moir_model.specs.declared.Process.{Process}

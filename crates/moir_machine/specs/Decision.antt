@@ -7,7 +7,7 @@ use lib.Dec.{eqb}
 use lib.ListN.{length, set}
 use Rattle.moir_model.specs.declared.Bench.{Bench}
 use Rattle.moir_model.specs.declared.Process.{Process}
-use Rattle.model.specs.declared.Order.{Order}
+use Rattle.llsc.specs.declared.Order.{Order}
 use Rattle.moir_model.specs.declared.Reply.{Reply}
 use Rattle.moir_model.specs.declared.Reply.the-variants.{Refused}
 use Rattle.moir_model.specs.declared.Moved.{Moved}

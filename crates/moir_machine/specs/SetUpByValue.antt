@@ -11,7 +11,7 @@ use lib.Seq.{sets}
 use Rattle.moir_model.specs.declared.Bench.{Bench}
 use Rattle.moir_model.specs.declared.Process.{Process}
 use Rattle.moir_model.specs.Sizes.{lentWords}
-use Rattle.model.specs.Refusals.{first}
+use Rattle.llsc.specs.Rows.{first}
 use Rattle.moir_model.specs.Refusals.{setUpRowsOf}
 use Rattle.moir_model.specs.Machine.{Memory}
 use Rattle.moir_model.specs.SetUp.{benchAtSetUp, recordsAtSetUp, wordsAtSetUp, setUpRefusal}

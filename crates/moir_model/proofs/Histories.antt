@@ -3,8 +3,8 @@ use mathlib.Core.Path.{_≡_, refl}
 use Prim.Native.Nat.{ℕ}
 use mathlib.Core.List.{List, [], _∷_, _++_}
 use mathlib.Core.Bool.{true, false}
-use Rattle.model.specs.History.{Command}
-use Rattle.model.specs.Object.{ll, sc, vl}
+use Rattle.llsc.specs.History.{Command}
+use Rattle.llsc.specs.Object.{ll, sc, vl}
 use Rattle.moir_model.specs.Machine.{Memory, stepAt, obey}
 use Rattle.moir_model.specs.Refusals.{inRange}
 use Rattle.moir_model.specs.Command.{command, refusal}

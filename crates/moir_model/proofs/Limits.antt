@@ -4,7 +4,7 @@ use Prim.Native.Nat.{ℕ}
 use mathlib.Core.List.{List, [], _∷_, _++_}
 use mathlib.Core.Bool.{true, false}
 use lib.ListN.{replicate}
-use Rattle.model.specs.declared.Order.the-variants.{StartLl}
+use Rattle.llsc.specs.declared.Order.the-variants.{StartLl}
 use Rattle.moir_model.specs.declared.Header.{Header}
 use Rattle.moir_model.specs.declared.Bench.{Bench}
 use Rattle.moir_model.specs.declared.Process.{Process}

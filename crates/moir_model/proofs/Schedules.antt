@@ -4,15 +4,16 @@ use Prim.Native.Nat.{ℕ}
 use mathlib.Core.List.{List, [], _∷_, _++_}
 use mathlib.Core.Bool.{true}
 use lib.ListN.{length, replicate}
-use Rattle.model.specs.declared.Order.the-variants.{StartLl, StartSc, StartVl, Step}
-use Rattle.model.specs.History.{Command}
+use Rattle.llsc.specs.declared.Order.the-variants.{StartLl, StartSc, StartVl, Step}
+use Rattle.llsc.specs.History.{Command}
 use Rattle.moir_model.specs.declared.Header.{Header}
 use Rattle.moir_model.specs.declared.Segment.{Segment}
 use Rattle.moir_model.specs.declared.Bench.{Bench}
 use Rattle.moir_model.specs.declared.Process.{Process}
 use Rattle.moir_model.specs.Machine.{Memory}
 use Rattle.moir_model.specs.SetUp.{setUp}
-use Rattle.moir_model.specs.Replies.{Answer, Said, refused, accepted, answered}
+use Rattle.llsc.specs.Answers.{refused, accepted, answered}
+use Rattle.moir_model.specs.Replies.{Answer, Said}
 use Rattle.moir_model.specs.History.{Event, events}
 
 -- `pl`, `pv`, `ps` with the value k in each of w words, and n times `p.`

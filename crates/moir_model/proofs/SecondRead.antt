@@ -5,10 +5,10 @@ use Prim.Native.Nat.{ℕ}
 use mathlib.Core.List.{List, [], _∷_, _++_}
 use mathlib.Core.Bool.{true, false, cond}
 use lib.Dec.{eqb}
-use Rattle.model.specs.declared.ProcessNumber.{ProcessNumber}
-use Rattle.model.specs.declared.Order.{Order}
-use Rattle.model.specs.declared.Order.the-variants.{StartLl, StartSc, StartVl, Step}
-use Rattle.model.specs.History.{Command}
+use Rattle.llsc.specs.declared.ProcessNumber.{ProcessNumber}
+use Rattle.llsc.specs.declared.Order.{Order}
+use Rattle.llsc.specs.declared.Order.the-variants.{StartLl, StartSc, StartVl, Step}
+use Rattle.llsc.specs.History.{Command}
 use Rattle.moir_model.specs.declared.Bench.{Bench}
 use Rattle.moir_model.specs.declared.Process.{Process}
 use Rattle.moir_model.specs.declared.Reply.{Reply}

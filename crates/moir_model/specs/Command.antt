@@ -4,9 +4,9 @@ use mathlib.Core.List.{List}
 use mathlib.Core.Bool.{cond}
 use lib.Dec.{eqb}
 use lib.ListN.{set}
-use Rattle.model.specs.declared.ProcessNumber.{ProcessNumber}
-use Rattle.model.specs.declared.Order.{Order}
-use Rattle.model.specs.Refusals.{first}
+use Rattle.llsc.specs.declared.ProcessNumber.{ProcessNumber}
+use Rattle.llsc.specs.declared.Order.{Order}
+use Rattle.llsc.specs.Rows.{first}
 use Rattle.moir_model.specs.declared.Reply.{Reply}
 use Rattle.moir_model.specs.declared.Reply.the-variants.{Refused}
 use Rattle.moir_model.specs.declared.Moved.{Moved}

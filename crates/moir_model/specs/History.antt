@@ -6,14 +6,15 @@ use Prim.Native.Nat.{ℕ, zero, suc, _+_}
 use mathlib.Core.List.{List, [], _∷_, _++_}
 use mathlib.Core.Bool.{Bool, true, false, not, _&&_, _||_, cond}
 use lib.Dec.{leb}
-use Rattle.model.specs.declared.Order.{Order}
-use Rattle.model.specs.declared.Order.the-variants.{StartLl, StartSc, StartVl, Step}
-use Rattle.model.specs.Object.{Kind, ll, sc, vl, setAt}
-use Rattle.model.specs.History.{Command}
+use Rattle.llsc.specs.declared.Order.{Order}
+use Rattle.llsc.specs.declared.Order.the-variants.{StartLl, StartSc, StartVl, Step}
+use Rattle.llsc.specs.Object.{Kind, ll, sc, vl, setAt}
+use Rattle.llsc.specs.History.{Command, alongAll}
 use Rattle.moir_model.specs.Machine.{Memory}
 use Rattle.moir_model.specs.Lines.{sameHeader}
 use Rattle.moir_model.specs.Command.{command}
-use Rattle.moir_model.specs.Replies.{Answer, words, names, scTruth, vlTruth, Said, refused, accepted, answered, says}
+use Rattle.llsc.specs.Answers.{refused, accepted, answered}
+use Rattle.moir_model.specs.Replies.{Answer, words, names, scTruth, vlTruth, Said, says}
 
 -- a command, what its reply said, and whether an SC succeeded in it, its "CAS on the header": the header differs after it
 pub record Event : Type 0 where
@@ -24,15 +25,18 @@ pub record Event : Type 0 where
 abbrev pub headerChanges : Memory → Memory → Bool
 headerChanges before after = not (sameHeader (after .bench .header) (before .bench .header))
 
+-- the memory that one command leaves
+abbrev pub next : Memory → Command → Memory
+next m c = command m (c .process) (c .order) (c .value) .1
+
 abbrev pub eventOf : Memory → Command → Event
 eventOf m c =
-    let out = command m (c .process) (c .order) (c .value) in
-    record { command = c; said = says (out .1) (record { 0 = c .process }) (out .0); won = headerChanges m (out .1) }
+    let said = says (next m c) (record { 0 = c .process }) (command m (c .process) (c .order) (c .value) .0) in
+    record { command = c; said = said; won = headerChanges m (next m c) }
 
 -- "each gets the memory that the one before it left"
 unfoldable pub events : Memory → List Command → List Event
-events m [] = []
-events m (c ∷ cs) = eventOf m c ∷ events (command m (c .process) (c .order) (c .value) .1) cs
+events m cs = alongAll next eventOf m cs
 
 -- no call, or an open one: its kind, the numbers of its start and of its last step ("an open call ending at its last
 -- step": its start while it has none), its own steps so far, and whether its CAS on the header has succeeded

@@ -1,15 +1,15 @@
 -- The refusal table for this bench: "Rows 1 to 9 serve this bench: (3N + 1) × W words lent, tags apart, word place below
--- W, busy count at most 6W+1, every process number kept below N; no new number" (02, CR 8). Rows 1, 2, 4, 8 and 9's frame
--- are `model`'s own.
+-- W, busy count at most 6W+1, every process number kept below N; no new number" (02, CR 8): `llsc`'s rows, with the words
+-- that are needed here and the ranges of the numbers.
 use Prim.Native.Nat.{ℕ}
-use mathlib.Core.List.{List, [], _∷_}
-use mathlib.Core.Bool.{Bool, not, _&&_, _||_, cond}
+use mathlib.Core.List.{List}
+use mathlib.Core.Bool.{Bool, _&&_, _||_, cond}
 use lib.Dec.{eqb, ltb, leb}
 use lib.ListN.{length, take}
-use Rattle.model.specs.declared.Order.{Order}
-use Rattle.model.specs.Refusals.{Row, every, some, row1, row2, row4, row8, row8always, row9, isStart, needsLl}
+use Rattle.llsc.specs.declared.Order.{Order}
+use Rattle.llsc.specs.Rows as Any
+use Rattle.llsc.specs.Rows.{Row, every, some}
 use Rattle.moir_model.specs.declared.Header.{Header}
-use Rattle.moir_model.specs.declared.Bench.{Bench}
 use Rattle.moir_model.specs.declared.Process.{Process}
 use Rattle.moir_model.specs.Sizes.{lentWords, busyMost}
 use Rattle.moir_model.specs.Points.{lineNumber, idle, busyPoints}
@@ -18,7 +18,7 @@ use Rattle.moir_model.specs.Machine.{Memory}
 
 -- Row 3: fewer than (3N + 1)W words or N process records lent, for so many records and words
 abbrev pub row3 : ℕ → ℕ → ℕ → ℕ → Row
-row3 n w records words = record { number = 3; holds = ltb words (lentWords n w) || ltb records n }
+row3 n w records words = Any.row3 n (lentWords n w) records words
 
 -- Row 9: "every process number kept below N"; every tag is in range
 abbrev pub headerOk : ℕ → Header → Bool
@@ -43,33 +43,32 @@ processOk n w q =
 unfoldable pub inRange : Memory → Bool
 inRange m = headerOk (m .bench .n) (m .bench .header) && every (processOk (m .bench .n) (m .bench .w)) (take (m .bench .n) (m .records))
 
--- Row 5: "start at a busy process". Row 6: "step at an idle process". Row 7: SC or VL started where no WLL was ever
--- answered.
+-- rows 5, 6, 7 of a process's record; for 7 a WLL is the LL
 abbrev pub row5 : Order → Process → Row
-row5 o q = record { number = 5; holds = isStart o && not (isIdle q) }
+row5 o q = Any.row5 o (isIdle q)
 
 abbrev pub row6 : Order → Process → Row
-row6 o q = record { number = 6; holds = not (isStart o) && isIdle q }
+row6 o q = Any.row6 o (isIdle q)
 
 abbrev pub row7 : Order → Process → Row
-row7 o q = record { number = 7; holds = needsLl o && not (q .answered) }
+row7 o q = Any.row7 o (q .answered)
 
--- The rows of a command, 1, 2, 3, 9, 4, 8, 5, 6, 7: first those that speak of its process p, with the record q, and of its
--- order with a value of so many words;
+-- the rows of a command, for so many records and words lent, with the truth of row 9's ranges and the record q of its
+-- process
 abbrev pub processRows : ℕ → ℕ → ℕ → Order → ℕ → Process → List Row
-processRows n w p o value q = row4 n p ∷ row8 o w value ∷ row5 o q ∷ row6 o q ∷ row7 o q ∷ []
+processRows n w p o value q = Any.processRows n w p o value (isIdle q) (q .answered)
 
--- then all, for so many records and words lent, with the truth of row 9's ranges
 abbrev pub rowsOf : ℕ → ℕ → ℕ → ℕ → Bool → ℕ → Order → ℕ → Process → List Row
-rowsOf n w records words ranges p o value q = row1 n ∷ row2 w ∷ row3 n w records words ∷ row9 ranges ∷ processRows n w p o value q
+rowsOf n w records words ranges p o value q =
+    Any.commandRows n w (lentWords n w) records words ranges p o value (isIdle q) (q .answered)
 
 abbrev pub commandRows : Memory → ℕ → Order → List ℕ → List Row
 commandRows m p o value =
     rowsOf (m .bench .n) (m .bench .w) (length (m .records)) (length (m .words)) (inRange m) p o (length value) (recordAt (m .records) (record { 0 = p }))
 
--- "Set-up reads no old records and takes 1, 2, 3, 8."
+-- the rows of a set-up
 abbrev pub setUpRowsOf : ℕ → ℕ → ℕ → ℕ → ℕ → List Row
-setUpRowsOf n w records words value = row1 n ∷ row2 w ∷ row3 n w records words ∷ row8always w value ∷ []
+setUpRowsOf n w records words value = Any.setUpRows n w (lentWords n w) records words value
 
 abbrev pub setUpRows : Memory → ℕ → ℕ → List ℕ → List Row
 setUpRows m n w value = setUpRowsOf n w (length (m .records)) (length (m .words)) (length value)

@@ -2,7 +2,8 @@
 use Prim.Native.Nat.{ℕ}
 use mathlib.Core.List.{List}
 use mathlib.Core.Bool.{Bool}
-use Rattle.model.specs.declared.ProcessNumber.{ProcessNumber}
+use Rattle.llsc.specs.declared.ProcessNumber.{ProcessNumber}
+use Rattle.llsc.specs.Answers.{SaidOf, refused, accepted, answered}
 use Rattle.moir_model.specs.declared.Reply.{Reply}
 use Rattle.moir_model.specs.declared.Reply.the-variants.{Refused, Accepted, WllAnswered, WllNamed, ScAnswered, VlAnswered}
 use Rattle.moir_model.specs.Words.{returnArea}
@@ -14,11 +15,8 @@ pub data Answer : Type 0 where
   names : ℕ → Answer
   scTruth vlTruth : Bool → Answer
 
--- refused with a number; accepted with no answer; or an answer with the count of own steps
-pub data Said : Type 0 where
-  refused : ℕ → Said
-  accepted : Said
-  answered : Answer → ℕ → Said
+abbrev pub Said : Type 0
+Said = SaidOf Answer
 
 -- the number of a refusal, 0 for none
 abbrev pub numberOf : Reply → ℕ

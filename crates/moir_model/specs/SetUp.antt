@@ -6,7 +6,7 @@ use mathlib.Core.Bool.{cond}
 use lib.Dec.{eqb}
 use lib.ListN.{replicate}
 use lib.Seq.{sets}
-use Rattle.model.specs.Refusals.{first}
+use Rattle.llsc.specs.Rows.{first}
 use Rattle.moir_model.specs.declared.Header.{Header}
 use Rattle.moir_model.specs.declared.Bench.{Bench}
 use Rattle.moir_model.specs.declared.Process.{Process}

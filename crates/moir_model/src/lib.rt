@@ -3,7 +3,7 @@
 ghost use mathlib.Core.Path.{_≡_};
 ghost use Rattle.moir_model.specs.SetUp.{headerAtSetUp, processAtSetUp, emptyBench};
 ghost use Rattle.moir_model.specs.Replies.{numberOf};
-use model::ProcessNumber;
+use llsc::ProcessNumber;
 
 pub mod sizes;
 

@@ -4,7 +4,7 @@ use mathlib.Core.List.{List, [], _∷_}
 use Prim.Native.Nat.{ℕ}
 use lib.Dec.{eqb}
 use lib.ListN.{getD}
-use Rattle.model.specs.Refusals.{some}
+use Rattle.llsc.specs.Rows.{some}
 use Rattle.moir_model.specs.Points.{lineNumber, idle, busyPoints}
 
 abbrev pub numberOk : ℕ → Bool

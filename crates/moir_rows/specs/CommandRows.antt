@@ -6,9 +6,9 @@ use mathlib.Core.List.{List, []}
 use mathlib.Core.Bool.{Bool}
 use Rattle.moir_model.specs.declared.Bench.{Bench}
 use Rattle.moir_model.specs.declared.Process.{Process}
-use Rattle.model.specs.declared.Order.{Order}
+use Rattle.llsc.specs.declared.Order.{Order}
 use Rattle.moir_model.specs.Records.{recordAt}
-use Rattle.model.specs.Refusals.{first}
+use Rattle.llsc.specs.Rows.{first}
 use Rattle.moir_model.specs.Refusals.{inRange, processRows, rowsOf}
 
 -- row 9 looks at no words

@@ -3,7 +3,7 @@
 ghost use mathlib.Core.Path.{_≡_};
 ghost use Prim.Native.Nat.{_≤_};
 ghost use Rattle.moir_model.specs.Refusals.{row3, row5, row6, row7};
-use model::Order;
+use llsc::Order;
 use moir_lines::points;
 use moir_model::Process;
 use moir_model::sizes;
@@ -23,7 +23,7 @@ pub fn too_little_lent(n: usize, w: usize, records: usize, words: usize) -> bool
 pub fn start_at_busy(order: Order, process: Process) -> bool
     ensures { λ r. ⌜ r ≡ row5 order process .holds ⌝ }
 {
-    if !model::is_start(order) {
+    if !llsc::is_start(order) {
         return false;
     }
     process.line != points::IDLE
@@ -33,7 +33,7 @@ pub fn start_at_busy(order: Order, process: Process) -> bool
 pub fn step_at_idle(order: Order, process: Process) -> bool
     ensures { λ r. ⌜ r ≡ row6 order process .holds ⌝ }
 {
-    if model::is_start(order) {
+    if llsc::is_start(order) {
         return false;
     }
     process.line == points::IDLE

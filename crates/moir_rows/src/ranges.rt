@@ -5,7 +5,7 @@ ghost use mathlib.Core.Bool.{_&&_};
 ghost use mathlib.Core.List.{[]};
 ghost use lib.Dec.{ltb};
 ghost use lib.ListN.{take};
-ghost use Rattle.model.specs.Refusals.{every};
+ghost use Rattle.llsc.specs.Rows.{every};
 ghost use Rattle.moir_model.specs.Refusals.{headerOk, lineOk, countOk, processOk, inRange};
 use crate::records::Records;
 use moir_lines::points;

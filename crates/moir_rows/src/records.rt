@@ -3,7 +3,7 @@ ghost use mathlib.Core.Path.{_≡_};
 ghost use Prim.Native.Nat.{_<_};
 ghost use lib.ListN.{replicate, set};
 ghost use Rattle.moir_model.specs.Records.{noProcess, recordAt};
-use model::ProcessNumber;
+use llsc::ProcessNumber;
 use moir_model::Process;
 
 pub struct Records {

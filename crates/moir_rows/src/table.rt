@@ -2,15 +2,15 @@
 ghost use mathlib.Core.Path.{_≡_};
 ghost use mathlib.Core.List.{[], _∷_};
 ghost use Prim.Native.Nat.{_≤_};
-ghost use Rattle.model.specs.Refusals.{first, row8};
+ghost use Rattle.llsc.specs.Rows.{first, row8};
 ghost use Rattle.moir_model.specs.Refusals.{row5, row6, row7};
 ghost use Rattle.moir_rows.specs.CommandRows.{decisionNumber, lateNumber};
 use crate::causes;
 use crate::ranges;
 use crate::records;
 use crate::records::Records;
-use model::Order;
-use model::ProcessNumber;
+use llsc::Order;
+use llsc::ProcessNumber;
 use moir_model::Bench;
 use moir_model::Process;
 

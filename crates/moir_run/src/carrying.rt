@@ -3,7 +3,7 @@ ghost use Prim.Native.Nat.{_≤_};
 use crate::entries;
 use crate::tracing;
 use crate::writing;
-use model::ProcessNumber;
+use llsc::ProcessNumber;
 use moir_lines::points;
 use moir_machine::Outcome;
 use moir_model::Bench;

@@ -1,5 +1,5 @@
 // What an entry orders: its process, its order and its value. An entry is kept as one number (`notation::entry_words`).
-use model::Order;
+use llsc::Order;
 use notation::Entry;
 
 // The entry that a number of the list keeps.

@@ -1,7 +1,7 @@
 // The lines of a trace, in the style of the first bench's (docs/TRACE.md): entry, process, and then the start, or Figure
 // 6's line, the item touched and what the step does to it.
 use crate::writing;
-use model::ProcessNumber;
+use llsc::ProcessNumber;
 use moir_lines::compare;
 use moir_model::Bench;
 use moir_model::Header;

@@ -5,9 +5,9 @@ use mathlib.Core.Bool.{true}
 use Prim.Native.Nat.{ℕ, _<_, _≤_}
 use mathlib.Core.List.{List}
 use lib.ListN.{length}
-use Rattle.model.specs.declared.ProcessNumber.{ProcessNumber}
-use Rattle.model.specs.declared.Order.{Order}
-use Rattle.model.specs.Refusals.{bringsValue}
+use Rattle.llsc.specs.declared.ProcessNumber.{ProcessNumber}
+use Rattle.llsc.specs.declared.Order.{Order}
+use Rattle.llsc.specs.Rows.{bringsValue}
 use Rattle.moir_model.specs.declared.Bench.{Bench}
 use Rattle.moir_model.specs.declared.Process.{Process}
 use Rattle.moir_model.specs.Sizes.{lentWords}

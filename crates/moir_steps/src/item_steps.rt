@@ -9,7 +9,7 @@ ghost use Rattle.moir_model.specs.Machine.{step2, step4, step5, step6, step7, s
 ghost use Rattle.moir_steps.specs.Ranges.{Standing};
 use crate::items;
 use crate::word_places;
-use model::ProcessNumber;
+use llsc::ProcessNumber;
 use moir_lines::on_array;
 use moir_lines::on_header;
 use moir_lines::on_segment;

@@ -7,7 +7,7 @@ ghost use Rattle.moir_steps.specs.Items.{moved19};
 ghost use Rattle.moir_steps.specs.Ranges.{Ready};
 use crate::item_steps;
 use crate::items;
-use model::ProcessNumber;
+use llsc::ProcessNumber;
 use moir_lines::on_header;
 use moir_lines::points;
 use moir_model::Bench;

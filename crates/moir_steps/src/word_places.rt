@@ -3,7 +3,7 @@
 ghost use mathlib.Core.Path.{_≡_};
 ghost use Prim.Native.Nat.{_<_, _≤_};
 ghost use Rattle.moir_model.specs.Words.{announcedWord, segmentWord, returnWord, offerWord};
-use model::ProcessNumber;
+use llsc::ProcessNumber;
 
 // Word k of A[q].
 pub fn announced_word(w: usize, q: ProcessNumber, k: usize) -> usize

@@ -3,11 +3,11 @@
 ghost use mathlib.Core.Path.{_≡_};
 ghost use Prim.Native.Nat.{_<_};
 ghost use Rattle.model.specs.Places.{linked, link, llX, scX, llBank, scBank, llHelp, scHelp, writeHelp};
+use llsc::ProcessNumber;
 use model::BankPlace;
 use model::BufferNumber;
 use model::HelpContent;
 use model::HelpPlace;
-use model::ProcessNumber;
 use model::XContent;
 use model::XPlace;
 

@@ -6,7 +6,7 @@ use native.Mathlib.Nat.{add-zero, add-suc, suc-add, le-of-suc-le-suc, not-suc-le
 use native.Mathlib.Omega.{arith}
 use lib.Dec.{eqb}
 use Rattle.model.specs.Points.{lineNumber, idle, busyPoints}
-use Rattle.model.specs.Refusals.{every, some}
+use Rattle.llsc.specs.Rows.{every, some}
 use Rattle.model.specs.SetUp.{numbers}
 use Rattle.laws.proofs.AndLaws.{left, right}
 

@@ -8,11 +8,13 @@ use lib.Dec.{eqb, ltb, leb}
 use borrow.Author.Tests.{ltb-true, ltb-false, leb-true, leb-false, eqb-true, not-false}
 use Rattle.model.specs.declared.Bench.{Bench}
 use Rattle.model.specs.declared.Process.{Process}
-use Rattle.model.specs.declared.Order.{Order}
+use Rattle.llsc.specs.declared.Order.{Order}
 use Rattle.model.specs.Records.{recordAt}
 use Rattle.model.specs.Sizes.{lentWords, halves, busyMost}
-use Rattle.model.specs.Refusals.{first, row1, row2, row3, row4, row5, row6, row7, row8, row9}
-use Rattle.model.specs.Refusals.{inRange, processOk, bufferOk, sequenceOk, xOk, lineOk, countOk, isIdle, bringsValue}
+use Rattle.llsc.specs.Rows.{first, row1, row2, row4, row8, row9}
+use Rattle.model.specs.Refusals.{row3, row5, row6, row7}
+use Rattle.llsc.specs.Rows.{bringsValue}
+use Rattle.model.specs.Refusals.{inRange, processOk, bufferOk, sequenceOk, xOk, lineOk, countOk, isIdle}
 use Rattle.rows.specs.CommandRows.{lentNumber, rangesOk, decisionNumber, lateNumber, InOrder}
 use Rattle.laws.proofs.AndLaws.{left, right}
 

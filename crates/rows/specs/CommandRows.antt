@@ -7,9 +7,10 @@ use mathlib.Core.List.{List, []}
 use mathlib.Core.Bool.{Bool, false}
 use Rattle.model.specs.declared.Bench.{Bench}
 use Rattle.model.specs.declared.Process.{Process}
-use Rattle.model.specs.declared.Order.{Order}
+use Rattle.llsc.specs.declared.Order.{Order}
 use Rattle.model.specs.Records.{recordAt}
-use Rattle.model.specs.Refusals.{first, row1, row2, row3, row9, inRange, lentRows, processRows, rowsOf}
+use Rattle.llsc.specs.Rows.{first, row1, row2, row9}
+use Rattle.model.specs.Refusals.{row3, inRange, lentRows, processRows, rowsOf}
 
 -- the number of the first of rows 1, 2, 3 that holds, 0 for none
 unfoldable pub lentNumber : ℕ → ℕ → ℕ → ℕ → ℕ

@@ -1,10 +1,12 @@
 // The causes of the refusal table, a function for each row but 9, and the rows' numbers (01, "When the bench says no").
 ghost use mathlib.Core.Path.{_≡_};
 ghost use Prim.Native.Nat.{_≤_};
-ghost use Rattle.model.specs.Refusals.{row1, row2, row4, row5, row6, row7};
-ghost use Rattle.model.specs.Refusals.{row3, row8};
+ghost use Rattle.llsc.specs.Rows.{row1, row2, row4};
+ghost use Rattle.model.specs.Refusals.{row5, row6, row7};
+ghost use Rattle.llsc.specs.Rows.{row8};
+ghost use Rattle.model.specs.Refusals.{row3};
 use lines::points;
-use model::Order;
+use llsc::Order;
 use model::Process;
 use model::sizes;
 
@@ -82,7 +84,7 @@ pub fn no_such_process(n: usize, p: usize) -> bool
 pub fn start_at_busy(order: Order, process: Process) -> bool
     ensures { λ r. ⌜ r ≡ row5 order process .holds ⌝ }
 {
-    if !model::is_start(order) {
+    if !llsc::is_start(order) {
         return false;
     }
     process.line != points::IDLE
@@ -92,7 +94,7 @@ pub fn start_at_busy(order: Order, process: Process) -> bool
 pub fn step_at_idle(order: Order, process: Process) -> bool
     ensures { λ r. ⌜ r ≡ row6 order process .holds ⌝ }
 {
-    if model::is_start(order) {
+    if llsc::is_start(order) {
         return false;
     }
     process.line == points::IDLE

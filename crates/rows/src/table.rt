@@ -2,15 +2,16 @@
 ghost use mathlib.Core.Path.{_≡_};
 ghost use mathlib.Core.List.{[], _∷_};
 ghost use Prim.Native.Nat.{_≤_};
-ghost use Rattle.model.specs.Refusals.{first, row5, row6, row7};
-ghost use Rattle.model.specs.Refusals.{row8};
+ghost use Rattle.llsc.specs.Rows.{first};
+ghost use Rattle.model.specs.Refusals.{row5, row6, row7};
+ghost use Rattle.llsc.specs.Rows.{row8};
 ghost use Rattle.rows.specs.CommandRows.{decisionNumber, lateNumber, lentNumber};
 use crate::causes;
 use crate::ranges;
+use llsc::Order;
+use llsc::ProcessNumber;
 use model::Bench;
-use model::Order;
 use model::Process;
-use model::ProcessNumber;
 use tables::records;
 use tables::records::Records;
 

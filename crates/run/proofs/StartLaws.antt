@@ -11,11 +11,12 @@ use borrow.Author.Tests.{ltb-false}
 use Rattle.model.specs.declared.Bench.{Bench}
 use Rattle.model.specs.declared.Process.{Process}
 use Rattle.model.specs.Records.{noProcess}
-use Rattle.model.specs.Refusals.{row1, row2}
+use Rattle.llsc.specs.Rows.{row1, row2}
 use Rattle.model.specs.SetUp.{numbers, processAtSetUp, recordsAtSetUp, wordsAtSetUp, benchAtSetUp, atSetUp, setUpRefusal, setUp}
 use Rattle.model.specs.Machine.{Memory, Shaped}
 use Rattle.tables.specs.declared.records.Records.{Records}
-use Rattle.model.specs.Refusals.{row3, row8always}
+use Rattle.llsc.specs.Rows.{row8always}
+use Rattle.model.specs.Refusals.{row3}
 use Rattle.setup.specs.SetUpByValue.{setUpNumber, set-up-number, Accepted}
 use Rattle.rows.proofs.RowLaws.{cleared, neither}
 use Rattle.setup.proofs.SetUpLaws.{first-row, set-up-fits}

@@ -2,7 +2,7 @@
 ghost use mathlib.Core.Path.{_≡_};
 ghost use Prim.Native.Nat.{_≤_};
 ghost use Rattle.model.specs.SetUp.{recordsAtSetUp};
-use model::ProcessNumber;
+use llsc::ProcessNumber;
 use tables::records;
 use tables::records::Records;
 

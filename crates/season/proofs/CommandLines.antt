@@ -8,7 +8,7 @@ use borrow.Author.Tests.{ltb-true, ltb-false}
 use lib.Dec.{ltb}
 use lib.ListN.{length, getD, length-take, length-drop}
 use Rattle.model.specs.declared.Process.{Process}
-use Rattle.model.specs.declared.Order.{Order}
+use Rattle.llsc.specs.declared.Order.{Order}
 use Rattle.model.specs.declared.Reply.{Reply}
 use Rattle.model.specs.Records.{noProcess}
 use Rattle.model.specs.Replies.{numberOf}

@@ -9,14 +9,15 @@ use lib.Dec.{eqb, ltb}
 use lib.ListN.{length}
 use borrow.Author.Tests.{eq-eqb, ne-eqb, ltb-false, leb-false, not-false}
 use Rattle.model.specs.declared.Process.{Process}
-use Rattle.model.specs.declared.Order.{Order}
-use Rattle.model.specs.declared.Order.the-variants as order
+use Rattle.llsc.specs.declared.Order.{Order}
+use Rattle.llsc.specs.declared.Order.the-variants as order
 use Rattle.model.specs.declared.Reply.{Reply}
 use Rattle.model.specs.declared.Reply.the-variants.{Refused}
 use Rattle.model.specs.Records.{recordAt}
 use Rattle.model.specs.Points.{lineNumber, pointOf, idle}
 use Rattle.model.specs.Machine.{Memory}
-use Rattle.model.specs.Refusals.{row1, row2, row3, row4, row9, isIdle, inRange}
+use Rattle.llsc.specs.Rows.{row1, row2, row4, row9}
+use Rattle.model.specs.Refusals.{row3, isIdle, inRange}
 use Rattle.model.specs.Command.{command, refusal, obeyed}
 use Rattle.model.specs.Replies.{numberOf}
 use Rattle.taken.specs.Ranges.{Ready}

@@ -11,12 +11,13 @@ use lib.ListN.{length, set, length-append, length-set, length-map, List·getD-ap
 use lib.Seq.{take-append-le, set-append-left, sets, length-sets}
 use Rattle.model.specs.Replies.{numberOf}
 use Rattle.model.specs.declared.Process.{Process}
-use Rattle.model.specs.declared.Order.{Order}
+use Rattle.llsc.specs.declared.Order.{Order}
 use Rattle.model.specs.declared.Reply.{Reply}
 use Rattle.model.specs.declared.Reply.the-variants.{Refused}
 use Rattle.model.specs.Records.{recordAt, noProcess}
 use Rattle.model.specs.Machine.{Memory, obey}
-use Rattle.model.specs.Refusals.{Row, first, inRange, between, row1, row2, row3, row4, row5, row6, row7, row8, row9, row8always, commandRows, setUpRows}
+use Rattle.llsc.specs.Rows.{Row, first, between, row1, row2, row4, row8, row9, row8always}
+use Rattle.model.specs.Refusals.{inRange, row3, row5, row6, row7, commandRows, setUpRows}
 use Rattle.model.specs.SetUp.{numbers, processAtSetUp, atSetUp, setUpRefusal, setUp}
 use Rattle.model.specs.Command.{refusal, command, obeyed}
 

@@ -6,7 +6,7 @@ use Prim.Native.Nat.{ℕ, zero, suc, _+_, _-_, _≤_, _<_}
 use native.Mathlib.Omega.{arith}
 use lib.Dec.{eqb}
 use borrow.Author.Tests.{eqb-true, eq-eqb, ne-eqb}
-use Rattle.model.specs.declared.Order.the-variants as order
+use Rattle.llsc.specs.declared.Order.the-variants as order
 use Rattle.model.specs.Records.{recordAt}
 use Rattle.model.specs.Machine.{Memory}
 use Rattle.model.specs.Refusals.{isIdle}

@@ -7,10 +7,11 @@ use native.Mathlib.Omega.{arith}
 use lib.Dec.{eqb, ltb, leb}
 use lib.ListN.{length, take}
 use borrow.Author.Tests.{eqb-true, eqb-false, leb-false, le-leb, ne-eqb}
-use Rattle.model.specs.declared.Order.{Order}
+use Rattle.llsc.specs.declared.Order.{Order}
 use Rattle.model.specs.declared.Reply.{Reply}
 use Rattle.model.specs.Machine.{Memory}
-use Rattle.model.specs.Refusals.{inRange, row1, row2, row3, row9}
+use Rattle.llsc.specs.Rows.{row1, row2, row9}
+use Rattle.model.specs.Refusals.{inRange, row3}
 use Rattle.model.specs.Command.{refusal, command}
 use Rattle.model.specs.Replies.{numberOf}
 use Rattle.notation.specs.declared.Entry.{Entry}

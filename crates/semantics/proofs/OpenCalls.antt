@@ -10,7 +10,7 @@ use lib.Dec.{eqb, ltb}
 use lib.ListN.{length}
 use borrow.Author.Tests.{eq-eqb}
 use Rattle.model.specs.declared.Process.{Process}
-use Rattle.model.specs.declared.Order.the-variants as order
+use Rattle.llsc.specs.declared.Order.the-variants as order
 use Rattle.model.specs.Sizes.{halves}
 use Rattle.model.specs.Points.{Point, lineNumber, idle, line1, line2, line3, line4, line5, line6, line7, line7copy, line8, line9, line10}
 use Rattle.model.specs.Points.{line11, line12, line12valid, line13, line14, line14valid, line15, line17, line18, line19, line23}
@@ -19,9 +19,10 @@ use Rattle.model.specs.Machine.{Memory}
 use Rattle.model.specs.Refusals.{isIdle}
 use Rattle.model.specs.Command.{command, refusal}
 use Rattle.model.specs.SetUp.{setUp}
-use Rattle.model.specs.Replies.{Said, Answer, accepted, answered}
-use Rattle.model.specs.Object.{Kind, ll, sc, vl}
-use Rattle.model.specs.History.{Command, eventOf, events, Slot, none, running, slotAfter, slotsAfter, slotsFrom, slots}
+use Rattle.llsc.specs.Answers.{Said, Answer, accepted, answered}
+use Rattle.llsc.specs.Object.{Kind, ll, sc, vl}
+use Rattle.llsc.specs.History.{Command, Slot, none, running, slotAfter, slotsAfter, slotsFrom, slots}
+use Rattle.model.specs.History.{eventOf, events}
 use Rattle.model.specs.Linearizable.{OpenCounted}
 use Rattle.linearization.specs.After.{after}
 use Rattle.linearization.proofs.Theorems.{demand-3}

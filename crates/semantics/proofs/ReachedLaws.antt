@@ -4,14 +4,15 @@ use mathlib.Core.List.{List, [], _∷_, _++_}
 use mathlib.Core.Bool.{Bool, true, false, cond}
 use Prim.Native.Nat.{ℕ}
 use lib.ListN.{length}
-use Rattle.model.specs.declared.Order.{Order}
+use Rattle.llsc.specs.declared.Order.{Order}
 use Rattle.model.specs.Machine.{Memory, Shaped}
-use Rattle.model.specs.Refusals.{inRange, row1, row2, row3, row9}
+use Rattle.llsc.specs.Rows.{row1, row2, row9}
+use Rattle.model.specs.Refusals.{inRange, row3}
 use Rattle.model.specs.Command.{refusal, command}
 use Rattle.model.specs.SetUp.{setUp}
-use Rattle.model.specs.History.{Command}
+use Rattle.llsc.specs.History.{Command}
 use Rattle.linearization.specs.After.{after}
-use Rattle.linearization.specs.OwnDoing.{NotLentMemory}
+use Rattle.llsc.specs.Rows.{NotLentMemory}
 use Rattle.linearization.proofs.Theorems.{never-for-its-own-doing}
 use Rattle.semantics.specs.Reached.{Reached}
 

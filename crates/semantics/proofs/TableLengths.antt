@@ -6,11 +6,11 @@ use Prim.Native.Nat.{ℕ, _*_}
 use lib.Dec.{eqb}
 use lib.ListN.{length, replicate, length-set}
 use lib.Seq.{length-sets}
-use Rattle.model.specs.declared.ProcessNumber.{ProcessNumber}
+use Rattle.llsc.specs.declared.ProcessNumber.{ProcessNumber}
 use Rattle.model.specs.declared.Bench.{Bench}
 use Rattle.model.specs.declared.Process.{Process}
-use Rattle.model.specs.declared.Order.{Order}
-use Rattle.model.specs.declared.Order.the-variants.{StartLl, StartSc, StartVl, Step}
+use Rattle.llsc.specs.declared.Order.{Order}
+use Rattle.llsc.specs.declared.Order.the-variants.{StartLl, StartSc, StartVl, Step}
 use Rattle.model.specs.declared.Reply.{Reply}
 use Rattle.model.specs.declared.Reply.the-variants.{Refused}
 use Rattle.model.specs.Records.{recordAt}
@@ -19,7 +19,7 @@ use Rattle.model.specs.Points.{line11, line12, line12valid, line13, line14, lin
 use Rattle.model.specs.Machine.{Memory, Shaped, stepAt, obey}
 use Rattle.model.specs.Command.{command, refusal, obeyed}
 use Rattle.model.specs.SetUp.{setUp, setUpRefusal, bankAtSetUp, helpAtSetUp, numbers}
-use Rattle.model.specs.History.{Command}
+use Rattle.llsc.specs.History.{Command}
 use Rattle.linearization.specs.After.{after}
 use Rattle.semantics.specs.Reached.{Reached}
 

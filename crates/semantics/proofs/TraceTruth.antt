@@ -9,7 +9,7 @@ use lib.Dec.{eqb, ltb, leb}
 use lib.ListN.{length, replicate}
 use lib.Seq.{sets}
 use borrow.Author.Tests.{ne-eqb}
-use Rattle.model.specs.declared.Order.the-variants as order
+use Rattle.llsc.specs.declared.Order.the-variants as order
 use Rattle.model.specs.Records.{recordAt}
 use Rattle.model.specs.Points.{pointOf}
 use Rattle.model.specs.Words.{offerWord, bufferWord, wordOf, half}
@@ -18,7 +18,7 @@ use Rattle.model.specs.Command.{refusal, obeyed}
 use Rattle.model.specs.SetUp.{setUp}
 use Rattle.model.specs.Replies.{numberOf}
 use Rattle.words.proofs.WordLaws.{within}
-use Rattle.linearization.proofs.ListFacts.{sets-out}
+use Rattle.laws.proofs.ListFacts.{sets-out}
 use Rattle.notation.specs.declared.Entry.{Entry}
 use Rattle.notation.specs.declared.Entry.the-variants.{StartLl, StartVl, StartSc, Step, Finish}
 use Rattle.notation.specs.Grammar.{Said}

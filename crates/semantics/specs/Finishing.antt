@@ -6,8 +6,9 @@ use mathlib.Core.List.{List}
 use Prim.Native.Nat.{ℕ, _+_, _≤_}
 use Rattle.model.specs.Machine.{Memory, Shaped}
 use Rattle.model.specs.SetUp.{setUp}
-use Rattle.model.specs.Object.{Kind}
-use Rattle.model.specs.History.{Command, events, running, slots}
+use Rattle.llsc.specs.Object.{Kind}
+use Rattle.llsc.specs.History.{Command, running, slots}
+use Rattle.model.specs.History.{events}
 use Rattle.model.specs.Linearizable.{largest}
 use Rattle.linearization.specs.After.{after}
 use Rattle.notation.specs.declared.Entry.the-variants.{Step, Finish}

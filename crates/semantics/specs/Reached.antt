@@ -5,7 +5,7 @@ use Prim.Native.Nat.{ℕ}
 use mathlib.Core.List.{List}
 use Rattle.model.specs.Machine.{Memory, Shaped}
 use Rattle.model.specs.SetUp.{setUp}
-use Rattle.model.specs.History.{Command}
+use Rattle.llsc.specs.History.{Command}
 use Rattle.linearization.specs.After.{after}
 
 pub record Reached (m : Memory) : Type 0 where

@@ -18,7 +18,7 @@ use Rattle.model.specs.Tables.{putBank, putHelp}
 use Rattle.model.specs.Machine.{Memory}
 use Rattle.model.specs.SetUp.{numbers, bankAtSetUp, helpAtSetUp, benchAtSetUp, wordsAtSetUp, setUp, setUpRefusal}
 use Rattle.setup.specs.declared.Prepared.{Prepared}
-use Rattle.model.specs.Refusals.{row8always}
+use Rattle.llsc.specs.Rows.{row8always}
 use Rattle.setup.specs.SetUpByValue.{setUpNumber, set-up-number, banksSet, helpsSet, Accepted, prepared, recordsSet}
 use Rattle.laws.proofs.ListLaws.{sets-append, sets-replicate}
 use Rattle.rows.proofs.RowLaws.{cleared, begins-in-order}

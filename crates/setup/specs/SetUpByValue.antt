@@ -11,7 +11,8 @@ use lib.Seq.{sets}
 use Rattle.model.specs.declared.Bench.{Bench}
 use Rattle.model.specs.declared.Process.{Process}
 use Rattle.model.specs.Sizes.{lentWords}
-use Rattle.model.specs.Refusals.{first, setUpRowsOf}
+use Rattle.llsc.specs.Rows.{first}
+use Rattle.model.specs.Refusals.{setUpRowsOf}
 use Rattle.model.specs.Machine.{Memory}
 use Rattle.model.specs.SetUp.{numbers, bankAtSetUp, helpAtSetUp, benchAtSetUp, recordsAtSetUp, wordsAtSetUp, setUpRefusal}
 use Rattle.setup.specs.declared.Prepared.{Prepared}

@@ -5,10 +5,10 @@ ghost use Rattle.model.specs.Tables.{bankAt, helpAt, putX, putBank, putHelp};
 
 pub mod records;
 
+use llsc::ProcessNumber;
 use model::BankPlace;
 use model::Bench;
 use model::HelpPlace;
-use model::ProcessNumber;
 use model::SequenceNumber;
 use model::XPlace;
 

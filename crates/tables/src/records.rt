@@ -3,8 +3,8 @@ ghost use mathlib.Core.Path.{_≡_};
 ghost use Prim.Native.Nat.{_<_};
 ghost use lib.ListN.{replicate, set};
 ghost use Rattle.model.specs.Records.{noProcess, recordAt};
+use llsc::ProcessNumber;
 use model::Process;
-use model::ProcessNumber;
 
 pub struct Records {
     pub list: [Process; 16],

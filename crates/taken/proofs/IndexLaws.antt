@@ -8,7 +8,7 @@ use native.Mathlib.Omega.{arith}
 use lib.Dec.{eqb}
 use borrow.Author.Tests.{eqb-true, ne-eqb}
 use Rattle.model.specs.declared.SequenceNumber.{SequenceNumber}
-use Rattle.model.specs.declared.ProcessNumber.{ProcessNumber}
+use Rattle.llsc.specs.declared.ProcessNumber.{ProcessNumber}
 use Rattle.model.specs.declared.Process.{Process}
 use Rattle.model.specs.Tables.{next, helped}
 use Rattle.model.specs.Points.{Point, lineNumber, find, busyPoints, pointOf, idle, line1, line2, line3, line4, line5}

@@ -6,12 +6,12 @@ use mathlib.Core.Bool.{true}
 use Prim.Native.Nat.{ℕ, _<_, _≤_}
 use mathlib.Core.List.{List}
 use lib.ListN.{length}
-use Rattle.model.specs.declared.ProcessNumber.{ProcessNumber}
+use Rattle.llsc.specs.declared.ProcessNumber.{ProcessNumber}
 use Rattle.model.specs.declared.Bench.{Bench}
 use Rattle.model.specs.declared.Process.{Process}
-use Rattle.model.specs.declared.Order.{Order}
+use Rattle.llsc.specs.declared.Order.{Order}
 use Rattle.model.specs.Sizes.{buffers, sequenceNumbers, halves, lentWords}
-use Rattle.model.specs.Refusals.{bringsValue}
+use Rattle.llsc.specs.Rows.{bringsValue}
 
 -- N, W and the lent words are as rows 1 to 3 ask, the process is one of N
 pub record Lent (n w : ℕ) (p : ProcessNumber) (ws : List ℕ) : Type 0 where

@@ -4,11 +4,11 @@ use mathlib.Core.List.{List, [], _∷_, map}
 use mathlib.Core.Bool.{Bool, true, false, not, _&&_, _||_, cond}
 use lib.Dec.{eqb, ltb, leb}
 use lib.ListN.{length}
-use Rattle.model.specs.Replies.{Answer, llWords, scTruth, vlTruth}
-use Rattle.model.specs.Object.{Kind, ll, sc, vl, fresh, serve}
-use Rattle.model.specs.History.{Call}
-use Rattle.model.specs.Linearizable.{Timed, inMomentOrder, fed}
-use Rattle.model.specs.Refusals.{Row, first, every, some, between, row1, row2}
+use Rattle.llsc.specs.Answers.{Answer, llWords, scTruth, vlTruth}
+use Rattle.llsc.specs.Object.{Kind, ll, sc, vl, fresh, serve}
+use Rattle.llsc.specs.History.{Call}
+use Rattle.llsc.specs.Linearizable.{Timed, inMomentOrder, fed}
+use Rattle.llsc.specs.Rows.{Row, first, every, some, between, row1, row2}
 use Rattle.verdicts.specs.declared.Verdict.{Verdict}
 use Rattle.verdicts.specs.declared.Verdict.the-variants.{Refused, Yes, No}
 use Rattle.verdicts.specs.Log.{Entry, width, entries, begun}

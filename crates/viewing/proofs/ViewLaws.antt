@@ -12,7 +12,8 @@ use borrow.Author.Tests.{ltb-false, eqb-true, not-false, eq-eqb, ne-eqb}
 use mir.Syntax.{w64}
 use mir.Val.{Fits}
 use denote.Ref.{RefT, now}
-use Rattle.model.specs.Refusals.{row2, row3view, row8always, row15}
+use Rattle.llsc.specs.Rows.{row2, row8always}
+use Rattle.model.specs.Refusals.{row3view, row15}
 use Rattle.model.specs.View.{Part, viewNumber, viewPart, view}
 use Rattle.rows.proofs.RowLaws.{cleared, w-in}
 

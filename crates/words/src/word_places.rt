@@ -4,8 +4,8 @@ ghost use mathlib.Core.Path.{_≡_};
 ghost use Prim.Native.Nat.{_+_, _*_, _<_, _≤_};
 ghost use lib.ListN.{length};
 ghost use Rattle.model.specs.Words.{bufferWord, returnWord, offerWord, half, withHalf, copiedHalf};
+use llsc::ProcessNumber;
 use model::BufferNumber;
-use model::ProcessNumber;
 use model::sizes;
 
 // Where word k of BUF[b] lies.

@@ -56,7 +56,7 @@ use denote.Triple.Walked.{goes-gave-slice, Walks, ends-at, walked, walk-meets}
 use denote.Exit.{yes}
 use Rattle.model.specs.declared.Bench.{Bench}
 use Rattle.model.specs.declared.Process.{Process}
-use Rattle.model.specs.declared.Order.{Order}
+use Rattle.llsc.specs.declared.Order.{Order}
 use Rattle.model.specs.declared.Reply.{Reply}
 use Rattle.model.specs.Records.{noProcess}
 use Rattle.model.specs.Command.{command}
@@ -70,8 +70,8 @@ use Rattle.model.proofs.Bench as B
 use Rattle.model.proofs.Bench.Laws as B′
 use Rattle.model.proofs.Process as P
 use Rattle.model.proofs.Process.Laws as P′
-use Rattle.model.proofs.Order as Q
-use Rattle.model.proofs.Order.Laws as Q′
+use Rattle.llsc.proofs.Order as Q
+use Rattle.llsc.proofs.Order.Laws as Q′
 use Rattle.model.proofs.Reply as R
 use Rattle.model.proofs.Reply.Laws as R′
 use Rattle.tables.proofs.records.Records as L

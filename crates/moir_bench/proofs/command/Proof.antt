@@ -56,7 +56,7 @@ use denote.Triple.Walked.{goes-gave-slice, Walks, ends-at, walked, walk-meets}
 use denote.Exit.{yes}
 use Rattle.moir_model.specs.declared.Bench.{Bench}
 use Rattle.moir_model.specs.declared.Process.{Process}
-use Rattle.model.specs.declared.Order.{Order}
+use Rattle.llsc.specs.declared.Order.{Order}
 use Rattle.moir_model.specs.declared.Reply.{Reply}
 use Rattle.moir_model.specs.Records.{noProcess}
 use Rattle.moir_model.specs.Command.{command}
@@ -70,8 +70,8 @@ use Rattle.moir_model.proofs.Bench as B
 use Rattle.moir_model.proofs.Bench.Laws as B′
 use Rattle.moir_model.proofs.Process as P
 use Rattle.moir_model.proofs.Process.Laws as P′
-use Rattle.model.proofs.Order as Q
-use Rattle.model.proofs.Order.Laws as Q′
+use Rattle.llsc.proofs.Order as Q
+use Rattle.llsc.proofs.Order.Laws as Q′
 use Rattle.moir_model.proofs.Reply as R
 use Rattle.moir_model.proofs.Reply.Laws as R′
 use Rattle.moir_rows.proofs.records.Records as L

@@ -9,7 +9,7 @@ use lib.Seq.{sets}
 use denote.Ref.{now}
 use types.Run.{OneOf, miss}
 use denote.Enum.Declared.{tagOf}
-use Rattle.model.specs.declared.ProcessNumber.{ProcessNumber}
+use Rattle.llsc.specs.declared.ProcessNumber.{ProcessNumber}
 use Rattle.model.specs.Words.{offerWord}
 use Rattle.taken.specs.Ranges.{Lent}
 use Rattle.steps.specs.Steps.{offered}

@@ -4,8 +4,9 @@ use mathlib.Core.List.{[], _∷_}
 use Prim.Native.Nat.{ℕ, _≤_, _<_}
 use borrow.Author.Tests.{le-leb, lt-leb, lt-ltb, le-ltb}
 use Rattle.model.specs.declared.Process.{Process}
-use Rattle.model.specs.declared.Order.{Order}
-use Rattle.model.specs.Refusals.{first, row5, row6, row7}
+use Rattle.llsc.specs.declared.Order.{Order}
+use Rattle.llsc.specs.Rows.{first}
+use Rattle.model.specs.Refusals.{row5, row6, row7}
 use Rattle.rows.proofs.RowLaws.{over, here}
 use Rattle.semantics.specs.TextRun.{mostEntries}
 use Rattle.entry.specs.Turned.{refusalOf}

@@ -7,7 +7,7 @@ use lib.ListN.{length, length-map, take, drop}
 use borrow.Author.Tests.{not-true, not-false}
 use borrow.Author.Needs.{needs}
 use Rattle.moir_model.specs.Records.{noProcess}
-use Rattle.model.specs.Refusals.{every}
+use Rattle.llsc.specs.Rows.{every}
 use Rattle.moir_model.specs.Refusals.{processOk}
 use Rattle.laws.proofs.ListLaws.{every-next, every-found, every-none, every-all}
 use Rattle.moir_rows.proofs.ranges.records_ok.Statement.{statement}

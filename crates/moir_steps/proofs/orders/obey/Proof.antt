@@ -1,7 +1,7 @@
 -- `moir_steps::orders::obey` meets its contract: an SC's words are copied; each order begins its call, or steps.
 -- Assumes nothing.
 use native.Mathlib.Omega.{arith}
-use Rattle.model.specs.Refusals.{bringsValue}
+use Rattle.llsc.specs.Rows.{bringsValue}
 use Rattle.moir_model.specs.Machine.{obey}
 use Rattle.moir_steps.proofs.PlaceLaws.{row-lies}
 use mathlib.Core.Path.{ap}

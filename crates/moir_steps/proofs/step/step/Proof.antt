@@ -5,7 +5,7 @@ use mathlib.Core.List.{List}
 use Prim.Native.Nat.{ℕ}
 use borrow.Author.Tests.{ne-eqb}
 use denote.Ref.{now}
-use Rattle.model.specs.declared.ProcessNumber.{ProcessNumber}
+use Rattle.llsc.specs.declared.ProcessNumber.{ProcessNumber}
 use Rattle.moir_model.specs.declared.Bench.{Bench}
 use Rattle.moir_model.specs.declared.Process.{Process}
 use Rattle.moir_model.specs.declared.Moved.{Moved}

@@ -8,7 +8,8 @@ use borrow.Author.Tests.{not-true, not-false}
 use borrow.Author.Needs.{needs}
 use Rattle.model.specs.Sizes.{sequenceNumbers}
 use Rattle.model.specs.Tables.{noBank}
-use Rattle.model.specs.Refusals.{every, bankPlaceOk}
+use Rattle.llsc.specs.Rows.{every}
+use Rattle.model.specs.Refusals.{bankPlaceOk}
 use Rattle.laws.proofs.ListLaws.{every-next, every-found, every-none, every-all}
 use Rattle.rows.proofs.ranges.banks_ok.Statement.{statement}
 use Rattle.rows.proofs.ranges.banks_ok.Tie as tie

@@ -7,7 +7,8 @@ use lib.ListN.{length, length-map, take, drop}
 use borrow.Author.Tests.{not-true, not-false}
 use borrow.Author.Needs.{needs}
 use Rattle.model.specs.Tables.{noHelp}
-use Rattle.model.specs.Refusals.{every, helpPlaceOk}
+use Rattle.llsc.specs.Rows.{every}
+use Rattle.model.specs.Refusals.{helpPlaceOk}
 use Rattle.laws.proofs.ListLaws.{every-next, every-found, every-none, every-all}
 use Rattle.rows.proofs.ranges.helps_ok.Statement.{statement}
 use Rattle.rows.proofs.ranges.helps_ok.Tie as tie

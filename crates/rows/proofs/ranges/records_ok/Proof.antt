@@ -7,7 +7,8 @@ use lib.ListN.{length, length-map, take, drop}
 use borrow.Author.Tests.{not-true, not-false}
 use borrow.Author.Needs.{needs}
 use Rattle.model.specs.Records.{noProcess}
-use Rattle.model.specs.Refusals.{every, processOk}
+use Rattle.llsc.specs.Rows.{every}
+use Rattle.model.specs.Refusals.{processOk}
 use Rattle.laws.proofs.ListLaws.{every-next, every-found, every-none, every-all}
 use Rattle.rows.proofs.ranges.records_ok.Statement.{statement}
 use Rattle.rows.proofs.ranges.records_ok.Tie as tie

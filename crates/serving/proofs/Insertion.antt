@@ -6,14 +6,14 @@ use Prim.Native.Nat.{ℕ, _≤_}
 use native.Mathlib.Omega.{arith}
 use lib.Dec.{eqb}
 use borrow.Author.Tests.{le-leb}
-use Rattle.model.specs.Replies.{llWords}
-use Rattle.model.specs.Object.{ll, Object, feed}
-use Rattle.model.specs.Linearizable.{Timed, insert}
-use Rattle.linearization.proofs.Updates.{ifb-eq}
-use Rattle.linearization.proofs.Serving.{feeds, after, Served, Free, Alike, ll-alike, served-alike, after-alike}
-use Rattle.linearization.proofs.Serving.{success, successes, successes-alike, link-after, after-append}
-use Rattle.linearization.proofs.Serving.{served-parts, served-append, successes-append}
-use Rattle.linearization.proofs.Sorting.{all-map, upto, past, upto-past, insert-between, upto-low, upto-append, free-upto}
+use Rattle.llsc.specs.Answers.{llWords}
+use Rattle.llsc.specs.Object.{ll, Object, feed}
+use Rattle.llsc.specs.Linearizable.{Timed, insert}
+use Rattle.laws.proofs.Updates.{ifb-eq}
+use Rattle.serving.proofs.Serving.{feeds, after, Served, Free, Alike, ll-alike, served-alike, after-alike}
+use Rattle.serving.proofs.Serving.{success, successes, successes-alike, link-after, after-append}
+use Rattle.serving.proofs.Serving.{served-parts, served-append, successes-append}
+use Rattle.serving.proofs.Sorting.{all-map, upto, past, upto-past, insert-between, upto-low, upto-append, free-upto}
 
 -- what becomes of served calls when the call is inserted
 pub record Inserted (o : Object) (us : List Timed) (t : Timed) : Type 0 where

@@ -6,8 +6,8 @@ use Prim.Native.Nat.{ℕ, zero, suc, _≤_}
 use lib.Dec.{eqb}
 use lib.ListN.{getD}
 use borrow.Author.Tests.{leb-true, eqb-false, not-true, not-false}
-use Rattle.model.specs.Refusals.{Row, first, between, every}
-use Rattle.linearization.proofs.Updates.{contra}
+use Rattle.llsc.specs.Rows.{Row, first, between, every}
+use Rattle.laws.proofs.Updates.{contra}
 
 pub and-true : (a b : Bool) → a && b ≡ true → (a ≡ true) × (b ≡ true)
 and-true true b e = (refl, e)

@@ -7,10 +7,10 @@ use native.Mathlib.Omega.{arith}
 use native.Mathlib.Decide.{ℕ-discrete}
 use lib.Dec.{eqb}
 use borrow.Author.Tests.{eq-eqb, ne-eqb}
-use Rattle.model.specs.Replies.{Answer, llWords, scTruth, vlTruth}
-use Rattle.model.specs.Object.{Kind, ll, sc, vl, Object, tell, feed, serve}
-use Rattle.model.specs.Linearizable.{Timed, fed}
-use Rattle.linearization.proofs.Updates.{ifb-ne}
+use Rattle.llsc.specs.Answers.{Answer, llWords, scTruth, vlTruth}
+use Rattle.llsc.specs.Object.{Kind, ll, sc, vl, Object, tell, feed, serve}
+use Rattle.llsc.specs.Linearizable.{Timed, fed}
+use Rattle.laws.proofs.Updates.{ifb-ne}
 
 -- the object's answer to a timed call, and the object after it
 abbrev pub tells : Timed → Object → Answer

@@ -11,9 +11,9 @@ use native.Mathlib.Omega.{arith}
 use lib.Dec.{leb}
 use lib.ListN.{length}
 use borrow.Author.Tests.{le-leb, lt-leb}
-use Rattle.model.specs.Object.{Object, fresh}
-use Rattle.model.specs.Linearizable.{All, Timed, insert, sortInto, inMomentOrder, Distinct, Inside, Linearization}
-use Rattle.linearization.proofs.Serving.{Served, served-answers, feeds}
+use Rattle.llsc.specs.Object.{Object, fresh}
+use Rattle.llsc.specs.Linearizable.{All, Timed, insert, sortInto, inMomentOrder, Distinct, Inside, Linearization}
+use Rattle.serving.proofs.Serving.{Served, served-answers, feeds}
 
 -- a call takes effect after the command that starts it, and not after the one that answers it
 abbrev pub Within : Timed → Type 0

@@ -2,7 +2,7 @@
 use mathlib.Core.Path.{_≡_, sym, ap, _∙_}
 use Prim.Native.Nat.{ℕ, zero, suc, _<_}
 use native.Mathlib.Omega.{arith}
-use Rattle.linearization.proofs.Updates.{Split, same, other, split, tr, tr-tr, Tr, left, right, off, trOf}
+use Rattle.laws.proofs.Updates.{Split, same, other, split, tr, tr-tr, Tr, left, right, off, trOf}
 
 -- below n, and different below n are different values
 pub record Injection (n : ℕ) (f : ℕ → ℕ) : Type 0 where

@@ -6,9 +6,9 @@ use Prim.Native.Nat.{ℕ, _≤_, _<_}
 use native.Mathlib.Omega.{arith}
 use lib.Dec.{leb}
 use borrow.Author.Tests.{leb-true, leb-false, le-leb, lt-leb}
-use Rattle.model.specs.Linearizable.{All, Timed, insert, sortInto}
-use Rattle.linearization.proofs.Updates.{by-test}
-use Rattle.linearization.proofs.Serving.{Free}
+use Rattle.llsc.specs.Linearizable.{All, Timed, insert, sortInto}
+use Rattle.laws.proofs.Updates.{by-test}
+use Rattle.serving.proofs.Serving.{Free}
 
 -- every call
 pub all-map : (P R : Timed → Type 0) → ((t : Timed) → P t → R t) → (ts : List Timed) → All P ts → All R ts

@@ -3,7 +3,7 @@ use Prim.Native.Nat.{ℕ}
 use mathlib.Core.List.{List, [], _∷_}
 use mathlib.Core.Bool.{Bool, true, false, cond}
 use lib.Dec.{eqb}
-use Rattle.model.specs.Replies.{Answer, llWords, scTruth, vlTruth}
+use Rattle.llsc.specs.Answers.{Answer, llWords, scTruth, vlTruth}
 
 -- the kind of a call, with the words that an SC offers
 pub data Kind : Type 0 where

@@ -1,0 +1,5 @@
+pub mod Answers
+pub mod Object
+pub mod History
+pub mod Linearizable
+pub mod Rows

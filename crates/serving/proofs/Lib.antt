@@ -1,0 +1,5 @@
+pub mod Serving
+pub mod Sorting
+pub mod Insertion
+pub mod Moments
+pub mod RefusalFacts
