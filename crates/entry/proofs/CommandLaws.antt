@@ -20,10 +20,9 @@ use Rattle.llsc.specs.Rows.{Row, first, every}
 use Rattle.model.specs.Refusals.{rowsOf}
 use Rattle.model.specs.Command.{command}
 use Rattle.tables.specs.declared.records.Records.{Records}
-use Rattle.machine.specs.declared.Outcome.{Outcome}
 use Rattle.taken.specs.Ranges.{Obeyable}
 use Rattle.rows.specs.CommandRows.{rangesOk, decisionNumber}
-use Rattle.machine.specs.Decision.{refusedOutcome, obeyedAt, decided, storedBack}
+use Rattle.machine.specs.Decision.{Outcome, refusedOutcome, obeyedAt, decided, storedBack}
 use Rattle.tables.specs.Gathered.{gathered}
 use Rattle.laws.proofs.AndLaws.{left, right}
 use Rattle.rows.proofs.RowLaws.{Cleared, none-holds}

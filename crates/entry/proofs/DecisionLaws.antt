@@ -18,7 +18,7 @@ use Rattle.model.specs.Records.{noProcess}
 use Rattle.model.specs.Words.{returnArea, returnWord}
 use Rattle.llsc.specs.Rows.{every}
 use Rattle.model.specs.Refusals.{inRange, benchOk, processOk, bufferOk, xOk, lineOk, countOk, isIdle}
-use Rattle.machine.specs.declared.Outcome.{Outcome}
+use Rattle.machine.specs.Decision.{Outcome}
 use Rattle.laws.proofs.AndLaws.{right}
 use Rattle.laws.proofs.ListLaws.{every-at}
 use Rattle.rows.proofs.RowLaws.{Cleared}

@@ -23,10 +23,9 @@ use Rattle.model.specs.Refusals.{row5, row6, row7}
 use Rattle.model.specs.Replies.{numberOf}
 use Rattle.taken.specs.declared.Taken.{Taken}
 use Rattle.taken.specs.declared.Stepped.{Stepped}
-use Rattle.machine.specs.declared.Outcome.{Outcome}
 use Rattle.llsc.specs.Rows.{row8}
 use Rattle.rows.specs.CommandRows.{decisionNumber, lateNumber}
-use Rattle.machine.specs.Decision.{refusedOutcome, obeyedOutcome, decided}
+use Rattle.machine.specs.Decision.{Outcome, refusedOutcome, obeyedOutcome, decided}
 use Rattle.taken.specs.Ranges.{Ready}
 use Rattle.taken.specs.Taken.{bankIndex, helpIndex, takenAt, putTaken, putBack}
 use Rattle.rows.proofs.RowLaws.{late-decides}

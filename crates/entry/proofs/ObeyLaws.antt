@@ -121,7 +121,7 @@ module _ {b : Bench} {q : Process} {p : ProcessNumber} {ws : List ℕ} (r : Read
   step-obeyed line23 = quiet _ refl refl vl
 
   pub order-obeyed : (o : Order) (v : List ℕ) → Every v → Obeyed b q ws (obey o p v b q ws)
-  unfolding obey
+  unfolding obey stepAt
   order-obeyed StartLl v e = quiet _ refl refl accepted
   order-obeyed StartSc v e = record { n = refl; w = refl; words = length-sets ws (offerWord (b .n) (b .w) p 0) v; small = λ s. below-sets ws (offerWord (b .n) (b .w) p 0) v e s; reply = accepted }
   order-obeyed StartVl v e = quiet _ refl refl accepted

@@ -15,8 +15,7 @@ use Rattle.model.specs.declared.Reply.{Reply}
 use Rattle.model.specs.declared.Reply.the-variants.{Refused, Accepted, LlAnswered, ScAnswered, VlAnswered}
 use Rattle.model.specs.Machine.{Memory}
 use Rattle.model.specs.Command.{command}
-use Rattle.machine.specs.declared.Outcome.{Outcome}
-use Rattle.machine.specs.Decision.{decided, storedBack}
+use Rattle.machine.specs.Decision.{Outcome, decided, storedBack}
 use Rattle.notation.specs.declared.Entry.{Entry}
 use Rattle.notation.specs.declared.Entry.the-variants.{StartLl, StartVl, StartSc, Step, Finish}
 use Rattle.listing.specs.Writing.{Wrote}

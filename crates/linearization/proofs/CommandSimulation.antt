@@ -44,7 +44,7 @@ use Rattle.linearization.proofs.Outcome.{cmdOf, refusedWith, started, s
 use Rattle.linearization.proofs.GhostCommands.{silent-start, silent-out, silent-idle, exec-out, exec-short, exec-start, exec-busy, exec-bare, exec-step, exec-idle}
 
 -- rows 4, 8, 5, 6, 7, from their tests: p not below N, the process idle, an LL answered, the value of W words
-abbrev late : Bool → Order → Bool → Bool → Bool → ℕ
+abbrev pub late : Bool → Order → Bool → Bool → Bool → ℕ
 late a o i r l = cond a 4 (cond (bringsValue o && not l) 8 (cond (isStart o && not i) 5 (cond (not (isStart o) && i) 6 (cond (needsLl o && not r) 7 0))))
 
 late-sound : (a : Bool) (o : Order) (i r l : Bool) → NotLentMemory (late a o i r l)
@@ -74,7 +74,7 @@ start-reply Step p v b q ws e = absurd (contra e refl)
 module _ (N W n : ℕ) (m : Memory) (z : State) (r : Related N W m z) (ok : InRanges N (halves W) z) (counts : (q : ℕ) → q < N → CountIn W (z .loc q))
     (places : PInv N (halves W) z) where
   -- rows 1, 2, 3 and 9 do not hold
-  refusal-late : (p : ℕ) (o : Order) (v : List ℕ)
+  pub refusal-late : (p : ℕ) (o : Order) (v : List ℕ)
       → refusal m p o v ≡ late (leb N p) o (Refusals.isIdle (recordAt (m .records) (record { 0 = p }))) (recordAt (m .records) (record { 0 = p }) .answered) (eqb (length v) W)
   unfolding refusal
   refusal-late p o v =
@@ -83,7 +83,7 @@ module _ (N W n : ℕ) (m : Memory) (z : State) (r : Related N W m z) (ok : InRa
       (skip _ _ _ (ap not (ap₂ _&&_ a (le-leb N 16 (s .n-high)))) ∙ skip _ _ _ (ap not (ap₂ _&&_ b (le-leb W 64 (s .w-high))))
       ∙ skip _ _ _ (ap₂ _||_ (le-ltb (length (m .words)) (5 * N * W) (r .places .words .len)) (le-ltb (length (m .records)) N (r .records-length))))
 
-  too-high : (p : ℕ) (o : Order) (v : List ℕ) → leb N p ≡ true → refusal m p o v ≡ 4
+  pub too-high : (p : ℕ) (o : Order) (v : List ℕ) → leb N p ≡ true → refusal m p o v ≡ 4
   too-high p o v e = refusal-late p o v ∙ ap (λ a. late a o (Refusals.isIdle (recordAt (m .records) (record { 0 = p }))) (recordAt (m .records) (record { 0 = p }) .answered) (eqb (length v) W)) e
 
   -- (a) the memory is never at fault
@@ -96,11 +96,11 @@ module _ (N W n : ℕ) (m : Memory) (z : State) (r : Related N W m z) (ok : InRa
     abbrev me : ProcessNumber
     me = record { 0 = p }
 
-    refuses : (k : ℕ) → (k ≡ 0 → ⊥) → refusal m p o v ≡ k → command m p o v ≡ (Refused k, m)
+    pub refuses : (k : ℕ) → (k ≡ 0 → ⊥) → refusal m p o v ≡ k → command m p o v ≡ (Refused k, m)
     unfolding command
     refuses k ne e = ap (λ j. cond (eqb j 0) (obeyed m me o v) (Refused j, m)) e ∙ ap (λ b. cond b (obeyed m me o v) (Refused k, m)) (ne-eqb k 0 ne)
 
-    obeys : refusal m p o v ≡ 0 → command m p o v ≡ obeyed m me o v
+    pub obeys : refusal m p o v ≡ 0 → command m p o v ≡ obeyed m me o v
     unfolding command
     obeys e = ap (λ b. cond b (obeyed m me o v) (Refused (refusal m p o v), m)) (eq-eqb _ 0 e)
 
@@ -139,10 +139,10 @@ module _ (N W n : ℕ) (m : Memory) (z : State) (r : Related N W m z) (ok : InRa
     obey-is o v = ap₂ (λ b q. obey o (record { 0 = p }) v b q (m .words)) bench-is (r .process p hp)
 
     step-is : (v : List ℕ) → obey Step (record { 0 = p }) v bench (recordOf (z .loc p)) (m .words) ≡ Machine.stepAt (z .loc p .point) (record { 0 = p }) bench (recordOf (z .loc p)) (m .words)
-    unfolding obey
+    unfolding obey Machine.stepAt
     step-is v = ap (λ y. Machine.stepAt y (record { 0 = p }) bench (recordOf (z .loc p)) (m .words)) (point-of (z .loc p .point))
 
-    tests : (o : Order) (v : List ℕ) → refusal m p o v ≡ late false o (PointFacts.isIdle (z .loc p .point)) (z .loc p .answered) (eqb (length v) W)
+    pub tests : (o : Order) (v : List ℕ) → refusal m p o v ≡ late false o (PointFacts.isIdle (z .loc p .point)) (z .loc p .answered) (eqb (length v) W)
     tests o v =
         refusal-late p o v ∙ ap (λ a. late a o (Refusals.isIdle (recordAt (m .records) (record { 0 = p }))) (recordAt (m .records) (record { 0 = p }) .answered) (eqb (length v) W)) (lt-leb N p hp)
         ∙ ap (λ q. late false o (Refusals.isIdle q) (q .answered) (eqb (length v) W)) (r .process p hp)

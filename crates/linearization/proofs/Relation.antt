@@ -130,7 +130,7 @@ put-place P n xs d a i hi hn here there j hj = go (split j i)
     go (other ne) = rw (getD-set-other xs i j a d ne) (there j hj ne)
 
 -- rows of W words: a word's place tells its row and its place in the row
-addr : (W r k q j : ℕ) → k < W → j < W → r * W + k ≡ q * W + j → (r ≡ q) × (k ≡ j)
+pub addr : (W r k q j : ℕ) → k < W → j < W → r * W + k ≡ q * W + j → (r ≡ q) × (k ≡ j)
 addr W r k q j hk hj e = go (decLt r q) (decLt q r)
   where
     go : Dec (r < q) → Dec (q < r) → (r ≡ q) × (k ≡ j)
@@ -139,7 +139,7 @@ addr W r k q j hk hj e = go (decLt r q) (decLt q r)
     go (no a) (no b) = let z : r ≡ q = omega arith in (z, let y : r * W ≡ q * W = ap (_* W) z in omega arith)
 
 -- a word of another row does not lie in row q
-row-out : (W r q j : ℕ) → j < W → (r ≡ q → ⊥) → q * W ≤ r * W + j → r * W + j < q * W + W → ⊥
+pub row-out : (W r q j : ℕ) → j < W → (r ≡ q → ⊥) → q * W ≤ r * W + j → r * W + j < q * W + W → ⊥
 row-out W r q j hj ne a b = go (decLt r q) (decLt q r)
   where
     go : Dec (r < q) → Dec (q < r) → ⊥

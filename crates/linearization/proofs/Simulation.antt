@@ -23,7 +23,7 @@ use Rattle.model.specs.declared.Reply.the-variants.{Accepted, LlAnswered, ScAns
 use Rattle.model.specs.declared.Moved.{Moved}
 use Rattle.model.specs.Places.{linked, link, noLinks, writeHelp, llHelp, llBank}
 use Rattle.model.specs.Sizes.{halves}
-use Rattle.model.specs.Words.{wordOf, half, withHalf}
+use Rattle.model.specs.Words.{oneRecord, wordOf, half, withHalf}
 use Rattle.model.specs.Tables.{noBank, noHelp}
 use Rattle.model.specs.Records
 use Rattle.model.specs.Machine
@@ -315,7 +315,7 @@ module _ (N W : ℕ) (x : XPlace) (ks : List BankPlace) (hs : List HelpPlace) (w
   withRead b = GhostMachine.setReturned (f .word) (h .buf b (f .word)) f
 
   abbrev AfterRead : ℕ → Point → Local → Type 0
-  AfterRead b y′ l = Made N W p z (Machine.onRead me (record { 0 = b }) (doWord (halves W) y′ (recordOf f)) (bench x ks hs) (recordOf f) ws) (quiet z p l)
+  AfterRead b y′ l = Made N W p z (Machine.onRead (oneRecord N) me (record { 0 = b }) (doWord (halves W) y′ (recordOf f)) (bench x ks hs) (recordOf f) ws) (quiet z p l)
 
   reads : (y y′ : Point) → f .point ≡ y → (b : ℕ) → b < 3 * N → AfterRead b y′ (GhostMachine.word (halves W) y y′ (withRead b))
   reads y y′ e b hb =

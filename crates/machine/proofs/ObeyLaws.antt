@@ -48,9 +48,6 @@ module _ (b : Bench) (list : List Process) (len p : ℕ) (o : Order) (value word
         value = h .given;
       }
 
-  pub process-small : decisionNumber b list len p o (length value) (length words) ≡ 0 → p < 16
-  process-small e = let h = none-holds b list len p o (length value) (length words) e in omega (arith, h .process, h .n-most)
-
   -- the two answers of a decision
   pub refused-law : (k : ℕ) → k ≡ decisionNumber b list len p o (length value) (length words) → (k ≡ 0 → ⊥) → (refusedOutcome b len k, words) ≡ decided b list len p o value words
   unfolding decided

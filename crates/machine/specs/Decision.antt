@@ -13,8 +13,14 @@ use Rattle.model.specs.declared.Reply.the-variants.{Refused}
 use Rattle.model.specs.declared.Moved.{Moved}
 use Rattle.model.specs.Records.{noProcess, recordAt}
 use Rattle.model.specs.Machine.{Memory, obey}
-use Rattle.machine.specs.declared.Outcome.{Outcome}
 use Rattle.rows.specs.CommandRows.{decisionNumber}
+
+-- what a command comes to: the record `process` is to be stored at place `at`
+pub record Outcome : Type 0 where
+  pub bench : Bench
+  pub at : ℕ
+  pub process : Process
+  pub reply : Reply
 
 -- A refusal names place `len`, where a store does nothing.
 abbrev pub refusedOutcome : Bench → ℕ → ℕ → Outcome

@@ -22,7 +22,7 @@ use Rattle.model.specs.declared.WordStep.{WordStep}
 use Rattle.model.specs.declared.Moved.{Moved}
 use Rattle.model.specs.Tables.{bankAt, helpAt, putX, putBank, putHelp, next, helped}
 use Rattle.model.specs.Sizes.{halves}
-use Rattle.model.specs.Words.{bufferWord, returnWord, offerWord, wordOf, copiedHalf}
+use Rattle.model.specs.Words.{Layout, oneRecord, bufferIn, returnIn, offerIn, wordOf, copiedHalf}
 use Rattle.model.specs.Points.{Point, pointOf, idle, line1, line2, line3, line4, line5, line6, line7, line7copy}
 use Rattle.model.specs.Points.{line8, line9, line10, line11, line12, line12valid, line13, line14, line14valid}
 use Rattle.model.specs.Points.{line15, line17, line18, line19, line23}
@@ -54,44 +54,52 @@ onBank i line b q ws = (record { bench = putBank b i (line (bankAt b i) q .place
 abbrev pub onHelp : ProcessNumber → (HelpPlace → Process → HelpStep) → Bench → Process → List ℕ → Moved × List ℕ
 onHelp i line b q ws = (record { bench = putHelp b i (line (helpAt b i) q .place); process = line (helpAt b i) q .process; reply = Accepted }, ws)
 
--- a half word of BUF[f], at the word place, into p's return area
-abbrev pub onRead : ProcessNumber → BufferNumber → WordStep → Bench → Process → List ℕ → Moved × List ℕ
-onRead p f step b q ws = (record { bench = b; process = step .process; reply = step .reply }, copiedHalf ws (q .word) (bufferWord (b .w) f (wordOf (q .word))) (returnWord (b .n) (b .w) p (wordOf (q .word))))
+-- a half word of BUF[f], at the word place, into p's return area; l is the layout of the record's words
+abbrev pub onRead : Layout → ProcessNumber → BufferNumber → WordStep → Bench → Process → List ℕ → Moved × List ℕ
+onRead l p f step b q ws = (record { bench = b; process = step .process; reply = step .reply }, copiedHalf ws (q .word) (bufferIn l (b .w) f (wordOf (q .word))) (returnIn l (b .w) p (wordOf (q .word))))
 
 -- a half of the word at `from`, of p's return or offer area, into BUF[mybuf] at the word place
-abbrev pub onWrite : ℕ → WordStep → Bench → Process → List ℕ → Moved × List ℕ
-onWrite from step b q ws = (record { bench = b; process = step .process; reply = step .reply }, copiedHalf ws (q .word) from (bufferWord (b .w) (q .mybuf) (wordOf (q .word))))
+abbrev pub onWrite : Layout → ℕ → WordStep → Bench → Process → List ℕ → Moved × List ℕ
+onWrite l from step b q ws = (record { bench = b; process = step .process; reply = step .reply }, copiedHalf ws (q .word) from (bufferIn l (b .w) (q .mybuf) (wordOf (q .word))))
 
 -- Figure 2, point by point. (A step at an idle process is refused, row 6.)
+abbrev pub stepIn : Layout → Point → ProcessNumber → Bench → Process → List ℕ → Moved × List ℕ
+stepIn l idle p b q ws = (record { bench = b; process = q; reply = Accepted }, ws)
+stepIn l line1 p b q ws = onHelp p doLine1 b q ws
+stepIn l line2 p b q ws = onX (doLine2 line3 p) b q ws
+stepIn l line3 p b q ws = onRead l p (q .x .buf) (doWord (halves (b .w)) line4 q) b q ws
+stepIn l line4 p b q ws = onHelp p (doLine4 p) b q ws
+stepIn l line5 p b q ws = onX (doLine2 line6 p) b q ws
+stepIn l line6 p b q ws = onRead l p (q .x .buf) (doWord (halves (b .w)) line7 q) b q ws
+stepIn l line7 p b q ws = onX (doLine7 p) b q ws
+stepIn l line7copy p b q ws = onRead l p (q .b) (doWord (halves (b .w)) line8 q) b q ws
+stepIn l line8 p b q ws = onHelp p (doLine8 p) b q ws
+stepIn l line9 p b q ws = onHelp p (doLine9 p) b q ws
+stepIn l line10 p b q ws = onHelp p doLine10 b q ws
+stepIn l line11 p b q ws = onWrite l (returnIn l (b .w) p (wordOf (q .word))) (doLine11 (halves (b .w)) q) b q ws
+stepIn l line12 p b q ws = onBank (q .x .seq) (doLine12 p) b q ws
+stepIn l line12valid p b q ws = onX (doLine12Valid p) b q ws
+stepIn l line13 p b q ws = onBank (q .x .seq) (doLine13 p) b q ws
+stepIn l line14 p b q ws = onHelp (helped (b .n) (q .x .seq)) (doLine14 p) b q ws
+stepIn l line14valid p b q ws = onX (doLine14Valid p) b q ws
+stepIn l line15 p b q ws = onHelp (helped (b .n) (q .x .seq)) (doLine15 p) b q ws
+stepIn l line17 p b q ws = onWrite l (offerIn l (b .w) p (wordOf (q .word))) (doWord (halves (b .w)) line18 q) b q ws
+stepIn l line18 p b q ws = onBank (next (b .n) (q .x .seq)) doLine18 b q ws
+stepIn l line19 p b q ws = onX (doLine19 (b .n) p) b q ws
+stepIn l line23 p b q ws = onX (doLine23 p) b q ws
+
+-- one record alone
 unfoldable pub stepAt : Point → ProcessNumber → Bench → Process → List ℕ → Moved × List ℕ
-stepAt idle p b q ws = (record { bench = b; process = q; reply = Accepted }, ws)
-stepAt line1 p b q ws = onHelp p doLine1 b q ws
-stepAt line2 p b q ws = onX (doLine2 line3 p) b q ws
-stepAt line3 p b q ws = onRead p (q .x .buf) (doWord (halves (b .w)) line4 q) b q ws
-stepAt line4 p b q ws = onHelp p (doLine4 p) b q ws
-stepAt line5 p b q ws = onX (doLine2 line6 p) b q ws
-stepAt line6 p b q ws = onRead p (q .x .buf) (doWord (halves (b .w)) line7 q) b q ws
-stepAt line7 p b q ws = onX (doLine7 p) b q ws
-stepAt line7copy p b q ws = onRead p (q .b) (doWord (halves (b .w)) line8 q) b q ws
-stepAt line8 p b q ws = onHelp p (doLine8 p) b q ws
-stepAt line9 p b q ws = onHelp p (doLine9 p) b q ws
-stepAt line10 p b q ws = onHelp p doLine10 b q ws
-stepAt line11 p b q ws = onWrite (returnWord (b .n) (b .w) p (wordOf (q .word))) (doLine11 (halves (b .w)) q) b q ws
-stepAt line12 p b q ws = onBank (q .x .seq) (doLine12 p) b q ws
-stepAt line12valid p b q ws = onX (doLine12Valid p) b q ws
-stepAt line13 p b q ws = onBank (q .x .seq) (doLine13 p) b q ws
-stepAt line14 p b q ws = onHelp (helped (b .n) (q .x .seq)) (doLine14 p) b q ws
-stepAt line14valid p b q ws = onX (doLine14Valid p) b q ws
-stepAt line15 p b q ws = onHelp (helped (b .n) (q .x .seq)) (doLine15 p) b q ws
-stepAt line17 p b q ws = onWrite (offerWord (b .n) (b .w) p (wordOf (q .word))) (doWord (halves (b .w)) line18 q) b q ws
-stepAt line18 p b q ws = onBank (next (b .n) (q .x .seq)) doLine18 b q ws
-stepAt line19 p b q ws = onX (doLine19 (b .n) p) b q ws
-stepAt line23 p b q ws = onX (doLine23 p) b q ws
+stepAt y p b q ws = stepIn (oneRecord (b .n)) y p b q ws
 
 -- What an accepted order does to its process. "A start places the process at its first line, puts SC's words in the
 -- offer area, sets the count to 0 and touches nothing shared."
+abbrev pub obeyIn : Layout → Order → ProcessNumber → List ℕ → Bench → Process → List ℕ → Moved × List ℕ
+obeyIn l StartLl p value b q ws = (record { bench = b; process = begin line1 q; reply = Accepted }, ws)
+obeyIn l StartSc p value b q ws = (record { bench = b; process = begin line12 q; reply = Accepted }, sets ws (offerIn l (b .w) p 0) value)
+obeyIn l StartVl p value b q ws = (record { bench = b; process = begin line23 q; reply = Accepted }, ws)
+obeyIn l Step p value b q ws = stepIn l (pointOf (q .line)) p b q ws
+
+-- one record alone
 unfoldable pub obey : Order → ProcessNumber → List ℕ → Bench → Process → List ℕ → Moved × List ℕ
-obey StartLl p value b q ws = (record { bench = b; process = begin line1 q; reply = Accepted }, ws)
-obey StartSc p value b q ws = (record { bench = b; process = begin line12 q; reply = Accepted }, sets ws (offerWord (b .n) (b .w) p 0) value)
-obey StartVl p value b q ws = (record { bench = b; process = begin line23 q; reply = Accepted }, ws)
-obey Step p value b q ws = stepAt (pointOf (q .line)) p b q ws
+obey o p value b q ws = obeyIn (oneRecord (b .n)) o p value b q ws

@@ -9,7 +9,28 @@ use Rattle.model.specs.Sizes.{buffers, rowsBeforeOffers}
 use Rattle.model.specs.declared.BufferNumber.{BufferNumber}
 use Rattle.llsc.specs.declared.ProcessNumber.{ProcessNumber}
 
--- where word k of BUF[b] lies
+-- Where a record's words lie, in rows of W: the row of BUF[b], and the rows at which the return areas and the offer
+-- areas begin. "The words lent become (3R + 2) × N × W for R records": the areas are shared by them.
+pub record Layout : Type 0 where
+  pub buffer : ℕ → ℕ
+  pub returns : ℕ
+  pub offers : ℕ
+
+-- one record alone: the rows named above
+abbrev pub oneRecord : ℕ → Layout
+oneRecord n = record { buffer = λ b. b; returns = buffers n; offers = 4 * n }
+
+-- where word k of BUF[b] lies, of p's return area, of p's offer area
+abbrev pub bufferIn : Layout → ℕ → BufferNumber → ℕ → ℕ
+bufferIn l w b k = l .buffer (b .0) * w + k
+
+abbrev pub returnIn : Layout → ℕ → ProcessNumber → ℕ → ℕ
+returnIn l w p k = (l .returns + p .0) * w + k
+
+abbrev pub offerIn : Layout → ℕ → ProcessNumber → ℕ → ℕ
+offerIn l w p k = (l .offers + p .0) * w + k
+
+-- where word k of BUF[b] lies, for one record alone
 abbrev pub bufferWord : ℕ → BufferNumber → ℕ → ℕ
 bufferWord w b k = b .0 * w + k
 

@@ -97,10 +97,6 @@ module _ (n w records words : ℕ) where
         records-lent = ltb-false records n (few .1);
       }
 
-  pub lent-in-order : lentNumber n w records words ≡ 0 → LentInOrder n w records words
-  unfolding lentNumber
-  lent-in-order e = in-order (none-of-three 0 e)
-
   -- where no row holds of a list that begins with them
   pub begins-in-order : (rest : ℕ) → lentThen rest ≡ 0 → LentInOrder n w records words × (rest ≡ 0)
   begins-in-order rest e = let l = none-of-three rest e in (in-order l, l .others)

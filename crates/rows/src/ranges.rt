@@ -3,12 +3,11 @@
 ghost use mathlib.Core.Path.{_≡_};
 ghost use Prim.Native.Nat.{_≤_};
 ghost use mathlib.Core.Bool.{_&&_};
-ghost use mathlib.Core.List.{[]};
 ghost use lib.Dec.{ltb};
 ghost use lib.ListN.{take};
 ghost use Rattle.model.specs.Sizes.{sequenceNumbers, halves};
 ghost use Rattle.llsc.specs.Rows.{every};
-ghost use Rattle.model.specs.Refusals.{bufferOk, sequenceOk, xOk, linksOk, xPlaceOk, bankPlaceOk, helpPlaceOk, lineOk, countOk, processOk, benchOk, inRange};
+ghost use Rattle.model.specs.Refusals.{bufferOk, sequenceOk, xOk, linksOk, xPlaceOk, bankPlaceOk, helpPlaceOk, lineOk, countOk, processOk, benchOk};
 use lines::points;
 use model::BankPlace;
 use model::Bench;
@@ -19,7 +18,6 @@ use model::SequenceNumber;
 use model::XContent;
 use model::XPlace;
 use model::sizes;
-use tables::records::Records;
 
 // A buffer number is below 3N.
 pub fn buffer_ok(n: usize, b: BufferNumber) -> bool
@@ -220,31 +218,4 @@ pub fn bench_ok(bench: Bench) -> bool
         return false;
     }
     helps_ok(bench)
-}
-
-// The first N of sixteen records.
-pub fn records_ok(n: usize, w: usize, all: Records) -> bool
-    requires { ⌜ (n ≤ 16) × (w ≤ 64) ⌝ }
-    ensures { λ r. ⌜ r ≡ every (processOk n w) (take n (all .list)) ⌝ }
-{
-    let mut i = 0;
-    while i < n {
-        let process = all.list[i];
-        if !process_ok(n, w, process) {
-            return false;
-        }
-        i += 1;
-    }
-    true
-}
-
-// Row 9, over the bench and the records.
-pub fn in_range(bench: Bench, all: Records) -> bool
-    requires { ⌜ (bench .n ≤ 16) × (bench .w ≤ 64) ⌝ }
-    ensures { λ r. ⌜ r ≡ inRange (record { bench = bench; records = all .list; words = [] }) ⌝ }
-{
-    if !bench_ok(bench) {
-        return false;
-    }
-    records_ok(bench.n, bench.w, all)
 }

@@ -18,8 +18,7 @@ use Rattle.model.specs.Command.{command}
 use Rattle.tables.specs.Gathered.{gathered}
 use Rattle.tables.proofs.GatheredLaws.{gathered-length}
 use Rattle.words.proofs.WordLaws.{within}
-use Rattle.machine.specs.declared.Outcome.{Outcome}
-use Rattle.machine.specs.Decision.{storedBack}
+use Rattle.machine.specs.Decision.{Outcome, storedBack}
 use Rattle.machine.proofs.DecisionLaws.{decision-law}
 use Rattle.semantics.specs.TextRun.{lineOf}
 use Rattle.entry.proofs.WordLaws.{Below, Every}

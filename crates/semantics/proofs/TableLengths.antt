@@ -56,7 +56,7 @@ module _ (p : ProcessNumber) (b : Bench) (q : Process) (ws : List ℕ) where
   step-lengths line23 = record { bank = refl; help = refl }
 
   obeyed-lengths : (o : Order) (value : List ℕ) → SameLengths b (obey o p value b q ws .0 .bench)
-  unfolding obey
+  unfolding obey stepAt
   obeyed-lengths StartLl value = record { bank = refl; help = refl }
   obeyed-lengths StartSc value = record { bank = refl; help = refl }
   obeyed-lengths StartVl value = record { bank = refl; help = refl }

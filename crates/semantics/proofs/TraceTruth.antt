@@ -13,7 +13,7 @@ use Rattle.llsc.specs.declared.Order.the-variants as order
 use Rattle.model.specs.Records.{recordAt}
 use Rattle.model.specs.Points.{pointOf}
 use Rattle.model.specs.Words.{offerWord, bufferWord, wordOf, half}
-use Rattle.model.specs.Machine.{Memory, Shaped, obey}
+use Rattle.model.specs.Machine.{Memory, Shaped, stepAt, obey}
 use Rattle.model.specs.Command.{refusal, obeyed}
 use Rattle.model.specs.SetUp.{setUp}
 use Rattle.model.specs.Replies.{numberOf}
@@ -73,7 +73,7 @@ pub data Told (s : Progress) : Progress → Type 0 where
 
 -- an accepted step
 step-true : {m : Memory} → Reached m → (p : ℕ) → refusal m p order.Step [] ≡ 0 → StepTrue p m (obeyed m (record { 0 = p }) order.Step [] .1)
-unfolding obey
+unfolding obey stepAt
 step-true {m} r p z = trace-is-true (stepped r p z) (pointOf (recordAt (m .records) (record { 0 = p }) .line)) (at-work r p z)
 
 -- a start writes at most the own offer area, which lies behind BUF

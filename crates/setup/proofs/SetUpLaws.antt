@@ -17,9 +17,8 @@ use Rattle.model.specs.declared.Process.{Process}
 use Rattle.model.specs.Tables.{putBank, putHelp}
 use Rattle.model.specs.Machine.{Memory}
 use Rattle.model.specs.SetUp.{numbers, bankAtSetUp, helpAtSetUp, benchAtSetUp, wordsAtSetUp, setUp, setUpRefusal}
-use Rattle.setup.specs.declared.Prepared.{Prepared}
 use Rattle.llsc.specs.Rows.{row8always}
-use Rattle.setup.specs.SetUpByValue.{setUpNumber, set-up-number, banksSet, helpsSet, Accepted, prepared, recordsSet}
+use Rattle.setup.specs.SetUpByValue.{setUpNumber, banksSet, helpsSet, Accepted}
 use Rattle.laws.proofs.ListLaws.{sets-append, sets-replicate}
 use Rattle.rows.proofs.RowLaws.{cleared, begins-in-order}
 
@@ -65,35 +64,3 @@ set-up-fits n w len words value e =
       words-lent = c3 .0 .words-lent;
       value-words = eqb-true value w (not-false (eqb value w) (c8 .0));
     }
-
--- the two answers of a set-up
-module _ (b : Bench) (len n w : ℕ) (value ws : List ℕ) where
-  pub prepared-refused : (k : ℕ) → k ≡ setUpNumber n w len (length ws) (length value) → (k ≡ 0 → ⊥)
-      → _≡_ {A = Prepared × List ℕ} (record { number = k; bench = b }, ws) (prepared b len n w value ws)
-  unfolding prepared
-  prepared-refused k e h = rw e (simp (ne-eqb (setUpNumber n w len (length ws) (length value)) 0 (λ z. h (e ∙ z))))
-
-  pub prepared-done : setUpNumber n w len (length ws) (length value) ≡ 0
-      → _≡_ {A = Prepared × List ℕ} (record { number = 0; bench = benchAtSetUp b n w }, wordsAtSetUp ws n w value) (prepared b len n w value ws)
-  unfolding prepared
-  prepared-done e = simp (eq-eqb (setUpNumber n w len (length ws) (length value)) 0 e)
-
--- The by-value set-up is the set-up, once the records are set up too.
-module _ (b : Bench) (rs : List Process) (ws : List ℕ) (n w : ℕ) (value : List ℕ) where
-  abbrev number : ℕ
-  number = setUpNumber n w (length rs) (length ws) (length value)
-
-  by-number : (k : ℕ) → number ≡ k → recordsSet rs n (prepared b (length rs) n w value ws) ≡ setUp (record { bench = b; records = rs; words = ws }) n w value
-  unfolding prepared setUp
-  by-number zero e =
-      let m : Memory = record { bench = b; records = rs; words = ws } in
-      let s : setUpRefusal m n w value ≡ 0 = sym (set-up-number m n w value) ∙ e in
-      simp (eq-eqb number 0 e, s)
-  by-number (suc k) e =
-      let m : Memory = record { bench = b; records = rs; words = ws } in
-      let s : setUpRefusal m n w value ≡ number = sym (set-up-number m n w value) in
-      let t : eqb number 0 ≡ false = ne-eqb number 0 (λ z. omega (arith, e, z)) in
-      simp (s, t)
-
-  pub set-up-law : recordsSet rs n (prepared b (length rs) n w value ws) ≡ setUp (record { bench = b; records = rs; words = ws }) n w value
-  set-up-law = by-number number refl

@@ -1,21 +1,16 @@
--- The set-up by value: its refusal by the lengths of what is lent, and what it makes of the bench and of the words. The
--- records are set up one by one, where they lie.
--- Inner: `set-up-number` below and `bench`'s `SetUpLaws` prove that this is `model`'s set-up.
+-- The parts of a set-up by value: its refusal by the lengths of what is lent, and the tables on the way.
+-- Inner: `set-up-number` below ties the refusal to `model`'s; the tables are those of `model`'s `benchAtSetUp`.
 use mathlib.Core.Path.{_≡_, refl}
 use Prim.Native.Nat.{ℕ, _≤_}
 use mathlib.Core.List.{List, map}
-use mathlib.Core.Bool.{cond}
-use lib.Dec.{eqb}
 use lib.ListN.{length, replicate}
 use lib.Seq.{sets}
 use Rattle.model.specs.declared.Bench.{Bench}
-use Rattle.model.specs.declared.Process.{Process}
 use Rattle.model.specs.Sizes.{lentWords}
 use Rattle.llsc.specs.Rows.{first}
 use Rattle.model.specs.Refusals.{setUpRowsOf}
 use Rattle.model.specs.Machine.{Memory}
-use Rattle.model.specs.SetUp.{numbers, bankAtSetUp, helpAtSetUp, benchAtSetUp, recordsAtSetUp, wordsAtSetUp, setUpRefusal}
-use Rattle.setup.specs.declared.Prepared.{Prepared}
+use Rattle.model.specs.SetUp.{numbers, bankAtSetUp, helpAtSetUp, setUpRefusal}
 
 -- a set-up's refusal by the lengths of what is lent
 unfoldable pub setUpNumber : ℕ → ℕ → ℕ → ℕ → ℕ → ℕ
@@ -39,14 +34,3 @@ pub record Accepted (n w words value : ℕ) : Type 0 where
   pub n-some : 1 ≤ n
   pub words-lent : lentWords n w ≤ words
   pub value-words : value ≡ w
-
--- the number, the bench and the words after a set-up with `len` records lent
-unfoldable pub prepared : Bench → ℕ → ℕ → ℕ → List ℕ → List ℕ → Prepared × List ℕ
-prepared b len n w value words =
-    cond (eqb (setUpNumber n w len (length words) (length value)) 0)
-    (record { number = 0; bench = benchAtSetUp b n w }, wordsAtSetUp words n w value)
-    (record { number = setUpNumber n w len (length words) (length value); bench = b }, words)
-
--- the number and all lent memory, once the caller has set up the records too
-abbrev pub recordsSet : List Process → ℕ → Prepared × List ℕ → ℕ × Memory
-recordsSet rs n out = (out .0 .number, record { bench = out .0 .bench; records = cond (eqb (out .0 .number) 0) (recordsAtSetUp rs n) rs; words = out .1 })

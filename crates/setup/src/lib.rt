@@ -1,10 +1,10 @@
-// The set-up by value (01, "Set-up"). Memory beyond what N and W need stays.
+// The parts of a set-up by value (01, "Set-up"). Memory beyond what N and W need stays.
 ghost use mathlib.Core.Path.{_≡_};
 ghost use Prim.Native.Nat.{_+_, _≤_, _<_};
 ghost use lib.ListN.{length};
 ghost use Rattle.model.specs.Sizes.{sequenceNumbers};
 ghost use Rattle.model.specs.SetUp.{benchAtSetUp, processAtSetUp, wordsAtSetUp};
-ghost use Rattle.setup.specs.SetUpByValue.{setUpNumber, banksSet, helpsSet, Accepted, prepared};
+ghost use Rattle.setup.specs.SetUpByValue.{setUpNumber, banksSet, helpsSet, Accepted};
 use llsc::ProcessNumber;
 use model::Bench;
 use model::Process;
@@ -13,12 +13,6 @@ use model::sizes;
 use rows::causes;
 use rows::table;
 use words::word_runs;
-
-// The number of a set-up's refusal, 0 for none, and the bench after it.
-pub struct Prepared {
-    pub number: u8,
-    pub bench: Bench,
-}
 
 // The refusal by the lengths of what is lent: rows 1, 2, 3, 8.
 pub fn set_up_number(n: usize, w: usize, records: usize, words: usize, value: usize) -> u8
@@ -94,26 +88,4 @@ pub fn record_at_set_up(n: usize, p: ProcessNumber) -> Process
     ensures { λ r. ⌜ r ≡ processAtSetUp (sequenceNumbers n + p .0) ⌝ }
 {
     model::process_at_set_up((sizes::sequence_numbers(n) + p.0 as usize) as u8)
-}
-
-// The whole set-up but for the records, of which `len` are lent: refused with its number, or done.
-pub fn prepare(
-    bench: Bench,
-    len: usize,
-    n: usize,
-    w: usize,
-    value: &[u64],
-    words: &mut [u64],
-) -> Prepared
-    ensures { λ r. ⌜ (r, now (words .exit)) ≡ prepared bench len n w (now (value .entry)) (now (words .entry)) ⌝ }
-{
-    let number = set_up_number(n, w, len, words.len(), value.len());
-    if number != 0 {
-        return Prepared { number, bench };
-    }
-    words_at_set_up(words, n, w, value);
-    Prepared {
-        number: 0,
-        bench: bench_at_set_up(bench, n, w),
-    }
 }

@@ -22,7 +22,7 @@ use Rattle.model.specs.declared.WordStep.{WordStep}
 use Rattle.model.specs.declared.Moved.{Moved}
 use Rattle.model.specs.Tables.{noBank, noHelp, bankAt, helpAt}
 use Rattle.model.specs.Sizes.{halves}
-use Rattle.model.specs.Words.{offerWord}
+use Rattle.model.specs.Words.{Layout, oneRecord, offerIn}
 use Rattle.model.specs.Points.{Point, pointOf, idle, line1, line2, line3, line4, line5, line6, line7, line7copy, line8}
 use Rattle.model.specs.Points.{line9, line10, line11, line12, line12valid, line13, line14, line14valid, line15, line17}
 use Rattle.model.specs.Points.{line18, line19, line23}
@@ -30,34 +30,38 @@ use Rattle.model.specs.Lines.{doLine1, doLine2, doLine4, doLine7, doLine8, doLi
 use Rattle.model.specs.Lines.{doLine13, doLine14, doLine14Valid, doLine15, doLine18, doLine19, doLine23, doWord}
 use Rattle.model.specs.Lines.{doLine11}
 use Rattle.model.specs.Records.{begin}
-use Rattle.model.specs.Machine.{stepAt, obey, onX, onBank, onHelp}
+use Rattle.model.specs.Machine.{stepIn, obeyIn, obey, onX, onBank, onHelp}
 use Rattle.taken.specs.declared.Taken.{Taken}
 use Rattle.taken.specs.declared.Stepped.{Stepped}
-use Rattle.taken.specs.Ranges.{Ready}
+use Rattle.words.specs.declared.layouts.FirstRows.{FirstRows}
 use Rattle.taken.specs.Taken.{bankIndex, helpIndex, takenAt, takenFrom, putBack, restored, afterX, afterBank, afterHelp, afterWord}
-use Rattle.steps.specs.Steps.{stepOn, offered, obeyOn}
+use Rattle.steps.specs.Layouts.{ReadyIn}
+use Rattle.steps.specs.Steps.{stepOnIn, offeredIn, obeyOnIn, offered, obeyOn}
 
 -- offering keeps the number of lent words
-pub offered-length : (o : Order) (p : ProcessNumber) (n w : ℕ) (value ws : List ℕ) → length (offered o p n w value ws) ≡ length ws
-offered-length StartLl p n w value ws = refl
-offered-length StartSc p n w value ws = length-sets ws (offerWord n w p 0) value
-offered-length StartVl p n w value ws = refl
-offered-length Step p n w value ws = refl
+pub offered-length : (l : Layout) (o : Order) (p : ProcessNumber) (w : ℕ) (value ws : List ℕ) → length (offeredIn l o p w value ws) ≡ length ws
+offered-length l StartLl p w value ws = refl
+offered-length l StartSc p w value ws = length-sets ws (offerIn l w p 0) value
+offered-length l StartVl p w value ws = refl
+offered-length l Step p w value ws = refl
 
-pub ready-same : {n w : ℕ} {q : Process} {p : ProcessNumber} {ws ws′ : List ℕ} → Ready n w q p ws → length ws′ ≡ length ws → Ready n w q p ws′
+pub ready-same : {f : FirstRows} {n w : ℕ} {q : Process} {p : ProcessNumber} {ws ws′ : List ℕ} → ReadyIn f n w q p ws → length ws′ ≡ length ws → ReadyIn f n w q p ws′
 ready-same r e =
-    let l = r .lent in
+    let b = r .ready in let l = b .lent in let a = r .placed in
     record {
-      lent = record { n-some = l .n-some; n-most = l .n-most; w-most = l .w-most; process = l .process; words = omega (arith, l .words, e) };
-      mybuf = r .mybuf;
-      x-buf = r .x-buf;
-      x-seq = r .x-seq;
-      b-buf = r .b-buf;
-      word = r .word;
-      count = r .count;
+      ready = record {
+        lent = record { n-some = l .n-some; n-most = l .n-most; w-most = l .w-most; process = l .process; words = omega (arith, l .words, e) };
+        mybuf = b .mybuf;
+        x-buf = b .x-buf;
+        x-seq = b .x-seq;
+        b-buf = b .b-buf;
+        word = b .word;
+        count = b .count;
+      };
+      placed = record { few = a .few; buffers-lent = omega (arith, a .buffers-lent, e); returns-lent = omega (arith, a .returns-lent, e); offers-lent = omega (arith, a .offers-lent, e) };
     }
 
-module _ (p : ProcessNumber) (b : Bench) (q : Process) (ws : List ℕ) where
+module _ (l : Layout) (p : ProcessNumber) (b : Bench) (q : Process) (ws : List ℕ) where
   -- the two indices of a step at a point, and what it made of the places put back there
   abbrev i : Point → SequenceNumber
   i y = bankIndex y (b .n) q
@@ -84,8 +88,8 @@ module _ (p : ProcessNumber) (b : Bench) (q : Process) (ws : List ℕ) where
       → _≡_ {A = Moved × List ℕ} (record { bench = b; process = s .process; reply = s .reply }, ws′) (back y (afterWord (takenFrom y b p q) s, ws′))
   word-law y s ws′ = rw (set-getD (b .bank) (i y .0) noBank, set-getD (b .help) (j y .0) noHelp)
 
-  pub step-by-taken : (y : Point) → stepAt y p b q ws ≡ restored b (bankIndex y (b .n) q) (helpIndex y (b .n) p q) (stepOn y p (b .n) (b .w) (takenFrom y b p q) q ws)
-  unfolding stepAt stepOn
+  pub step-by-taken : (y : Point) → stepIn l y p b q ws ≡ restored b (bankIndex y (b .n) q) (helpIndex y (b .n) p q) (stepOnIn l y p (b .n) (b .w) (takenFrom y b p q) q ws)
+  unfolding stepOnIn
   step-by-taken idle = word-law idle (record { process = q; reply = Accepted }) ws
   step-by-taken line1 = help-law line1 doLine1
   step-by-taken line2 = x-law line2 (doLine2 line3 p)
@@ -112,15 +116,23 @@ module _ (p : ProcessNumber) (b : Bench) (q : Process) (ws : List ℕ) where
 
   -- an order is obeyed on the places that a step at its process's point could touch
   pub order-by-taken : (o : Order) (value : List ℕ) → let y = pointOf (q .line) in
-      obey o p value b q ws ≡ restored b (bankIndex y (b .n) q) (helpIndex y (b .n) p q) (obeyOn o p (b .n) (b .w) (takenFrom y b p q) q (offered o p (b .n) (b .w) value ws))
-  unfolding obey obeyOn
+      obeyIn l o p value b q ws ≡ restored b (bankIndex y (b .n) q) (helpIndex y (b .n) p q) (obeyOnIn l o p (b .n) (b .w) (takenFrom y b p q) q (offeredIn l o p (b .w) value ws))
+  unfolding obeyOnIn
   order-by-taken StartLl value = word-law (pointOf (q .line)) (record { process = begin line1 q; reply = Accepted }) ws
-  order-by-taken StartSc value = word-law (pointOf (q .line)) (record { process = begin line12 q; reply = Accepted }) (sets ws (offerWord (b .n) (b .w) p 0) value)
+  order-by-taken StartSc value = word-law (pointOf (q .line)) (record { process = begin line12 q; reply = Accepted }) (sets ws (offerIn l (b .w) p 0) value)
   order-by-taken StartVl value = word-law (pointOf (q .line)) (record { process = begin line23 q; reply = Accepted }) ws
   order-by-taken Step value = step-by-taken (pointOf (q .line))
 
   -- the parts of an order, put together
-  pub whole-order : (o : Order) (value : List ℕ) {ws₁ ws₂ : List ℕ} {i : SequenceNumber} {j : ProcessNumber} {t : Taken} {s : Stepped} → let y = pointOf (q .line) in
-      ws₁ ≡ offered o p (b .n) (b .w) value ws → i ≡ bankIndex y (b .n) q → j ≡ helpIndex y (b .n) p q → t ≡ takenAt b i j
-      → (s, ws₂) ≡ obeyOn o p (b .n) (b .w) t q ws₁ → (putBack b i j s, ws₂) ≡ obey o p value b q ws
-  whole-order o value {i = i} {j = j} d e f g h = ap (restored b i j) h ∙ rw (d, g, e, f) (sym (order-by-taken o value))
+  pub whole-order-in : (o : Order) (value : List ℕ) {ws₁ ws₂ : List ℕ} {i : SequenceNumber} {j : ProcessNumber} {t : Taken} {s : Stepped} → let y = pointOf (q .line) in
+      ws₁ ≡ offeredIn l o p (b .w) value ws → i ≡ bankIndex y (b .n) q → j ≡ helpIndex y (b .n) p q → t ≡ takenAt b i j
+      → (s, ws₂) ≡ obeyOnIn l o p (b .n) (b .w) t q ws₁ → (putBack b i j s, ws₂) ≡ obeyIn l o p value b q ws
+  whole-order-in o value {i = i} {j = j} d e f g h = ap (restored b i j) h ∙ rw (d, g, e, f) (sym (order-by-taken o value))
+
+-- the same where one record stands alone
+pub whole-order : (p : ProcessNumber) (b : Bench) (q : Process) (ws : List ℕ) (o : Order) (value : List ℕ)
+    {ws₁ ws₂ : List ℕ} {i : SequenceNumber} {j : ProcessNumber} {t : Taken} {s : Stepped} → let y = pointOf (q .line) in
+    ws₁ ≡ offered o p (b .n) (b .w) value ws → i ≡ bankIndex y (b .n) q → j ≡ helpIndex y (b .n) p q → t ≡ takenAt b i j
+    → (s, ws₂) ≡ obeyOn o p (b .n) (b .w) t q ws₁ → (putBack b i j s, ws₂) ≡ obey o p value b q ws
+unfolding obey
+whole-order p b q ws o value d e f g h = whole-order-in (oneRecord (b .n)) p b q ws o value d e f g h

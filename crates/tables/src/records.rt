@@ -2,8 +2,7 @@
 ghost use mathlib.Core.Path.{_≡_};
 ghost use Prim.Native.Nat.{_<_};
 ghost use lib.ListN.{replicate, set};
-ghost use Rattle.model.specs.Records.{noProcess, recordAt};
-use llsc::ProcessNumber;
+ghost use Rattle.model.specs.Records.{noProcess};
 use model::Process;
 
 pub struct Records {
@@ -32,13 +31,4 @@ pub fn with_record(all: Records, i: usize, q: Process) -> Records
     let mut next = all;
     next.list[i] = q;
     next
-}
-
-// The record of process p.
-pub fn record_at(all: Records, p: ProcessNumber) -> Process
-    requires { ⌜ p .0 < 16 ⌝ }
-    ensures { λ r. ⌜ r ≡ recordAt (all .list) p ⌝ }
-{
-    let i = p.0 as usize;
-    all.list[i]
 }

@@ -21,6 +21,27 @@ const USAGE: &str = "usage:
   witness fractions N W FILE...
   witness compare-fractions PROGRAM SEED COUNT DIR
   witness bench-listing KIND N W
+  witness station-lists SEED COUNT DIR
+  witness station-replies
+  witness station-cover DIR
+  witness compare-station PROGRAM DIR
+  witness merge-files FIRST SECOND OUT ROOM
+  witness board-run LIST FILE
+  witness board-pairs SEED COUNT DIR
+  witness board-limits DIR
+  witness compare-merge PROGRAM DIR
+  witness compare-board-run PROGRAM DIR
+  witness schedules A B
+  witness ways
+  witness schedule-questions SEED COUNT
+  witness schedule-answers
+  witness turn-lists SEED COUNT DIR
+  witness turns
+  witness compare-turns PROGRAM DIR
+  witness interleavings
+  witness neighbours
+  witness swaps
+  witness both-orders SEED COUNT
   witness moir-run
   witness moir-trace
   witness moir-generate SEED COUNT DIR

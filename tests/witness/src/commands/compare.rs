@@ -12,33 +12,44 @@ use crate::schedule::{listing_of, trace_of};
 
 /// Listings.
 pub fn compare(program: &str, dir: &str) -> Result<u8, String> {
-    against(program, dir, "listings", |text| listing_of(text, None).0)
+    against_texts(program, dir, "listings", |text| listing_of(text, None).0)
 }
 
 /// Traces.
 pub fn compare_trace(program: &str, dir: &str) -> Result<u8, String> {
-    against(program, dir, "traces", |text| trace_of(text, None))
+    against_texts(program, dir, "traces", |text| trace_of(text, None))
 }
 
 /// Listings of Moir's bench.
 pub fn compare_moir(program: &str, dir: &str) -> Result<u8, String> {
-    against(program, dir, "listings", |text| moir::listing_of(text).0)
+    against_texts(program, dir, "listings", |text| moir::listing_of(text).0)
 }
 
 /// Traces of Moir's bench.
 pub fn compare_moir_trace(program: &str, dir: &str) -> Result<u8, String> {
-    against(program, dir, "traces", moir::trace_of)
+    against_texts(program, dir, "traces", moir::trace_of)
 }
 
-fn against(
+fn against_texts(
     program: &str,
     dir: &str,
     what: &str,
     simulated: impl Fn(&[u8]) -> Vec<u8>,
 ) -> Result<u8, String> {
+    against(program, dir, what, |path| Ok(simulated(&read_text(path)?)))
+}
+
+/// The outputs of a program for the files of a folder, each given to it as
+/// standard input.
+pub fn against(
+    program: &str,
+    dir: &str,
+    what: &str,
+    simulated: impl Fn(&Path) -> Result<Vec<u8>, String>,
+) -> Result<u8, String> {
     let paths = texts_in(dir)?;
     for path in &paths {
-        let expected = simulated(&read_text(path)?);
+        let expected = simulated(path)?;
         let printed = output_of(program, path)?;
         if printed != expected {
             print(report(path, &expected, &printed).as_bytes())?;

@@ -2,6 +2,7 @@
 
 use super::files::{read_text, texts_in};
 use super::run::print;
+use super::tally_rows::{counts, lines as tally_lines};
 use super::zeros::{leading_zero, NUMBERS};
 use crate::machine::Tally;
 use crate::schedule::{listing_of, Outcome, TEXT_LIMIT};
@@ -54,12 +55,10 @@ impl Sums {
     fn report(&self) -> (String, bool) {
         let mut lines = format!("{} texts, {} entries\n", self.texts, self.entries);
         let mut missing = false;
-        for (name, times) in self
-            .counts()
-            .into_iter()
-            .chain(self.outcomes())
-            .chain(self.lines())
-        {
+        let mut rows = counts(&self.tally);
+        rows.extend(self.outcomes());
+        rows.extend(tally_lines(&self.tally));
+        for (name, times) in rows {
             let note = if times == 0 { "  never reached" } else { "" };
             lines += &format!("{name:<30} {times:>9}{note}\n");
             missing |= times == 0;
@@ -77,30 +76,6 @@ impl Sums {
             .sum()
     }
 
-    fn counts(&self) -> Vec<(String, u64)> {
-        let mut rows = Vec::new();
-        for (name, times) in ["4W+5", "4W+6", "6W+7", "8W+7"].iter().zip(self.tally.ll) {
-            rows.push((format!("LL in {name} steps"), times));
-        }
-        for (more, times) in (4..).zip(self.tally.sc) {
-            rows.push((format!("SC in 2W+{more} steps"), times));
-        }
-        rows.push(("VL in 1 step".to_string(), self.tally.vl));
-        pair(
-            &mut rows,
-            "SC answers",
-            ["false", "true"],
-            self.tally.sc_answers,
-        );
-        pair(
-            &mut rows,
-            "VL answers",
-            ["false", "true"],
-            self.tally.vl_answers,
-        );
-        rows
-    }
-
     fn outcomes(&self) -> Vec<(String, u64)> {
         let mut rows = vec![("end".to_string(), self.ends)];
         for number in REFUSALS {
@@ -115,40 +90,5 @@ impl Sums {
         rows.push(("refused 12, text too long".to_string(), self.too_long));
         rows.push(("refused 12, 60,000 entries".to_string(), self.refused[12]));
         rows
-    }
-
-    fn lines(&self) -> Vec<(String, u64)> {
-        let (tally, mut rows) = (&self.tally, Vec::new());
-        pair(&mut rows, "line 7, VL", ["false", "true"], tally.line7);
-        pair(&mut rows, "line 9, SC", ["fails", "succeeds"], tally.line9);
-        pair(
-            &mut rows,
-            "line 12, VL",
-            ["false", "true"],
-            tally.line12_validate,
-        );
-        pair(
-            &mut rows,
-            "line 13, SC",
-            ["fails", "succeeds"],
-            tally.line13,
-        );
-        pair(
-            &mut rows,
-            "line 14, VL",
-            ["false", "true"],
-            tally.line14_validate,
-        );
-        pair(&mut rows, "line 15, help", ["fails", "given"], tally.line15);
-        for (line, times) in [3, 6, 7, 11, 17].iter().zip(tally.halts) {
-            rows.push((format!("line {line}, halt in a word"), times));
-        }
-        rows
-    }
-}
-
-fn pair(rows: &mut Vec<(String, u64)>, name: &str, outcomes: [&str; 2], times: [u64; 2]) {
-    for (outcome, times) in outcomes.iter().zip(times) {
-        rows.push((format!("{name} {outcome}"), times));
     }
 }

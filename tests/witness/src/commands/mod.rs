@@ -1,6 +1,8 @@
 //! One file for each subcommand.
 
 mod bench_text;
+mod boards;
+mod commuting;
 mod compare;
 mod compare_faults;
 mod compare_fractions;
@@ -9,9 +11,12 @@ mod files;
 mod fractions;
 mod generate;
 mod history;
+mod interleaving;
 mod judge;
 mod moir;
 mod run;
+mod station;
+mod tally_rows;
 mod wrong;
 mod zeros;
 
@@ -49,6 +54,35 @@ pub fn dispatch(words: &[String]) -> Result<u8, String> {
             let text = bench_text(kind, number(n)?, number(w)?)?;
             run::print(text.as_bytes())
         }
+        ["station-lists", seed, count, dir] => station::lists(number(seed)?, number(count)?, dir),
+        ["station-replies"] => station::print_replies(),
+        ["station-cover", dir] => station::cover(dir),
+        ["compare-station", program, dir] => station::compare(program, dir),
+        ["merge-files", first, second, out, room] => {
+            boards::merge_files(first, second, out, number(room)?)
+        }
+        ["board-run", list, file] => boards::board_run(list, file),
+        ["board-pairs", seed, count, dir] => {
+            boards::board_pairs(number(seed)?, number(count)?, dir)
+        }
+        ["board-limits", dir] => boards::board_limits(dir),
+        ["compare-merge", program, dir] => boards::compare_merge(program, dir),
+        ["compare-board-run", program, dir] => boards::compare_run(program, dir),
+        ["schedules", a, b] => interleaving::schedules(number(a)?, number(b)?),
+        ["ways"] => interleaving::print_ways(),
+        ["schedule-questions", seed, count] => {
+            interleaving::print_questions(number(seed)?, number(count)?)
+        }
+        ["schedule-answers"] => interleaving::print_answers(),
+        ["turn-lists", seed, count, dir] => {
+            interleaving::turn_lists(number(seed)?, number(count)?, dir)
+        }
+        ["turns"] => interleaving::turns(),
+        ["compare-turns", program, dir] => interleaving::compare(program, dir),
+        ["interleavings"] => interleaving::all(),
+        ["neighbours"] => commuting::print_neighbours(),
+        ["swaps"] => commuting::print_swaps(),
+        ["both-orders", seed, count] => commuting::both_orders(number(seed)?, number(count)?),
         ["judge"] => judge::judge_text(),
         ["log"] => judge::log(),
         ["bench-log", calls, w] => judge::bench(number(calls)?, number(w)?),

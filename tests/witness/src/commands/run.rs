@@ -23,6 +23,13 @@ pub fn text_given() -> Result<Vec<u8>, String> {
     Ok(text)
 }
 
+/// All of the standard input.
+pub fn given() -> Result<String, String> {
+    let mut text = String::new();
+    let read = stdin().read_to_string(&mut text);
+    read.map(|_| text).map_err(|error| error.to_string())
+}
+
 pub fn print(bytes: &[u8]) -> Result<u8, String> {
     let mut out = stdout();
     let written = out.write_all(bytes).and_then(|()| out.flush());

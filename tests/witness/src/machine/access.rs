@@ -67,14 +67,21 @@ pub struct Access {
 
 /// What was seen of the last command: a step has its line and makes one
 /// access, a start finds its process idle and makes none.
+#[derive(Clone)]
 pub struct Seen {
     pub line: Line,
+    /// The record of the call.
+    pub record: usize,
     pub access: Option<Access>,
 }
 
 impl Seen {
-    pub fn nothing_yet(line: Line) -> Seen {
-        Seen { line, access: None }
+    pub fn nothing_yet(line: Line, record: usize) -> Seen {
+        Seen {
+            line,
+            record,
+            access: None,
+        }
     }
 
     pub fn note(&mut self, place: Place, act: Act, links: Links) {

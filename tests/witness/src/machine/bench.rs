@@ -1,19 +1,17 @@
-//! The state of the bench, and its set-up.
+//! The state of the bench, and its set-up: a station of one or more records
+//! (02, CR 10) that share their processes.
 
 use super::access::{Place, Seen};
-use super::buffers::Buffers;
-use super::linked::Linked;
-use super::process::{Line, Process, Request, Tag};
+use super::process::{Line, Process};
+use super::record::Record;
 use super::tally::Tally;
 use super::wrong::Wrong;
 
+#[derive(Clone)]
 pub struct Bench {
     pub(super) n: usize,
     pub(super) w: usize,
-    pub(super) x: Linked<Tag>,
-    pub(super) bank: Vec<Linked<usize>>,
-    pub(super) help: Vec<Linked<Request>>,
-    pub(super) buf: Buffers,
+    pub(super) records: Vec<Record>,
     pub(super) processes: Vec<Process>,
     pub(super) wrong: Option<Wrong>,
     pub(super) tally: Tally,
@@ -22,57 +20,108 @@ pub struct Bench {
     pub(super) latest: usize,
 }
 
+/// N, W and the number R of records.
+#[derive(Clone, Copy, PartialEq, Eq, Debug)]
+pub struct Sizes {
+    pub n: u64,
+    pub w: u64,
+    pub r: u64,
+}
+
+impl Sizes {
+    /// Refusals 1, 2 and 23.
+    fn check(self) -> Result<(), u8> {
+        match self {
+            Sizes { n, .. } if !(1..=16).contains(&n) => Err(1),
+            Sizes { w, .. } if !(1..=64).contains(&w) => Err(2),
+            Sizes { r, .. } if !(1..=8).contains(&r) => Err(23),
+            _ => Ok(()),
+        }
+    }
+
+    /// "The words lent become (3R + 2) × N × W for R records."
+    pub fn words_needed(self) -> u64 {
+        (3 * self.r + 2) * self.n * self.w
+    }
+}
+
+/// How many process records and words the caller lends.
+#[derive(Clone, Copy, PartialEq, Eq, Debug)]
+pub struct Lent {
+    pub processes: u64,
+    pub words: u64,
+}
+
 impl Bench {
-    /// The set-up; takes refusals 1, 2 and 8.
+    /// The set-up of one record with memory enough; takes refusals 1, 2 and 8.
     pub fn set_up(n: u64, w: u64, value: &[u64], wrong: Option<Wrong>) -> Result<Bench, u8> {
-        if !(1..=16).contains(&n) {
-            return Err(1);
+        let sizes = Sizes { n, w, r: 1 };
+        sizes.check()?;
+        Bench::over(sizes, value, wrong)
+    }
+
+    /// The set-up of a station; takes refusals 1, 2, 23, 3 and 8.
+    pub fn station(sizes: Sizes, lent: Lent, value: &[u64]) -> Result<Bench, u8> {
+        sizes.check()?;
+        if lent.words < sizes.words_needed() || lent.processes < sizes.n {
+            return Err(3);
         }
-        if !(1..=64).contains(&w) {
-            return Err(2);
-        }
-        let (n, w) = (n as usize, w as usize);
+        Bench::over(sizes, value, None)
+    }
+
+    fn over(sizes: Sizes, value: &[u64], wrong: Option<Wrong>) -> Result<Bench, u8> {
+        let (n, w, r) = (sizes.n as usize, sizes.w as usize, sizes.r as usize);
         if value.len() != w {
             return Err(8);
         }
-        let first = Tag {
-            buffer: 0,
-            sequence: 0,
-        };
-        let nobody_asks = Request {
-            helpme: false,
-            buffer: 0,
-        };
         Ok(Bench {
             n,
             w,
-            x: Linked::new(Place::X, first, n),
-            bank: (0..2 * n)
-                .map(|k| Linked::new(Place::Bank(k), k, n))
-                .collect(),
-            help: (0..n)
-                .map(|p| Linked::new(Place::Help(p), nobody_asks, n))
-                .collect(),
-            buf: Buffers::new(3 * n, value),
-            processes: (0..n).map(|p| Process::new(2 * n + p, w)).collect(),
+            records: (0..r).map(|_| Record::new(n, value)).collect(),
+            processes: (0..n).map(|p| Process::new(2 * n + p, w, r)).collect(),
             wrong,
             tally: Tally::default(),
-            seen: Seen::nothing_yet(Line::Idle),
+            seen: Seen::nothing_yet(Line::Idle, 0),
             latest: 0,
         })
     }
 
-    pub(super) fn reads(&self, wrong: Wrong) -> bool {
-        self.wrong == Some(wrong)
+    /// W.
+    pub fn words(&self) -> usize {
+        self.w
     }
 
     pub fn is_idle(&self, p: usize) -> bool {
         self.processes[p].line == Line::Idle
     }
 
-    /// Whether an LL of p was ever answered.
+    /// Whether an LL of p on record 0 was ever answered.
     pub fn has_linked(&self, p: usize) -> bool {
-        self.processes[p].linked
+        self.has_linked_to(p, 0)
+    }
+
+    pub fn has_linked_to(&self, p: usize, record: usize) -> bool {
+        self.processes[p].sets[record].linked
+    }
+
+    pub fn records(&self) -> &[Record] {
+        &self.records
+    }
+
+    pub fn processes(&self) -> &[Process] {
+        &self.processes
+    }
+
+    /// Whether all lent memory holds the same.
+    pub fn same_memory(&self, other: &Bench) -> bool {
+        self.records == other.records && self.processes == other.processes
+    }
+
+    /// Puts a process and an item of another station of the same sizes in
+    /// place of its own.
+    pub fn transplant(&mut self, from: &Bench, p: usize, record: usize, place: Place) {
+        self.processes[p] = from.processes[p].clone();
+        self.records[record].copy_item(&from.records[record], place);
     }
 
     pub fn seen(&self) -> &Seen {

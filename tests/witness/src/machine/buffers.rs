@@ -3,6 +3,7 @@
 use super::access::{Act, Links, Place, Seen, Values};
 use super::half::Half;
 
+#[derive(Clone, PartialEq, Eq, Debug)]
 pub struct Buffers(Vec<Vec<u64>>);
 
 impl Buffers {
@@ -11,6 +12,18 @@ impl Buffers {
         let mut buffers = vec![vec![0; value.len()]; number];
         buffers[0].copy_from_slice(value);
         Buffers(buffers)
+    }
+
+    pub fn each(&self) -> impl Iterator<Item = &Vec<u64>> {
+        self.0.iter()
+    }
+
+    pub fn word(&self, buffer: usize, word: usize) -> &u64 {
+        &self.0[buffer][word]
+    }
+
+    pub fn word_mut(&mut self, buffer: usize, word: usize) -> &mut u64 {
+        &mut self.0[buffer][word]
     }
 
     pub fn read(&self, buffer: usize, (word, half): (usize, Half), seen: &mut Seen) -> u32 {

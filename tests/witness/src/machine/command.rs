@@ -1,5 +1,5 @@
-//! Commands: a process and an order, and the refusals 4, 8, 5, 6 and 7, in
-//! this order (02, CR 7).
+//! Commands: a process, a record and an order, and the refusals 4, 24, 8, 5,
+//! 6 and 7, in this order (02, CR 7 and CR 10).
 
 use super::access::Seen;
 use super::bench::Bench;
@@ -29,26 +29,38 @@ pub struct Answer {
 }
 
 impl Bench {
-    /// One command: refused with a number, or carried out, perhaps with an
-    /// answer.
+    /// One command on record 0.
     pub fn command(&mut self, process: u64, order: &Order) -> Result<Option<Answer>, u8> {
+        self.command_on(process, 0, order)
+    }
+
+    /// One command: refused with a number, or carried out, perhaps with an
+    /// answer. Only a start looks at the record; a step goes on where the
+    /// open call is.
+    pub fn command_on(
+        &mut self,
+        process: u64,
+        record: u64,
+        order: &Order,
+    ) -> Result<Option<Answer>, u8> {
         if process >= self.n as u64 {
             return Err(4);
         }
         let p = process as usize;
         match order {
-            Order::Store(words) if words.len() != self.w => Err(8),
             Order::Step if self.is_idle(p) => Err(6),
             Order::Step => Ok(self.step(p)),
-            start => self.start(p, start).map(|()| None),
+            _ if record >= self.records.len() as u64 => Err(24),
+            Order::Store(words) if words.len() != self.w => Err(8),
+            start => self.start(p, record as usize, start).map(|()| None),
         }
     }
 
-    fn start(&mut self, p: usize, order: &Order) -> Result<(), u8> {
+    fn start(&mut self, p: usize, record: usize, order: &Order) -> Result<(), u8> {
         if !self.is_idle(p) {
             return Err(5);
         }
-        if *order != Order::Load && !self.processes[p].linked {
+        if *order != Order::Load && !self.has_linked_to(p, record) {
             return Err(7);
         }
         let me = &mut self.processes[p];
@@ -60,8 +72,9 @@ impl Bench {
             Order::Validate => Line::L23,
             _ => Line::L1,
         };
+        me.record = record;
         me.count = 0;
-        self.seen = Seen::nothing_yet(Line::Idle);
+        self.seen = Seen::nothing_yet(Line::Idle, record);
         self.latest = p;
         Ok(())
     }

@@ -2,6 +2,7 @@
 
 use super::access::{Act, Links, Place, Seen, Values};
 
+#[derive(Clone, PartialEq, Eq, Debug)]
 pub struct Linked<T: Copy + Into<Values>> {
     place: Place,
     content: T,
@@ -15,6 +16,20 @@ impl<T: Copy + Into<Values>> Linked<T> {
             content,
             links: vec![false; processes],
         }
+    }
+
+    pub fn content(&self) -> T {
+        self.content
+    }
+
+    /// The links as a number with bit p for process p.
+    pub fn link_bits(&self) -> u64 {
+        let bits = self.links.iter().enumerate();
+        bits.map(|(p, set)| u64::from(*set) << p).sum()
+    }
+
+    pub fn item(&self) -> (Values, u64) {
+        (self.content.into(), self.link_bits())
     }
 
     /// LL: returns the content and sets p's link.
@@ -76,7 +91,7 @@ mod tests {
 
     /// What an access gives, and what was noted of it.
     fn seen<R>(access: impl FnOnce(&mut Seen) -> R) -> (R, Act, Links) {
-        let mut seen = Seen::nothing_yet(Line::Idle);
+        let mut seen = Seen::nothing_yet(Line::Idle, 0);
         let given = access(&mut seen);
         let noted = seen.access.expect("an access");
         assert_eq!(noted.place, Place::Bank(3));

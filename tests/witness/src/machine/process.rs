@@ -65,6 +65,14 @@ pub struct Tag {
     pub sequence: usize,
 }
 
+impl Tag {
+    /// What X and every copy of it hold at the set-up.
+    pub const FIRST: Tag = Tag {
+        buffer: 0,
+        sequence: 0,
+    };
+}
+
 /// The content of a Help place.
 #[derive(Clone, Copy, PartialEq, Eq, Debug)]
 pub struct Request {
@@ -72,11 +80,22 @@ pub struct Request {
     pub buffer: usize,
 }
 
-pub struct Process {
+/// What a process has for each record.
+#[derive(Clone, PartialEq, Eq, Debug)]
+pub struct Own {
     /// The buffer it owns.
     pub mybuf: usize,
     /// Its copy of X.
     pub x: Tag,
+    /// An LL of this process on this record was answered.
+    pub linked: bool,
+}
+
+#[derive(Clone, PartialEq, Eq, Debug)]
+pub struct Process {
+    pub sets: Vec<Own>,
+    /// The record of the open call; 0 when idle.
+    pub record: usize,
     pub return_area: Vec<u64>,
     pub offer_area: Vec<u64>,
     pub line: Line,
@@ -84,8 +103,6 @@ pub struct Process {
     pub word_place: usize,
     /// Own steps since the start of the open call.
     pub count: u64,
-    /// An LL of this process was answered.
-    pub linked: bool,
     pub b: usize,
     pub c: usize,
     pub d: usize,
@@ -93,24 +110,30 @@ pub struct Process {
 }
 
 impl Process {
-    pub fn new(mybuf: usize, words: usize) -> Process {
-        Process {
+    pub fn new(mybuf: usize, words: usize, records: usize) -> Process {
+        let own = Own {
             mybuf,
-            x: Tag {
-                buffer: 0,
-                sequence: 0,
-            },
+            x: Tag::FIRST,
+            linked: false,
+        };
+        Process {
+            sets: vec![own; records],
+            record: 0,
             return_area: vec![0; words],
             offer_area: vec![0; words],
             line: Line::Idle,
             word_place: 0,
             count: 0,
-            linked: false,
             b: 0,
             c: 0,
             d: 0,
             e: 0,
         }
+    }
+
+    /// Its set for the record of the open call.
+    pub fn own(&mut self) -> &mut Own {
+        &mut self.sets[self.record]
     }
 
     /// The word and the half that its next move in a run of words is about.

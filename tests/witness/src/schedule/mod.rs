@@ -10,8 +10,10 @@ mod trace;
 mod tree;
 
 pub use form::{Form, LISTING, TRACE};
+pub use listing::answer_line;
 pub use parse::{parse, Fault};
 pub use run::{run_text, Outcome, ENTRY_LIMIT, TEXT_LIMIT};
+pub use trace::place_text;
 pub use tree::{Item, Schedule};
 
 use crate::machine::{Tally, Wrong};

@@ -33,11 +33,11 @@ fn of_step(line: Line, access: &Access) -> String {
         Links::OwnSet => " link set",
         Links::AllCleared => " links cleared",
     };
-    let (place, act) = (of_place(access.place), of_act(access.act));
+    let (place, act) = (place_text(access.place), of_act(access.act));
     format!("{} {place} {act}{links}", line.number())
 }
 
-fn of_place(place: Place) -> String {
+pub fn place_text(place: Place) -> String {
     match place {
         Place::X => "X".to_string(),
         Place::Bank(i) => format!("Bank[{i}]"),

@@ -1,70 +1,26 @@
--- `steps::orders::obey_taken` meets its contract: each arm is its order's case.
+-- `steps::orders::obey_taken` meets its contract: the order obeyed in the layout of one record alone.
+use mathlib.Core.Path.{_∙_}
+use denote.Ref.{now}
+use Rattle.steps.proofs.LayoutLaws.{one-ready, one-obeyed-on}
 use borrow.Author.Needs.{needs}
-use Rattle.steps.specs.Steps.{obeyOn}
 use Rattle.steps.proofs.orders.obey_taken.Statement.{statement}
 use Rattle.steps.proofs.orders.obey_taken.Tie as tie
-use Rattle.steps.proofs.orders.obey_taken.Reads as reads
-use Rattle.steps.proofs.orders.obey_taken.Lts as lts
-use Rattle.steps.proofs.orders.begun.Reads as begun-reads
-use Rattle.steps.proofs.step.on_taken.Reads as on-taken-reads
 
-enum-told : tie.Need-enum-told
-enum-told c = search needs
+one-record-requires : tie.Need-one-record-requires
+one-record-requires c κs = search needs
 
-begun-requires : tie.Need-begun-requires
-begun-requires c κs = search needs
-
-enum-told-2 : tie.Need-enum-told-2
-enum-told-2 c = search needs
-
-begun-requires-2 : tie.Need-begun-requires-2
-begun-requires-2 c κs = search needs
-
-enum-told-3 : tie.Need-enum-told-3
-enum-told-3 c = search needs
-
-begun-requires-3 : tie.Need-begun-requires-3
-begun-requires-3 c κs = search needs
-
-enum-told-4 : tie.Need-enum-told-4
-enum-told-4 c = search needs
-
-on-taken-requires : tie.Need-on-taken-requires
-on-taken-requires c κs = search needs
-
-returns : tie.Need-returns
-unfolding obeyOn
-returns c = simp (c .before .enum-told .given .1, c .begun .ensures)
-
-returns-2 : tie.Need-returns-2
-unfolding obeyOn
-returns-2 c = simp (c .before .enum-told2 .given .1, c .begun2 .ensures)
-
-returns-3 : tie.Need-returns-3
-unfolding obeyOn
-returns-3 c = simp (c .before .enum-told3 .given .1, c .begun3 .ensures)
+obey-taken-in-requires : tie.Need-obey-taken-in-requires
+obey-taken-in-requires c κs = rw (c .before .one-record .ensures) (one-ready (c .before .before .before .pre))
 
 same-length : tie.Need-same-length
 same-length c = search needs
 
-returns-4 : tie.Need-returns-4
-unfolding obeyOn
-returns-4 c = simp (c .before .before .before .before .enum-told4 .given .1) (c .before .before .on-taken .ensures)
+returns : tie.Need-returns
+returns c =
+    let called = c .before .before in
+    let a = called .before .before .before .before .args in
+    called .obey-taken-in .ensures ∙ one-obeyed-on (a .order) (a .p) (a .n) (a .w) (a .taken) (a .process) (now (a .words)) (called .before .before .one-record .ensures)
 
 pub obey-taken-spec : {M : Type 1} → statement M
 obey-taken-spec =
-    tie.close
-    (tie.spec
-    enum-told
-    begun-requires
-    enum-told-2
-    begun-requires-2
-    enum-told-3
-    begun-requires-3
-    enum-told-4
-    on-taken-requires
-    returns
-    returns-2
-    returns-3
-    same-length
-    returns-4)
+    tie.close (tie.spec one-record-requires obey-taken-in-requires same-length returns)

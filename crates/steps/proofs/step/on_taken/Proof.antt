@@ -1,4 +1,4 @@
--- `steps::step::on_taken` meets its contract: each arm is its point's case of `stepOn`.
+-- `steps::step::on_taken` meets its contract: each arm is its point's case of `stepOnIn`.
 -- Assumes nothing.
 use mathlib.Core.Path.{_≡_, sym, ap, _∙_}
 use mathlib.Core.List.{List}
@@ -7,18 +7,21 @@ use borrow.Author.Tests.{ne-eqb}
 use denote.Ref.{now}
 use Rattle.llsc.specs.declared.ProcessNumber.{ProcessNumber}
 use Rattle.model.specs.declared.Process.{Process}
+use Rattle.model.specs.Words.{Layout}
 use Rattle.model.specs.Points.{pointOf}
+use Rattle.words.specs.Layouts.{layoutFrom}
 use Rattle.taken.specs.declared.Taken.{Taken}
 use Rattle.taken.specs.declared.Stepped.{Stepped}
 use Rattle.taken.specs.Taken.{afterX, afterBank, afterHelp}
-use Rattle.steps.specs.Steps.{afterWords, stepOn}
+use Rattle.steps.specs.Steps.{afterWords, stepOnIn}
+use Rattle.steps.proofs.LayoutLaws.{reads, writes-back, writes-offer}
 use borrow.Author.Needs.{needs}
 use Rattle.steps.proofs.step.on_taken.Statement.{statement}
 use Rattle.steps.proofs.step.on_taken.Tie as tie
 
 -- the line's number, put for the line
-arm : (p : ProcessNumber) (n w : ℕ) (t : Taken) (q : Process) (ws : List ℕ) {k : ℕ} → q .line ≡ k → stepOn (pointOf k) p n w t q ws ≡ stepOn (pointOf (q .line)) p n w t q ws
-arm p n w t q ws e = ap (λ (l : ℕ). stepOn (pointOf l) p n w t q ws) (sym e)
+arm : (l : Layout) (p : ProcessNumber) (n w : ℕ) (t : Taken) (q : Process) (ws : List ℕ) {k : ℕ} → q .line ≡ k → stepOnIn l (pointOf k) p n w t q ws ≡ stepOnIn l (pointOf (q .line)) p n w t q ws
+arm l p n w t q ws e = ap (λ (i : ℕ). stepOnIn l (pointOf i) p n w t q ws) (sym e)
 
 do-line-1-requires : tie.Need-do-line-1-requires
 do-line-1-requires c κs = search needs
@@ -33,7 +36,9 @@ after-x-requires : tie.Need-after-x-requires
 after-x-requires c κs = search needs
 
 read-word-requires : tie.Need-read-word-requires
-read-word-requires c κs = search needs
+read-word-requires c κs =
+    let start = c .before .before .before .before in
+    reads (start .pre) (start .args .process .x .buf) (start .pre .ready .x-buf)
 
 after-word-requires : tie.Need-after-word-requires
 after-word-requires c κs = search needs
@@ -51,7 +56,9 @@ after-x-requires-2 : tie.Need-after-x-requires-2
 after-x-requires-2 c κs = search needs
 
 read-word-requires-2 : tie.Need-read-word-requires-2
-read-word-requires-2 c κs = search needs
+read-word-requires-2 c κs =
+    let start = c .before .before .before .before in
+    reads (start .pre) (start .args .process .x .buf) (start .pre .ready .x-buf)
 
 after-word-requires-2 : tie.Need-after-word-requires-2
 after-word-requires-2 c κs = search needs
@@ -63,7 +70,9 @@ after-x-requires-3 : tie.Need-after-x-requires-3
 after-x-requires-3 c κs = search needs
 
 read-word-requires-3 : tie.Need-read-word-requires-3
-read-word-requires-3 c κs = search needs
+read-word-requires-3 c κs =
+    let start = c .before .before .before .before in
+    reads (start .pre) (start .args .process .b) (start .pre .ready .b-buf)
 
 after-word-requires-3 : tie.Need-after-word-requires-3
 after-word-requires-3 c κs = search needs
@@ -87,7 +96,9 @@ after-help-requires-5 : tie.Need-after-help-requires-5
 after-help-requires-5 c κs = search needs
 
 step-11-requires : tie.Need-step-11-requires
-step-11-requires c κs = search needs
+step-11-requires c κs =
+    let start = c .before .before .before .before in
+    writes-back (start .pre)
 
 after-word-requires-4 : tie.Need-after-word-requires-4
 after-word-requires-4 c κs = search needs
@@ -129,7 +140,9 @@ after-help-requires-7 : tie.Need-after-help-requires-7
 after-help-requires-7 c κs = search needs
 
 step-17-requires : tie.Need-step-17-requires
-step-17-requires c κs = search needs
+step-17-requires c κs =
+    let start = c .before .before .before .before in
+    writes-offer (start .pre)
 
 after-word-requires-5 : tie.Need-after-word-requires-5
 after-word-requires-5 c κs = search needs
@@ -156,203 +169,203 @@ unmoved-requires : tie.Need-unmoved-requires
 unmoved-requires c κs = search needs
 
 returns : tie.Need-returns
-unfolding stepOn
+unfolding stepOnIn
 returns c =
     let looked = c .before .before in
     let a = looked .before .before .before .args in
     let e = c .after-help .ensures ∙ ap (afterHelp (a .taken)) (c .before .do-line-1 .ensures) in
-    ap (λ (s : Stepped). (s, now (a .words))) e ∙ arm (a .p) (a .n) (a .w) (a .taken) (a .process) (now (a .words)) (looked .match .keys1)
+    ap (λ (s : Stepped). (s, now (a .words))) e ∙ arm (layoutFrom (a .rows)) (a .p) (a .n) (a .w) (a .taken) (a .process) (now (a .words)) (looked .match .keys1)
 
 returns-2 : tie.Need-returns-2
-unfolding stepOn
+unfolding stepOnIn
 returns-2 c =
     let looked = c .before .before in
     let a = looked .before .before .before .args in
     let e = c .after-x .ensures ∙ ap (afterX (a .taken)) (c .before .do-line-2 .ensures) in
-    ap (λ (s : Stepped). (s, now (a .words))) e ∙ arm (a .p) (a .n) (a .w) (a .taken) (a .process) (now (a .words)) (looked .match .keys2)
+    ap (λ (s : Stepped). (s, now (a .words))) e ∙ arm (layoutFrom (a .rows)) (a .p) (a .n) (a .w) (a .taken) (a .process) (now (a .words)) (looked .match .keys2)
 
 same-length : tie.Need-same-length
 same-length c = search needs
 
 returns-3 : tie.Need-returns-3
-unfolding stepOn
+unfolding stepOnIn
 returns-3 c =
     let moved = c .before .before .before in
     let looked = moved .before .before in
     let a = looked .before .before .before .args in
     let e = ap (afterWords (a .taken)) (moved .read-word .ensures) in
-    rw (c .after-word .ensures) (e ∙ arm (a .p) (a .n) (a .w) (a .taken) (a .process) (now (a .words)) (looked .match .keys3))
+    rw (c .after-word .ensures) (e ∙ arm (layoutFrom (a .rows)) (a .p) (a .n) (a .w) (a .taken) (a .process) (now (a .words)) (looked .match .keys3))
 
 returns-4 : tie.Need-returns-4
-unfolding stepOn
+unfolding stepOnIn
 returns-4 c =
     let looked = c .before .before in
     let a = looked .before .before .before .args in
     let e = c .after-help2 .ensures ∙ ap (afterHelp (a .taken)) (c .before .do-line-4 .ensures) in
-    ap (λ (s : Stepped). (s, now (a .words))) e ∙ arm (a .p) (a .n) (a .w) (a .taken) (a .process) (now (a .words)) (looked .match .keys4)
+    ap (λ (s : Stepped). (s, now (a .words))) e ∙ arm (layoutFrom (a .rows)) (a .p) (a .n) (a .w) (a .taken) (a .process) (now (a .words)) (looked .match .keys4)
 
 returns-5 : tie.Need-returns-5
-unfolding stepOn
+unfolding stepOnIn
 returns-5 c =
     let looked = c .before .before in
     let a = looked .before .before .before .args in
     let e = c .after-x2 .ensures ∙ ap (afterX (a .taken)) (c .before .do-line-22 .ensures) in
-    ap (λ (s : Stepped). (s, now (a .words))) e ∙ arm (a .p) (a .n) (a .w) (a .taken) (a .process) (now (a .words)) (looked .match .keys5)
+    ap (λ (s : Stepped). (s, now (a .words))) e ∙ arm (layoutFrom (a .rows)) (a .p) (a .n) (a .w) (a .taken) (a .process) (now (a .words)) (looked .match .keys5)
 
 same-length-2 : tie.Need-same-length-2
 same-length-2 c = search needs
 
 returns-6 : tie.Need-returns-6
-unfolding stepOn
+unfolding stepOnIn
 returns-6 c =
     let moved = c .before .before .before in
     let looked = moved .before .before in
     let a = looked .before .before .before .args in
     let e = ap (afterWords (a .taken)) (moved .read-word2 .ensures) in
-    rw (c .after-word2 .ensures) (e ∙ arm (a .p) (a .n) (a .w) (a .taken) (a .process) (now (a .words)) (looked .match .keys6))
+    rw (c .after-word2 .ensures) (e ∙ arm (layoutFrom (a .rows)) (a .p) (a .n) (a .w) (a .taken) (a .process) (now (a .words)) (looked .match .keys6))
 
 returns-7 : tie.Need-returns-7
-unfolding stepOn
+unfolding stepOnIn
 returns-7 c =
     let looked = c .before .before in
     let a = looked .before .before .before .args in
     let e = c .after-x3 .ensures ∙ ap (afterX (a .taken)) (c .before .do-line-7 .ensures) in
-    ap (λ (s : Stepped). (s, now (a .words))) e ∙ arm (a .p) (a .n) (a .w) (a .taken) (a .process) (now (a .words)) (looked .match .keys7)
+    ap (λ (s : Stepped). (s, now (a .words))) e ∙ arm (layoutFrom (a .rows)) (a .p) (a .n) (a .w) (a .taken) (a .process) (now (a .words)) (looked .match .keys7)
 
 same-length-3 : tie.Need-same-length-3
 same-length-3 c = search needs
 
 returns-8 : tie.Need-returns-8
-unfolding stepOn
+unfolding stepOnIn
 returns-8 c =
     let moved = c .before .before .before in
     let looked = moved .before .before in
     let a = looked .before .before .before .args in
     let e = ap (afterWords (a .taken)) (moved .read-word3 .ensures) in
-    rw (c .after-word3 .ensures) (e ∙ arm (a .p) (a .n) (a .w) (a .taken) (a .process) (now (a .words)) (looked .match .keys8))
+    rw (c .after-word3 .ensures) (e ∙ arm (layoutFrom (a .rows)) (a .p) (a .n) (a .w) (a .taken) (a .process) (now (a .words)) (looked .match .keys8))
 
 returns-9 : tie.Need-returns-9
-unfolding stepOn
+unfolding stepOnIn
 returns-9 c =
     let looked = c .before .before in
     let a = looked .before .before .before .args in
     let e = c .after-help3 .ensures ∙ ap (afterHelp (a .taken)) (c .before .do-line-8 .ensures) in
-    ap (λ (s : Stepped). (s, now (a .words))) e ∙ arm (a .p) (a .n) (a .w) (a .taken) (a .process) (now (a .words)) (looked .match .keys9)
+    ap (λ (s : Stepped). (s, now (a .words))) e ∙ arm (layoutFrom (a .rows)) (a .p) (a .n) (a .w) (a .taken) (a .process) (now (a .words)) (looked .match .keys9)
 
 returns-10 : tie.Need-returns-10
-unfolding stepOn
+unfolding stepOnIn
 returns-10 c =
     let looked = c .before .before in
     let a = looked .before .before .before .args in
     let e = c .after-help4 .ensures ∙ ap (afterHelp (a .taken)) (c .before .do-line-9 .ensures) in
-    ap (λ (s : Stepped). (s, now (a .words))) e ∙ arm (a .p) (a .n) (a .w) (a .taken) (a .process) (now (a .words)) (looked .match .keys10)
+    ap (λ (s : Stepped). (s, now (a .words))) e ∙ arm (layoutFrom (a .rows)) (a .p) (a .n) (a .w) (a .taken) (a .process) (now (a .words)) (looked .match .keys10)
 
 returns-11 : tie.Need-returns-11
-unfolding stepOn
+unfolding stepOnIn
 returns-11 c =
     let looked = c .before .before in
     let a = looked .before .before .before .args in
     let e = c .after-help5 .ensures ∙ ap (afterHelp (a .taken)) (c .before .do-line-10 .ensures) in
-    ap (λ (s : Stepped). (s, now (a .words))) e ∙ arm (a .p) (a .n) (a .w) (a .taken) (a .process) (now (a .words)) (looked .match .keys11)
+    ap (λ (s : Stepped). (s, now (a .words))) e ∙ arm (layoutFrom (a .rows)) (a .p) (a .n) (a .w) (a .taken) (a .process) (now (a .words)) (looked .match .keys11)
 
 same-length-4 : tie.Need-same-length-4
 same-length-4 c = search needs
 
 returns-12 : tie.Need-returns-12
-unfolding stepOn
+unfolding stepOnIn
 returns-12 c =
     let moved = c .before .before .before in
     let looked = moved .before .before in
     let a = looked .before .before .before .args in
     let e = ap (afterWords (a .taken)) (moved .step-11 .ensures) in
-    rw (c .after-word4 .ensures) (e ∙ arm (a .p) (a .n) (a .w) (a .taken) (a .process) (now (a .words)) (looked .match .keys12))
+    rw (c .after-word4 .ensures) (e ∙ arm (layoutFrom (a .rows)) (a .p) (a .n) (a .w) (a .taken) (a .process) (now (a .words)) (looked .match .keys12))
 
 returns-13 : tie.Need-returns-13
-unfolding stepOn
+unfolding stepOnIn
 returns-13 c =
     let looked = c .before .before in
     let a = looked .before .before .before .args in
     let e = c .after-bank .ensures ∙ ap (afterBank (a .taken)) (c .before .do-line-12 .ensures) in
-    ap (λ (s : Stepped). (s, now (a .words))) e ∙ arm (a .p) (a .n) (a .w) (a .taken) (a .process) (now (a .words)) (looked .match .keys13)
+    ap (λ (s : Stepped). (s, now (a .words))) e ∙ arm (layoutFrom (a .rows)) (a .p) (a .n) (a .w) (a .taken) (a .process) (now (a .words)) (looked .match .keys13)
 
 returns-14 : tie.Need-returns-14
-unfolding stepOn
+unfolding stepOnIn
 returns-14 c =
     let looked = c .before .before in
     let a = looked .before .before .before .args in
     let e = c .after-x4 .ensures ∙ ap (afterX (a .taken)) (c .before .do-line-12-valid .ensures) in
-    ap (λ (s : Stepped). (s, now (a .words))) e ∙ arm (a .p) (a .n) (a .w) (a .taken) (a .process) (now (a .words)) (looked .match .keys14)
+    ap (λ (s : Stepped). (s, now (a .words))) e ∙ arm (layoutFrom (a .rows)) (a .p) (a .n) (a .w) (a .taken) (a .process) (now (a .words)) (looked .match .keys14)
 
 returns-15 : tie.Need-returns-15
-unfolding stepOn
+unfolding stepOnIn
 returns-15 c =
     let looked = c .before .before in
     let a = looked .before .before .before .args in
     let e = c .after-bank2 .ensures ∙ ap (afterBank (a .taken)) (c .before .do-line-13 .ensures) in
-    ap (λ (s : Stepped). (s, now (a .words))) e ∙ arm (a .p) (a .n) (a .w) (a .taken) (a .process) (now (a .words)) (looked .match .keys15)
+    ap (λ (s : Stepped). (s, now (a .words))) e ∙ arm (layoutFrom (a .rows)) (a .p) (a .n) (a .w) (a .taken) (a .process) (now (a .words)) (looked .match .keys15)
 
 returns-16 : tie.Need-returns-16
-unfolding stepOn
+unfolding stepOnIn
 returns-16 c =
     let looked = c .before .before in
     let a = looked .before .before .before .args in
     let e = c .after-help6 .ensures ∙ ap (afterHelp (a .taken)) (c .before .do-line-14 .ensures) in
-    ap (λ (s : Stepped). (s, now (a .words))) e ∙ arm (a .p) (a .n) (a .w) (a .taken) (a .process) (now (a .words)) (looked .match .keys16)
+    ap (λ (s : Stepped). (s, now (a .words))) e ∙ arm (layoutFrom (a .rows)) (a .p) (a .n) (a .w) (a .taken) (a .process) (now (a .words)) (looked .match .keys16)
 
 returns-17 : tie.Need-returns-17
-unfolding stepOn
+unfolding stepOnIn
 returns-17 c =
     let looked = c .before .before in
     let a = looked .before .before .before .args in
     let e = c .after-x5 .ensures ∙ ap (afterX (a .taken)) (c .before .do-line-14-valid .ensures) in
-    ap (λ (s : Stepped). (s, now (a .words))) e ∙ arm (a .p) (a .n) (a .w) (a .taken) (a .process) (now (a .words)) (looked .match .keys17)
+    ap (λ (s : Stepped). (s, now (a .words))) e ∙ arm (layoutFrom (a .rows)) (a .p) (a .n) (a .w) (a .taken) (a .process) (now (a .words)) (looked .match .keys17)
 
 returns-18 : tie.Need-returns-18
-unfolding stepOn
+unfolding stepOnIn
 returns-18 c =
     let looked = c .before .before in
     let a = looked .before .before .before .args in
     let e = c .after-help7 .ensures ∙ ap (afterHelp (a .taken)) (c .before .do-line-15 .ensures) in
-    ap (λ (s : Stepped). (s, now (a .words))) e ∙ arm (a .p) (a .n) (a .w) (a .taken) (a .process) (now (a .words)) (looked .match .keys18)
+    ap (λ (s : Stepped). (s, now (a .words))) e ∙ arm (layoutFrom (a .rows)) (a .p) (a .n) (a .w) (a .taken) (a .process) (now (a .words)) (looked .match .keys18)
 
 same-length-5 : tie.Need-same-length-5
 same-length-5 c = search needs
 
 returns-19 : tie.Need-returns-19
-unfolding stepOn
+unfolding stepOnIn
 returns-19 c =
     let moved = c .before .before .before in
     let looked = moved .before .before in
     let a = looked .before .before .before .args in
     let e = ap (afterWords (a .taken)) (moved .step-17 .ensures) in
-    rw (c .after-word5 .ensures) (e ∙ arm (a .p) (a .n) (a .w) (a .taken) (a .process) (now (a .words)) (looked .match .keys19))
+    rw (c .after-word5 .ensures) (e ∙ arm (layoutFrom (a .rows)) (a .p) (a .n) (a .w) (a .taken) (a .process) (now (a .words)) (looked .match .keys19))
 
 returns-20 : tie.Need-returns-20
-unfolding stepOn
+unfolding stepOnIn
 returns-20 c =
     let looked = c .before .before in
     let a = looked .before .before .before .args in
     let e = c .after-bank3 .ensures ∙ ap (afterBank (a .taken)) (c .before .do-line-18 .ensures) in
-    ap (λ (s : Stepped). (s, now (a .words))) e ∙ arm (a .p) (a .n) (a .w) (a .taken) (a .process) (now (a .words)) (looked .match .keys20)
+    ap (λ (s : Stepped). (s, now (a .words))) e ∙ arm (layoutFrom (a .rows)) (a .p) (a .n) (a .w) (a .taken) (a .process) (now (a .words)) (looked .match .keys20)
 
 returns-21 : tie.Need-returns-21
-unfolding stepOn
+unfolding stepOnIn
 returns-21 c =
     let looked = c .before .before in
     let a = looked .before .before .before .args in
     let e = c .after-x6 .ensures ∙ ap (afterX (a .taken)) (c .before .do-line-19 .ensures) in
-    ap (λ (s : Stepped). (s, now (a .words))) e ∙ arm (a .p) (a .n) (a .w) (a .taken) (a .process) (now (a .words)) (looked .match .keys21)
+    ap (λ (s : Stepped). (s, now (a .words))) e ∙ arm (layoutFrom (a .rows)) (a .p) (a .n) (a .w) (a .taken) (a .process) (now (a .words)) (looked .match .keys21)
 
 returns-22 : tie.Need-returns-22
-unfolding stepOn
+unfolding stepOnIn
 returns-22 c =
     let looked = c .before .before in
     let a = looked .before .before .before .args in
     let e = c .after-x7 .ensures ∙ ap (afterX (a .taken)) (c .before .do-line-23 .ensures) in
-    ap (λ (s : Stepped). (s, now (a .words))) e ∙ arm (a .p) (a .n) (a .w) (a .taken) (a .process) (now (a .words)) (looked .match .keys22)
+    ap (λ (s : Stepped). (s, now (a .words))) e ∙ arm (layoutFrom (a .rows)) (a .p) (a .n) (a .w) (a .taken) (a .process) (now (a .words)) (looked .match .keys22)
 
 returns-23 : tie.Need-returns-23
-unfolding stepOn
+unfolding stepOnIn
 returns-23 c =
     let r1 = c .before .match .rest in
     let r2 = r1 .0 in

@@ -1,25 +1,19 @@
 -- `steps::word_steps::read_word` meets its contract: both places are lent, and the half is copied.
 -- Assumes nothing.
-use native.Mathlib.Omega.{arith}
-use Rattle.words.proofs.WordLaws.{lies}
 use borrow.Author.Needs.{needs}
 use Rattle.steps.proofs.word_steps.read_word.Statement.{statement}
 use Rattle.steps.proofs.word_steps.read_word.Tie as tie
 
-buffer-word-requires : tie.Need-buffer-word-requires
-buffer-word-requires c κs = search needs
+buffer-in-requires : tie.Need-buffer-in-requires
+buffer-in-requires c κs = search needs
 
-return-word-requires : tie.Need-return-word-requires
-return-word-requires c κs = search needs
+return-in-requires : tie.Need-return-in-requires
+return-in-requires c κs = search needs
 
 copy-half-requires : tie.Need-copy-half-requires
 copy-half-requires c κs =
-    let start = c .before .before .before .before in
-    let h = start .pre .0 in
-    let a = start .args in (
-      simp (c .before .before .buffer-word .ensures) (lies (a .n) (omega arith) (omega arith) (h .lent .words)),
-      simp (c .before .return-word .ensures) (lies (a .n) (omega arith) (omega arith) (h .lent .words)),
-    )
+    let h = c .before .before .before .before .pre in
+    (simp (c .before .before .buffer-in .ensures) (h .source-lent), simp (c .before .return-in .ensures) (h .target-lent))
 
 halves-requires : tie.Need-halves-requires
 halves-requires c κs = search needs
@@ -38,16 +32,16 @@ returns c =
       c .do-word .ensures,
       sized .halves .ensures,
       copied .copy-half .ensures,
-      copied .before .before .before .buffer-word .ensures,
-      copied .before .before .return-word .ensures,
+      copied .before .before .before .buffer-in .ensures,
+      copied .before .before .return-in .ensures,
     )
 
 pub read-word-spec : {M : Type 1} → statement M
 read-word-spec =
     tie.close
     (tie.spec
-    buffer-word-requires
-    return-word-requires
+    buffer-in-requires
+    return-in-requires
     copy-half-requires
     halves-requires
     do-word-requires

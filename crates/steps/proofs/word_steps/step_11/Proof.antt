@@ -1,25 +1,19 @@
 -- `steps::word_steps::step_11` meets its contract: both places are lent, and the half is copied.
 -- Assumes nothing.
-use native.Mathlib.Omega.{arith}
-use Rattle.words.proofs.WordLaws.{lies}
 use borrow.Author.Needs.{needs}
 use Rattle.steps.proofs.word_steps.step_11.Statement.{statement}
 use Rattle.steps.proofs.word_steps.step_11.Tie as tie
 
-return-word-requires : tie.Need-return-word-requires
-return-word-requires c κs = search needs
+return-in-requires : tie.Need-return-in-requires
+return-in-requires c κs = search needs
 
-buffer-word-requires : tie.Need-buffer-word-requires
-buffer-word-requires c κs = search needs
+buffer-in-requires : tie.Need-buffer-in-requires
+buffer-in-requires c κs = search needs
 
 copy-half-requires : tie.Need-copy-half-requires
 copy-half-requires c κs =
-    let start = c .before .before .before .before in
-    let h = start .pre in
-    let a = start .args in (
-      simp (c .before .before .return-word .ensures) (lies (a .n) (omega arith) (omega arith) (h .lent .words)),
-      simp (c .before .buffer-word .ensures) (lies (a .n) (omega arith) (omega arith) (h .lent .words)),
-    )
+    let h = c .before .before .before .before .pre in
+    (simp (c .before .before .return-in .ensures) (h .source-lent), simp (c .before .buffer-in .ensures) (h .target-lent))
 
 halves-requires : tie.Need-halves-requires
 halves-requires c κs = search needs
@@ -38,16 +32,16 @@ returns c =
       c .do-line-11 .ensures,
       sized .halves .ensures,
       copied .copy-half .ensures,
-      copied .before .before .before .return-word .ensures,
-      copied .before .before .buffer-word .ensures,
+      copied .before .before .before .return-in .ensures,
+      copied .before .before .buffer-in .ensures,
     )
 
 pub step-11-spec : {M : Type 1} → statement M
 step-11-spec =
     tie.close
     (tie.spec
-    return-word-requires
-    buffer-word-requires
+    return-in-requires
+    buffer-in-requires
     copy-half-requires
     halves-requires
     do-line-11-requires

@@ -1,0 +1,3 @@
+pub mod Schedules
+pub mod RowOrder
+pub mod Runs

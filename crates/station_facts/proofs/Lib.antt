@@ -1,0 +1,3 @@
+pub mod Accepts
+pub mod RecordRows
+pub mod Firsts

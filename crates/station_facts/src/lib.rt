@@ -1,0 +1,1 @@
+// What an accepted command to a station found, and laws of its records' rows and tables: no code.

@@ -1,0 +1,2 @@
+pub mod StationObeyLaws
+pub mod StationDecisionLaws

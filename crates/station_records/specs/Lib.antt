@@ -1,0 +1,2 @@
+pub mod TakenOut
+pub mod Gathered

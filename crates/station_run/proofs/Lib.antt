@@ -1,0 +1,4 @@
+pub mod RunSizes
+pub mod SeenLaws
+pub mod StoredRun
+pub mod Theorems

@@ -1,0 +1,3 @@
+pub mod StationText
+pub mod TextPromises
+pub mod TextByValue

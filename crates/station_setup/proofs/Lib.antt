@@ -1,0 +1,2 @@
+pub mod StationSetUpLaws
+pub mod StoredSetUp

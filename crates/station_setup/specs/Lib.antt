@@ -1,0 +1,2 @@
+pub mod StationSetUpByValue
+pub mod SetUpGathered
