@@ -73,10 +73,15 @@ abbrev pub stationProcessRows : ℕ → ℕ → ℕ → ℕ → Order → ℕ �
 stationProcessRows n w r p o named value q =
     row4 n p ∷ row24 o r named ∷ row8 o w value ∷ row5of o q ∷ row6of o q ∷ row7of o (holdingAt q (recordAbout o named q)) ∷ []
 
--- then all, for so many process records and words lent, with the truth of row 9's ranges
+-- then those with which a command's rows and a set-up's begin, for so many process records and words lent; `rest` is
+-- what follows them;
+abbrev pub stationLentRows : ℕ → ℕ → ℕ → ℕ → ℕ → List Row → List Row
+stationLentRows n w r processes words rest = row1 n ∷ row2 w ∷ row23 r ∷ row3of n w r processes words ∷ rest
+
+-- then all, with the truth of row 9's ranges
 abbrev pub stationRowsOf : ℕ → ℕ → ℕ → ℕ → ℕ → Bool → ℕ → Order → ℕ → ℕ → StationProcess → List Row
 stationRowsOf n w r processes words ranges p o named value q =
-    row1 n ∷ row2 w ∷ row23 r ∷ row3of n w r processes words ∷ row9 ranges ∷ stationProcessRows n w r p o named value q
+    stationLentRows n w r processes words (row9 ranges ∷ stationProcessRows n w r p o named value q)
 
 abbrev pub stationRows : StationMemory → StationOrder → List Row
 stationRows s c =
@@ -85,8 +90,7 @@ stationRows s c =
 
 -- The rows of a set-up: 1, 2, 23, 3, 8.
 abbrev pub stationSetUpRowsOf : ℕ → ℕ → ℕ → ℕ → ℕ → ℕ → List Row
-stationSetUpRowsOf n w r processes words value =
-    row1 n ∷ row2 w ∷ row23 r ∷ row3of n w r processes words ∷ row8always w value ∷ []
+stationSetUpRowsOf n w r processes words value = stationLentRows n w r processes words (row8always w value ∷ [])
 
 abbrev pub stationSetUpRows : StationMemory → ℕ → ℕ → ℕ → List ℕ → List Row
 stationSetUpRows s n w r value = stationSetUpRowsOf n w r (length (s .processes)) (length (s .words)) (length value)

@@ -68,7 +68,7 @@ fn rows_of(n: usize, r: usize, j: RecordNumber) -> FirstRows
 }
 
 // The command, with the number of its refusal.
-fn decide_by(
+pub fn decide_by(
     number: u8,
     station: Station,
     all: Processes,

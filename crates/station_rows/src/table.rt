@@ -6,7 +6,7 @@ ghost use Rattle.llsc.specs.Rows.{first, row8, isStart};
 ghost use mathlib.Core.Bool.{true};
 ghost use Rattle.station.specs.Station.{holdingAt};
 ghost use Rattle.station.specs.StationRefusals.{row5of, row6of, row7of, recordAbout};
-ghost use Rattle.station_rows.specs.StationCommandRows.{stationNumber, stationLateNumber};
+ghost use Rattle.station_rows.specs.StationCommandRows.{stationLentNumber, stationMemoryNumber, stationNumber, stationLateNumber};
 use crate::causes;
 use crate::ranges;
 use llsc::Order;
@@ -17,7 +17,40 @@ use station::StationProcess;
 use station_records::processes;
 use station_records::processes::Processes;
 
-// The number of the first row that holds, 0 for none, for `len` process records lent.
+// Rows 1, 2, 23, 3, with which a command and a set-up begin: the number of the first that holds, 0 for none.
+pub fn lent_refusal(n: usize, w: usize, r: usize, processes: usize, words: usize) -> u8
+    ensures { λ k. ⌜ k ≡ stationLentNumber n w r processes words ⌝ }
+{
+    if plain::n_out_of_range(n) {
+        return plain::N_OUT_OF_RANGE;
+    }
+    if plain::w_out_of_range(w) {
+        return plain::W_OUT_OF_RANGE;
+    }
+    if causes::r_out_of_range(r) {
+        return causes::R_OUT_OF_RANGE;
+    }
+    if causes::too_little_lent(n, w, r, processes, words) {
+        return plain::TOO_LITTLE_LENT;
+    }
+    0
+}
+
+// Rows 1, 2, 23, 3, 9: whether the lent memory is in order, for `len` process records lent.
+pub fn memory_refusal(station: Station, all: Processes, len: usize, words: usize) -> u8
+    ensures { λ k. ⌜ k ≡ stationMemoryNumber station (all .list) len words ⌝ }
+{
+    let number = lent_refusal(station.n, station.w, station.r, len, words);
+    if number != 0 {
+        return number;
+    }
+    if !ranges::in_range(station, all) {
+        return plain::NUMBER_OUT_OF_RANGE;
+    }
+    0
+}
+
+// The number of the first row that holds, 0 for none.
 pub fn refusal(
     station: Station,
     all: Processes,
@@ -30,26 +63,15 @@ pub fn refusal(
 ) -> u8
     ensures { λ r. ⌜ r ≡ stationNumber station (all .list) len p order named value words ⌝ }
 {
-    if plain::n_out_of_range(station.n) {
-        return plain::N_OUT_OF_RANGE;
-    }
-    if plain::w_out_of_range(station.w) {
-        return plain::W_OUT_OF_RANGE;
-    }
-    if causes::r_out_of_range(station.r) {
-        return causes::R_OUT_OF_RANGE;
-    }
-    if causes::too_little_lent(station.n, station.w, station.r, len, words) {
-        return plain::TOO_LITTLE_LENT;
-    }
-    if !ranges::in_range(station, all) {
-        return plain::NUMBER_OUT_OF_RANGE;
+    let number = memory_refusal(station, all, len, words);
+    if number != 0 {
+        return number;
     }
     late_refusal(station, all, p, order, named, value)
 }
 
 // Rows 4, 24, 8, 5, 6, 7: all that a command can be refused for where the lent memory is in order.
-fn late_refusal(
+pub fn late_refusal(
     station: Station,
     all: Processes,
     p: usize,

@@ -5,25 +5,24 @@ use mathlib.Core.Bool.{false, cond}
 use Prim.Native.Nat.{ℕ, zero, suc, _+_, _-_, _*_, _≤_, _<_}
 use native.Mathlib.Nat.{mul-le-mul, mul-le-mul-right}
 use native.Mathlib.Omega.{arith}
-use lib.Dec.{eqb, ltb}
+use lib.Dec.{eqb}
 use lib.ListN.{length, getD, set, replicate, length-append, length-replicate}
 use lib.Seq.{sets}
-use borrow.Author.Tests.{eq-eqb, ne-eqb, eqb-true, ltb-false, not-false}
+use borrow.Author.Tests.{eq-eqb, ne-eqb, eqb-true, not-false}
 use Rattle.model.specs.Sizes.{buffers}
-use Rattle.llsc.specs.Rows.{row1, row2, row8always}
+use Rattle.llsc.specs.Rows.{row8always}
 use Rattle.laws.proofs.ListLaws.{sets-append}
-use Rattle.rows.proofs.RowLaws.{cleared, n-in, w-in, neither}
+use Rattle.rows.proofs.RowLaws.{cleared}
 use Rattle.model.specs.SetUp.{benchAtSetUp}
 use Rattle.station.specs.declared.Tables.{Tables}
 use Rattle.station.specs.declared.Station.{Station}
 use Rattle.station.specs.declared.StationProcess.{StationProcess}
 use Rattle.station.specs.Station.{stationMemory, stationWords, noTables}
 use Rattle.station.specs.Projection.{putTables}
-use Rattle.station.specs.StationRefusals.{row23, row3of}
 use Rattle.station.specs.StationSetUp.{firsts, tablesAtSetUp, blocks, stationSetUp, stationSetUpRefusal}
 use Rattle.station_facts.proofs.Firsts.{firsts-later, firsts-next}
 use Rattle.station_records.specs.TakenOut.{benchIn, withTables}
-use Rattle.station_rows.proofs.StationRowLaws.{r-in}
+use Rattle.station_rows.proofs.StationRowLaws.{begins-lent}
 use Rattle.station_setup.specs.declared.Prepared.{Prepared}
 use Rattle.station_setup.specs.StationSetUpByValue.{stationSetUpNumber, tablesSet, sized, block, Admitted, stationPrepared, processesSet}
 
@@ -103,22 +102,15 @@ module _ {n w r words value : ℕ} (h : Admitted n w r words value) where
 pub set-up-fits : (n w r len words value : ℕ) → stationSetUpNumber n w r len words value ≡ 0 → Admitted n w r words value
 unfolding stationSetUpNumber
 set-up-fits n w r len words value e =
-    let r8 : ℕ = cond (row8always w value .holds) 8 0 in
-    let r3 : ℕ = cond (row3of n w r len words .holds) 3 r8 in
-    let r23 : ℕ = cond (row23 r .holds) 23 r3 in
-    let r2 : ℕ = cond (row2 w .holds) 2 r23 in
-    let c1 = cleared (row1 n .holds) 0 r2 e in
-    let c2 = cleared (row2 w .holds) 1 r23 (c1 .1) in
-    let c23 = cleared (row23 r .holds) 22 r3 (c2 .1) in
-    let c3 = cleared (row3of n w r len words .holds) 2 r8 (c23 .1) in
-    let c8 = cleared (row8always w value .holds) 7 0 (c3 .1) in
+    let wrong = row8always w value .holds in
+    let lent = begins-lent n w r len words (cond wrong 8 0) e in
     record {
-      n-some = n-in n (c1 .0) .0;
-      n-most = n-in n (c1 .0) .1;
-      w-most = w-in w (c2 .0) .1;
-      r-most = r-in r (c23 .0) .1;
-      words-lent = ltb-false words (stationWords n w r) (neither (ltb words (stationWords n w r)) (ltb len n) (c3 .0) .0);
-      value-words = eqb-true value w (not-false (eqb value w) (c8 .0));
+      n-some = lent .0 .n-some;
+      n-most = lent .0 .n-most;
+      w-most = lent .0 .w-most;
+      r-most = lent .0 .r-most;
+      words-lent = lent .0 .words-lent;
+      value-words = eqb-true value w (not-false (eqb value w) (cleared wrong 7 0 (lent .1) .0));
     }
 
 -- the two answers of a set-up

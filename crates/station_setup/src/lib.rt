@@ -20,6 +20,7 @@ use station::StationProcess;
 use station_records::processes;
 use station_records::processes::Processes;
 use station_rows::causes;
+use station_rows::table;
 use words::word_runs;
 
 pub mod gathered;
@@ -41,17 +42,9 @@ pub fn set_up_number(
 ) -> u8
     ensures { λ k. ⌜ k ≡ stationSetUpNumber n w r processes words value ⌝ }
 {
-    if plain::n_out_of_range(n) {
-        return plain::N_OUT_OF_RANGE;
-    }
-    if plain::w_out_of_range(w) {
-        return plain::W_OUT_OF_RANGE;
-    }
-    if causes::r_out_of_range(r) {
-        return causes::R_OUT_OF_RANGE;
-    }
-    if causes::too_little_lent(n, w, r, processes, words) {
-        return plain::TOO_LITTLE_LENT;
+    let number = table::lent_refusal(n, w, r, processes, words);
+    if number != 0 {
+        return number;
     }
     if value != w {
         return plain::VALUE_NOT_W_WORDS;

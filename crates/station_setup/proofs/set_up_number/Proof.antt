@@ -1,103 +1,42 @@
--- `station_setup::set_up_number` meets its contract: the rows in order.
+-- `station_setup::set_up_number` meets its contract: rows 1, 2, 23, 3, then 8.
 use mathlib.Core.Path.{refl, sym, ap, _∙_}
 use mathlib.Core.Bool.{not}
 use borrow.Author.Tests.{eq-eqb, ne-eqb}
-use Rattle.station_setup.specs.StationSetUpByValue.{stationSetUpNumber}
-use Rattle.rows.proofs.RowLaws.{over, here, n-in, w-in}
-use Rattle.station_rows.proofs.StationRowLaws.{r-in}
 use borrow.Author.Needs.{needs}
+use Rattle.rows.proofs.RowLaws.{over, here}
+use Rattle.station_rows.proofs.StationRowLaws.{lent-answers, lent-passed}
+use Rattle.station_setup.specs.StationSetUpByValue.{stationSetUpNumber}
 use Rattle.station_setup.proofs.set_up_number.Statement.{statement}
 use Rattle.station_setup.proofs.set_up_number.Tie as tie
 
-n-out-of-range-requires : tie.Need-n-out-of-range-requires
-n-out-of-range-requires c κs = search needs
+lent-refusal-requires : tie.Need-lent-refusal-requires
+lent-refusal-requires c κs = search needs
 
 returns : tie.Need-returns
 unfolding stationSetUpNumber
 returns c =
-    here _ 1 _ (sym (c .before .n-out-of-range .ensures) ∙ c .if1 .taken)
-
-w-out-of-range-requires : tie.Need-w-out-of-range-requires
-w-out-of-range-requires c κs = search needs
+    let e = c .before .lent-refusal .ensures in
+    e ∙ lent-answers _ _ _ _ _ _ (λ z. c .if1 .taken (e ∙ z))
 
 returns-2 : tie.Need-returns-2
 unfolding stationSetUpNumber
 returns-2 c =
-    let at1 = c .before .before in
-    let no1 = sym (at1 .before .n-out-of-range .ensures) ∙ at1 .if1 .left in
-    over _ 1 no1 (here _ 2 _ (sym (c .before .w-out-of-range .ensures) ∙ c .if2 .taken))
-
-r-out-of-range-requires : tie.Need-r-out-of-range-requires
-r-out-of-range-requires c κs = search needs
+    let at1 = c .before in
+    let none = sym (at1 .before .lent-refusal .ensures) ∙ at1 .if1 .left in
+    lent-passed _ _ _ _ _ none (here _ 8 _ (ap not (ne-eqb _ _ (c .if2 .taken))))
 
 returns-3 : tie.Need-returns-3
 unfolding stationSetUpNumber
 returns-3 c =
-    let at2 = c .before .before in
-    let at1 = at2 .before .before in
-    let no1 = sym (at1 .before .n-out-of-range .ensures) ∙ at1 .if1 .left in
-    let no2 = sym (at2 .before .w-out-of-range .ensures) ∙ at2 .if2 .left in
-    over _ 1 no1 (over _ 2 no2 (here _ 23 _ (sym (c .before .r-out-of-range .ensures) ∙ c .if3 .taken)))
-
-too-little-lent-requires : tie.Need-too-little-lent-requires
-too-little-lent-requires c κs =
-    let at3 = c in
-    let at2 = at3 .before .before in
-    let at1 = at2 .before .before in
-    let no1 = sym (at1 .before .n-out-of-range .ensures) ∙ at1 .if1 .left in
-    let no2 = sym (at2 .before .w-out-of-range .ensures) ∙ at2 .if2 .left in
-    let no3 = sym (at3 .before .r-out-of-range .ensures) ∙ at3 .if3 .left in
-    (n-in _ no1 .1, (w-in _ no2 .1, r-in _ no3 .1))
-
-returns-4 : tie.Need-returns-4
-unfolding stationSetUpNumber
-returns-4 c =
-    let at3 = c .before .before in
-    let at2 = at3 .before .before in
-    let at1 = at2 .before .before in
-    let no1 = sym (at1 .before .n-out-of-range .ensures) ∙ at1 .if1 .left in
-    let no2 = sym (at2 .before .w-out-of-range .ensures) ∙ at2 .if2 .left in
-    let no3 = sym (at3 .before .r-out-of-range .ensures) ∙ at3 .if3 .left in
-    over _ 1 no1 (over _ 2 no2 (over _ 23 no3 (here _ 3 _ (sym (c .before .too-little-lent .ensures) ∙ c .if4 .taken))))
-
-returns-5 : tie.Need-returns-5
-unfolding stationSetUpNumber
-returns-5 c =
-    let at4 = c .before in
-    let at3 = at4 .before .before in
-    let at2 = at3 .before .before in
-    let at1 = at2 .before .before in
-    let no1 = sym (at1 .before .n-out-of-range .ensures) ∙ at1 .if1 .left in
-    let no2 = sym (at2 .before .w-out-of-range .ensures) ∙ at2 .if2 .left in
-    let no3 = sym (at3 .before .r-out-of-range .ensures) ∙ at3 .if3 .left in
-    let no4 = sym (at4 .before .too-little-lent .ensures) ∙ at4 .if4 .left in
-    over _ 1 no1 (over _ 2 no2 (over _ 23 no3 (over _ 3 no4 (here _ 8 _ (ap not (ne-eqb _ _ (c .if5 .taken)))))))
-
-returns-6 : tie.Need-returns-6
-unfolding stationSetUpNumber
-returns-6 c =
-    let at4 = c .before in
-    let at3 = at4 .before .before in
-    let at2 = at3 .before .before in
-    let at1 = at2 .before .before in
-    let no1 = sym (at1 .before .n-out-of-range .ensures) ∙ at1 .if1 .left in
-    let no2 = sym (at2 .before .w-out-of-range .ensures) ∙ at2 .if2 .left in
-    let no3 = sym (at3 .before .r-out-of-range .ensures) ∙ at3 .if3 .left in
-    let no4 = sym (at4 .before .too-little-lent .ensures) ∙ at4 .if4 .left in
-    let no5 = ap not (eq-eqb _ _ (c .if5 .left)) in
-    over _ 1 no1 (over _ 2 no2 (over _ 23 no3 (over _ 3 no4 (over _ 8 no5 refl))))
+    let at1 = c .before in
+    let none = sym (at1 .before .lent-refusal .ensures) ∙ at1 .if1 .left in
+    lent-passed _ _ _ _ _ none (over _ 8 (ap not (eq-eqb _ _ (c .if2 .left))) refl)
 
 pub set-up-number-spec : {M : Type 1} → statement M
 set-up-number-spec =
     tie.close
     (tie.spec
-    n-out-of-range-requires
+    lent-refusal-requires
     returns
-    w-out-of-range-requires
     returns-2
-    r-out-of-range-requires
-    returns-3
-    too-little-lent-requires
-    returns-4
-    returns-5
-    returns-6)
+    returns-3)

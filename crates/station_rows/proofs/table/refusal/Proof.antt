@@ -1,130 +1,34 @@
--- `station_rows::table::refusal` meets its contract: the rows in order.
-use mathlib.Core.Path.{sym, ap, _∙_}
-use mathlib.Core.Bool.{not}
-use Rattle.station_rows.specs.StationCommandRows.{stationNumber, stationLateNumber}
-use Rattle.rows.proofs.RowLaws.{over, here, n-in, w-in}
-use Rattle.station_rows.proofs.StationRowLaws.{r-in}
+-- `station_rows::table::refusal` meets its contract: rows 1, 2, 23, 3, 9, then the late ones.
+use mathlib.Core.Path.{sym, _∙_}
 use borrow.Author.Needs.{needs}
+use Rattle.station_rows.proofs.StationRowLaws.{memory-lent, memory-answers, late-decides}
 use Rattle.station_rows.proofs.table.refusal.Statement.{statement}
 use Rattle.station_rows.proofs.table.refusal.Tie as tie
 
-n-out-of-range-requires : tie.Need-n-out-of-range-requires
-n-out-of-range-requires c κs = search needs
+memory-refusal-requires : tie.Need-memory-refusal-requires
+memory-refusal-requires c κs = search needs
 
 returns : tie.Need-returns
-unfolding stationNumber
 returns c =
-    here _ 1 _ (sym (c .before .n-out-of-range .ensures) ∙ c .if1 .taken)
-
-w-out-of-range-requires : tie.Need-w-out-of-range-requires
-w-out-of-range-requires c κs = search needs
-
-returns-2 : tie.Need-returns-2
-unfolding stationNumber
-returns-2 c =
-    let at1 = c .before .before in
-    let no1 = sym (at1 .before .n-out-of-range .ensures) ∙ at1 .if1 .left in
-    over _ 1 no1 (here _ 2 _ (sym (c .before .w-out-of-range .ensures) ∙ c .if2 .taken))
-
-r-out-of-range-requires : tie.Need-r-out-of-range-requires
-r-out-of-range-requires c κs = search needs
-
-returns-3 : tie.Need-returns-3
-unfolding stationNumber
-returns-3 c =
-    let at2 = c .before .before in
-    let at1 = at2 .before .before in
-    let no1 = sym (at1 .before .n-out-of-range .ensures) ∙ at1 .if1 .left in
-    let no2 = sym (at2 .before .w-out-of-range .ensures) ∙ at2 .if2 .left in
-    over _ 1 no1 (over _ 2 no2 (here _ 23 _ (sym (c .before .r-out-of-range .ensures) ∙ c .if3 .taken)))
-
-too-little-lent-requires : tie.Need-too-little-lent-requires
-too-little-lent-requires c κs =
-    let at3 = c in
-    let at2 = at3 .before .before in
-    let at1 = at2 .before .before in
-    let no1 = sym (at1 .before .n-out-of-range .ensures) ∙ at1 .if1 .left in
-    let no2 = sym (at2 .before .w-out-of-range .ensures) ∙ at2 .if2 .left in
-    let no3 = sym (at3 .before .r-out-of-range .ensures) ∙ at3 .if3 .left in
-    (n-in _ no1 .1, (w-in _ no2 .1, r-in _ no3 .1))
-
-returns-4 : tie.Need-returns-4
-unfolding stationNumber
-returns-4 c =
-    let at3 = c .before .before in
-    let at2 = at3 .before .before in
-    let at1 = at2 .before .before in
-    let no1 = sym (at1 .before .n-out-of-range .ensures) ∙ at1 .if1 .left in
-    let no2 = sym (at2 .before .w-out-of-range .ensures) ∙ at2 .if2 .left in
-    let no3 = sym (at3 .before .r-out-of-range .ensures) ∙ at3 .if3 .left in
-    over _ 1 no1 (over _ 2 no2 (over _ 23 no3 (here _ 3 _ (sym (c .before .too-little-lent .ensures) ∙ c .if4 .taken))))
-
-in-range-requires : tie.Need-in-range-requires
-in-range-requires c κs =
-    let at4 = c in
-    let at3 = at4 .before .before in
-    let at2 = at3 .before .before in
-    let at1 = at2 .before .before in
-    let no1 = sym (at1 .before .n-out-of-range .ensures) ∙ at1 .if1 .left in
-    let no2 = sym (at2 .before .w-out-of-range .ensures) ∙ at2 .if2 .left in
-    let no3 = sym (at3 .before .r-out-of-range .ensures) ∙ at3 .if3 .left in
-    (n-in _ no1 .1, (w-in _ no2 .1, r-in _ no3 .1))
-
-returns-5 : tie.Need-returns-5
-unfolding stationNumber
-returns-5 c =
-    let at4 = c .before .before in
-    let at3 = at4 .before .before in
-    let at2 = at3 .before .before in
-    let at1 = at2 .before .before in
-    let no1 = sym (at1 .before .n-out-of-range .ensures) ∙ at1 .if1 .left in
-    let no2 = sym (at2 .before .w-out-of-range .ensures) ∙ at2 .if2 .left in
-    let no3 = sym (at3 .before .r-out-of-range .ensures) ∙ at3 .if3 .left in
-    let no4 = sym (at4 .before .too-little-lent .ensures) ∙ at4 .if4 .left in
-    over _ 1 no1 (over _ 2 no2 (over _ 23 no3 (over _ 3 no4 (here _ 9 _ (ap not (sym (c .before .in-range .ensures)) ∙ c .if5 .taken)))))
+    let e = c .before .memory-refusal .ensures in
+    e ∙ memory-answers _ _ _ _ _ _ _ _ (λ z. c .if1 .taken (e ∙ z))
 
 late-refusal-requires : tie.Need-late-refusal-requires
 late-refusal-requires c κs =
-    let at5 = c in
-    let at4 = at5 .before .before in
-    let at3 = at4 .before .before in
-    let at2 = at3 .before .before in
-    let at1 = at2 .before .before in
-    let no1 = sym (at1 .before .n-out-of-range .ensures) ∙ at1 .if1 .left in
-    let no2 = sym (at2 .before .w-out-of-range .ensures) ∙ at2 .if2 .left in
-    let no3 = sym (at3 .before .r-out-of-range .ensures) ∙ at3 .if3 .left in
-    let no4 = sym (at4 .before .too-little-lent .ensures) ∙ at4 .if4 .left in
-    let no5 = ap not (sym (at5 .before .in-range .ensures)) ∙ at5 .if5 .left in
-    (n-in _ no1 .1, r-in _ no3 .1)
+    let l = memory-lent _ _ _ _ (sym (c .before .memory-refusal .ensures) ∙ c .if1 .left) in
+    (l .n-most, l .r-most)
 
-returns-6 : tie.Need-returns-6
-unfolding stationNumber stationLateNumber
-returns-6 c =
-    let at5 = c .before in
-    let at4 = at5 .before .before in
-    let at3 = at4 .before .before in
-    let at2 = at3 .before .before in
-    let at1 = at2 .before .before in
-    let no1 = sym (at1 .before .n-out-of-range .ensures) ∙ at1 .if1 .left in
-    let no2 = sym (at2 .before .w-out-of-range .ensures) ∙ at2 .if2 .left in
-    let no3 = sym (at3 .before .r-out-of-range .ensures) ∙ at3 .if3 .left in
-    let no4 = sym (at4 .before .too-little-lent .ensures) ∙ at4 .if4 .left in
-    let no5 = ap not (sym (at5 .before .in-range .ensures)) ∙ at5 .if5 .left in
-    over _ 1 no1 (over _ 2 no2 (over _ 23 no3 (over _ 3 no4 (over _ 9 no5 (c .late-refusal .ensures)))))
+returns-2 : tie.Need-returns-2
+returns-2 c =
+    let at1 = c .before in
+    let none = sym (at1 .before .memory-refusal .ensures) ∙ at1 .if1 .left in
+    c .late-refusal .ensures ∙ late-decides _ _ _ _ _ _ _ _ none
 
 pub refusal-spec : {M : Type 1} → statement M
 refusal-spec =
     tie.close
     (tie.spec
-    n-out-of-range-requires
+    memory-refusal-requires
     returns
-    w-out-of-range-requires
-    returns-2
-    r-out-of-range-requires
-    returns-3
-    too-little-lent-requires
-    returns-4
-    in-range-requires
-    returns-5
     late-refusal-requires
-    returns-6)
+    returns-2)

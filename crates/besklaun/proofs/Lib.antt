@@ -1,0 +1,3 @@
+pub mod OwnBenchLaws
+pub mod TurnByteLaws
+pub mod Theorems

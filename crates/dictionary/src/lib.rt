@@ -1,0 +1,1 @@
+// Schedules in dictionary order (CR 5): specs/Schedules has them, and enumeration the code.

@@ -1,0 +1,2 @@
+pub mod NextAlone
+pub mod TurnDecisionLaws
