@@ -21,7 +21,9 @@ use Rattle.listing.specs.Decimal.{digits, decimal}
 use Rattle.listing.specs.Lines.{letterL, letterS, letterV, answerHead, wordsOf, llLine, truthLine}
 use Rattle.access.specs.declared.Access.{Access}
 use Rattle.access.specs.declared.Act.the-variants.{Sc}
-use Rattle.access.specs.Accesses.{bankAccess, vlOfX, accessOf}
+use Rattle.doings.specs.Doings.{doingAt}
+use Rattle.access.specs.AccessOn.{bankAccess, vlOfX}
+use Rattle.access.specs.Accesses.{accessOf}
 use Rattle.listing.specs.Quoted.{quoted}
 use Rattle.access.specs.TraceLines.{spaced, bracketed, headText, halfText, halfPlaceText, itemText, valuesText, truthText, storedText}
 use Rattle.access.specs.TraceLines.{writtenText, actText, endText, stepLine, broughtText, startLine}
@@ -70,7 +72,7 @@ case-A :
     ++ quoted "16 0 17 BUF[4][0] high write 0\n"
     ++ quoted "17 0 18 Bank[1] read 1\n"
     ++ quoted "18 0 19 X SC 4 1 true links cleared answers 0 S 6 1\n"
-unfolding traced entryLine stepped command refusal inRange obey stepAt accessOf setUp setUpRefusal spaced bracketed
+unfolding traced entryLine stepped command refusal inRange obey stepAt accessOf doingAt setUp setUpRefusal spaced bracketed
     headText halfText halfPlaceText itemText valuesText storedText writtenText actText endText stepLine broughtText
     startLine llLine truthLine answerHead wordsOf decimal digits
 case-A = refl

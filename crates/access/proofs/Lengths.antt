@@ -9,12 +9,12 @@ use Rattle.model.specs.Words.{wordOf}
 use Rattle.listing.specs.Decimal.{decimal}
 use Rattle.listing.specs.Lines.{letterS}
 use Rattle.listing.proofs.Lengths.{count-digits, word-digits, entries-digits, joined}
-use Rattle.access.specs.declared.Item.{Item}
-use Rattle.access.specs.declared.Item.the-variants.{X, Bank, Help, Half}
+use Rattle.doings.specs.declared.Item.{Item}
+use Rattle.doings.specs.declared.Item.the-variants.{X, Bank, Help, Half}
 use Rattle.access.specs.declared.Act.{Act}
 use Rattle.access.specs.declared.Act.the-variants.{Read, Write, Ll, Sc, Vl}
 use Rattle.access.specs.declared.Access.{Access}
-use Rattle.access.specs.Items.{index, wordPlace}
+use Rattle.doings.specs.Items.{index, wordPlace}
 use Rattle.listing.specs.Quoted.{quoted}
 use Rattle.access.specs.TraceLines.{spaced, bracketed, headText, halfText, halfPlaceText, itemText, valuesText, truthText, storedText}
 use Rattle.access.specs.TraceLines.{writtenText, actText, endText, stepLine, broughtText, startLine}

@@ -4,5 +4,4 @@ pub mod TextLaws
 pub mod Lengths
 pub mod SmallLaws
 pub mod Examples
-pub mod TruthLaws
 pub mod Theorems

@@ -1,5 +1,5 @@
 -- The accesses of a bench in range, whose words have at most ten digits, are small.
-use mathlib.Core.Path.{_≡_}
+use mathlib.Core.Path.{_≡_, subst}
 use mathlib.Core.List.{List, [], _∷_}
 use mathlib.Core.Bool.{Bool, true, false, _&&_}
 use Prim.Native.Nat.{ℕ, zero, suc, _+_, _*_, _≤_, _<_}
@@ -36,7 +36,10 @@ use Rattle.words.proofs.WordLaws.{within}
 use Rattle.taken.proofs.IndexLaws.{bank-index-in, help-index-in}
 use Rattle.access.specs.declared.Act.{Act}
 use Rattle.access.specs.declared.Act.the-variants.{Read, Write, Ll, Sc}
-use Rattle.access.specs.Accesses.{xAccess, bankAccess, helpAccess, halfAccess, vlOfX, scAtHelp, readHalf, writeHalf, accessOf}
+use Rattle.access.specs.AccessOn.{xAccess, bankAccess, helpAccess, halfAccess, vlOfX, scOfHelp, readHalf, writeHalf, accessOn}
+use Rattle.access.specs.Accesses.{accessOf}
+use Rattle.access.proofs.AccessLaws.{access-by-taken}
+use Rattle.taken.specs.Taken.{takenFrom}
 use Rattle.access.proofs.Lengths.{SmallAccess}
 
 -- what a test of the first k places shows of each of them, and of what stands past the end
@@ -170,7 +173,7 @@ module _ (b : Bench) {q : Process} {p : ProcessNumber} {ws : List ℕ} (r : Read
 
   -- p's SC(Help[i], (0, v))
   stored-small : (line : ℕ) (i : ProcessNumber) (v : BufferNumber) → line ≤ 255 → i .0 < b .n → v .0 < 3 * b .n
-      → SmallAccess (scAtHelp line i p v b)
+      → SmallAccess (scOfHelp line i p v (helpAt b i))
   stored-small line i v h k l =
       let done = Sc (linked (helpAt b i .links) p) in
       help-small line i done (record { flag = 0; buf = v }) h (omega (arith, most)) (omega arith) (omega (arith, most))
@@ -179,28 +182,31 @@ module _ (b : Bench) {q : Process} {p : ProcessNumber} {ws : List ℕ} (r : Read
   written-small : (line row : ℕ) → line ≤ 255 → row < 5 * b .n → SmallAccess (writeHalf line (row * b .w + wordOf (q .word)) q ws)
   written-small line row h k = word-small line (q .mybuf) Write (getD ws (row * b .w + wordOf (q .word)) 0) h (r .mybuf) (word-at row k)
 
+  taken-small : (y : Point) → SmallAccess (accessOn y p (b .n) (b .w) (takenFrom y b p q) q ws)
+  unfolding accessOn
+  taken-small idle = valid-small 0 false (omega arith)
+  taken-small line1 = help-small 1 p Write (record { flag = 1; buf = q .mybuf }) (omega arith) (omega (arith, own, most)) (omega arith) (omega (arith, r .mybuf, most))
+  taken-small line2 = x-small 2 Ll (b .x .content) (omega arith) (omega (arith, x-buf, most)) (omega (arith, x-seq, most))
+  taken-small line3 = read-small 3 (q .x .buf) (omega arith) (r .x-buf)
+  taken-small line4 = seen-small 4 p Ll (omega arith) own
+  taken-small line5 = x-small 5 Ll (b .x .content) (omega arith) (omega (arith, x-buf, most)) (omega (arith, x-seq, most))
+  taken-small line6 = read-small 6 (q .x .buf) (omega arith) (r .x-buf)
+  taken-small line7 = valid-small 7 (linked (b .x .links) p) (omega arith)
+  taken-small line7copy = read-small 7 (q .b) (omega arith) (r .b-buf)
+  taken-small line8 = seen-small 8 p Ll (omega arith) own
+  taken-small line9 = stored-small 9 p (q .c) (omega arith) own (c-in (b .n) (b .w) q process)
+  taken-small line10 = seen-small 10 p Read (omega arith) own
+  taken-small line11 = written-small 11 (3 * b .n + p .0) (omega arith) (omega (arith, own))
+  taken-small line12 = bank-small 12 (q .x .seq) Ll (bankAt b (q .x .seq) .content) (omega arith) (omega (arith, r .x-seq, most)) (omega (arith, bank-at (q .x .seq) (r .x-seq), most))
+  taken-small line12valid = valid-small 12 (linked (b .x .links) p) (omega arith)
+  taken-small line13 = bank-small 13 (q .x .seq) (Sc (linked (bankAt b (q .x .seq) .links) p)) (q .x .buf) (omega arith) (omega (arith, r .x-seq, most)) (omega (arith, r .x-buf, most))
+  taken-small line14 = seen-small 14 g Ll (omega arith) helped-in
+  taken-small line14valid = valid-small 14 (linked (b .x .links) p) (omega arith)
+  taken-small line15 = stored-small 15 g (q .mybuf) (omega arith) helped-in (r .mybuf)
+  taken-small line17 = written-small 17 (4 * b .n + p .0) (omega arith) (omega (arith, own))
+  taken-small line18 = bank-small 18 (freed) Read (bankAt b (freed) .content) (omega arith) (omega (arith, next-in, most)) (omega (arith, bank-at (freed) next-in, most))
+  taken-small line19 = x-small 19 (Sc (linked (b .x .links) p)) (record { buf = q .mybuf; seq = freed }) (omega arith) (omega (arith, r .mybuf, most)) (omega (arith, next-in, most))
+  taken-small line23 = valid-small 23 (linked (b .x .links) p) (omega arith)
+
   pub access-small : (y : Point) → SmallAccess (accessOf y p b q ws)
-  unfolding accessOf
-  access-small idle = valid-small 0 false (omega arith)
-  access-small line1 = help-small 1 p Write (record { flag = 1; buf = q .mybuf }) (omega arith) (omega (arith, own, most)) (omega arith) (omega (arith, r .mybuf, most))
-  access-small line2 = x-small 2 Ll (b .x .content) (omega arith) (omega (arith, x-buf, most)) (omega (arith, x-seq, most))
-  access-small line3 = read-small 3 (q .x .buf) (omega arith) (r .x-buf)
-  access-small line4 = seen-small 4 p Ll (omega arith) own
-  access-small line5 = x-small 5 Ll (b .x .content) (omega arith) (omega (arith, x-buf, most)) (omega (arith, x-seq, most))
-  access-small line6 = read-small 6 (q .x .buf) (omega arith) (r .x-buf)
-  access-small line7 = valid-small 7 (linked (b .x .links) p) (omega arith)
-  access-small line7copy = read-small 7 (q .b) (omega arith) (r .b-buf)
-  access-small line8 = seen-small 8 p Ll (omega arith) own
-  access-small line9 = stored-small 9 p (q .c) (omega arith) own (c-in (b .n) (b .w) q process)
-  access-small line10 = seen-small 10 p Read (omega arith) own
-  access-small line11 = written-small 11 (3 * b .n + p .0) (omega arith) (omega (arith, own))
-  access-small line12 = bank-small 12 (q .x .seq) Ll (bankAt b (q .x .seq) .content) (omega arith) (omega (arith, r .x-seq, most)) (omega (arith, bank-at (q .x .seq) (r .x-seq), most))
-  access-small line12valid = valid-small 12 (linked (b .x .links) p) (omega arith)
-  access-small line13 = bank-small 13 (q .x .seq) (Sc (linked (bankAt b (q .x .seq) .links) p)) (q .x .buf) (omega arith) (omega (arith, r .x-seq, most)) (omega (arith, r .x-buf, most))
-  access-small line14 = seen-small 14 g Ll (omega arith) helped-in
-  access-small line14valid = valid-small 14 (linked (b .x .links) p) (omega arith)
-  access-small line15 = stored-small 15 g (q .mybuf) (omega arith) helped-in (r .mybuf)
-  access-small line17 = written-small 17 (4 * b .n + p .0) (omega arith) (omega (arith, own))
-  access-small line18 = bank-small 18 (freed) Read (bankAt b (freed) .content) (omega arith) (omega (arith, next-in, most)) (omega (arith, bank-at (freed) next-in, most))
-  access-small line19 = x-small 19 (Sc (linked (b .x .links) p)) (record { buf = q .mybuf; seq = freed }) (omega arith) (omega (arith, r .mybuf, most)) (omega (arith, next-in, most))
-  access-small line23 = valid-small 23 (linked (b .x .links) p) (omega arith)
+  access-small y = subst SmallAccess (access-by-taken p b q ws (omega (arith, r .word)) y) (taken-small y)

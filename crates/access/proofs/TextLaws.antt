@@ -3,7 +3,7 @@ use mathlib.Core.Path.{_≡_, sym, subst}
 use mathlib.Core.List.{List}
 use Prim.Native.Nat.{ℕ}
 use Rattle.listing.specs.Writing.{Room, Wrote}
-use Rattle.access.specs.declared.Item.{Item}
+use Rattle.doings.specs.declared.Item.{Item}
 use Rattle.access.specs.declared.Act.{Act}
 use Rattle.access.specs.TraceLines.{valuesText, actText}
 

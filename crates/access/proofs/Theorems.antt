@@ -1,132 +1,145 @@
--- The theorem about the trace: the access shown for a step is what `model`'s step does, and the step does nothing else to a shared item.
-use mathlib.Core.Path.{_≡_, refl}
+-- The theorems about the trace: the access shown for a step is what `model`'s step does, the step does nothing else to a
+-- shared item, and it depends on no other.
+use mathlib.Core.Path.{_≡_, refl, sym, ap, ap₂, subst, _∙_}
 use mathlib.Core.Logic.{_≢_}
 use mathlib.Core.List.{List}
-use mathlib.Core.Bool.{Bool}
-use Prim.Native.Nat.{ℕ, _+_, _*_, _<_}
+use mathlib.Core.Bool.{Bool, true, false, cond}
+use Prim.Native.Nat.{ℕ, _*_, _<_}
 use native.Mathlib.Omega.{arith}
-use lib.ListN.{length, getD}
-use Rattle.model.specs.declared.BufferNumber.{BufferNumber}
-use Rattle.model.specs.declared.SequenceNumber.{SequenceNumber}
 use Rattle.llsc.specs.declared.ProcessNumber.{ProcessNumber}
-use Rattle.model.specs.declared.XContent.{XContent}
-use Rattle.model.specs.declared.HelpContent.{HelpContent}
 use Rattle.model.specs.declared.Bench.{Bench}
 use Rattle.model.specs.declared.Process.{Process}
-use Rattle.model.specs.Places.{linked, llX, scX, llBank, scBank, llHelp, scHelp, writeHelp}
-use Rattle.model.specs.Tables.{bankAt, helpAt, putX, putHelp, next, helped}
-use Rattle.model.specs.Words.{bufferWord, returnWord, offerWord, wordOf, half, copiedHalf}
+use Rattle.model.specs.declared.Moved.{Moved}
+use Rattle.model.specs.Places.{linked}
+use Rattle.model.specs.Words.{Layout, oneRecord}
 use Rattle.model.specs.Points.{Point, idle, line1, line2, line3, line4, line5, line6, line7, line7copy, line8, line9, line10, line11}
 use Rattle.model.specs.Points.{line12, line12valid, line13, line14, line14valid, line15, line17, line18, line19, line23}
-use Rattle.model.specs.Machine.{stepAt}
-use Rattle.taken.proofs.IndexLaws.{bank-index-small, help-index-small}
-use Rattle.access.proofs.PlaceLaws.{word-lies}
-use Rattle.access.specs.declared.Act.the-variants.{Read, Write, Ll, Sc, Vl}
-use Rattle.access.specs.Accesses.{halfAccess, vlOfX, llOfX, llAtHelp, scAtHelp, readHalf, accessOf}
-use Rattle.access.specs.Items.{Holding}
-use Rattle.access.specs.Truth.{Holds, TellsTruth, Stepped}
-use Rattle.access.proofs.TruthLaws.{sc-x, sc-bank, sc-help, halfPut, x-tells, bank-tells, help-tells, read-tells, write-tells}
+use Rattle.model.specs.Machine.{stepIn, stepAt}
+use Rattle.doings.specs.declared.Item.{Item}
+use Rattle.doings.specs.declared.Item.the-variants.{X, Bank, Help, Half}
+use Rattle.doings.specs.Items.{Holding, itemIn, itemAt}
+use Rattle.doings.specs.Own.{Own, ownIn}
+use Rattle.doings.specs.Doings
+use Rattle.doings.specs.Doings.{read, ll, vl, sc, write, cleared, acted, seen, Touching, nothing, one, doingAt, effect}
+use Rattle.doings.specs.Depends.{Alike, SameAfter}
+use Rattle.doings.proofs.Layouts.{one-record-laid}
+use Rattle.doings.proofs.ItemLaws.{Stands}
+use Rattle.doings.proofs.Figure2.{Ranged, Follows, step-follows}
+use Rattle.doings.proofs.Effects.{item-left, other-left, depends}
+use Rattle.access.specs.declared.Act.the-variants.{Sc}
+use Rattle.access.specs.Accesses.{shownAct, shownFirst, shownSecond, shown, paperLine, doingNow, accessOf}
+use Rattle.access.specs.Truth.{Says, TellsTruth, Stepped, DependsOn}
 
-held : {v u : ℕ} {h : Holding} → h .first ≡ v → h .second ≡ u → Holds v u h
-held e f = record { first = e; second = f }
+-- an act says what it does
+sc-says : (t : Bool) (p : ProcessNumber) (v u : ℕ) (h : Holding) → linked (h .links) p ≡ t → Says (Sc t) p v u h (cond t (cleared v u) h)
+sc-says true p v u h e = (e, refl)
+sc-says false p v u h e = (e, refl)
 
+act-says : (a : Doings.Act) (p : ProcessNumber) (h : Holding)
+    → Says (shownAct a (seen p h)) p (shownFirst a (seen p h)) (shownSecond a (seen p h)) h (acted a p h)
+act-says read p h = (record { first = refl; second = refl }, refl)
+act-says ll p h = (record { first = refl; second = refl }, refl)
+act-says vl p h = (refl, refl)
+act-says (sc v u) p h = sc-says (linked (h .links) p) p v u h refl
+act-says (write v u) p h = refl
+
+-- the buffers of one record lie at their own numbers, whatever N is
+at-own-place : (i : Item) (b : Bench) (ws : List ℕ) (n : ℕ) → itemAt i b ws ≡ itemIn (oneRecord n) i b ws
+at-own-place X b ws n = refl
+at-own-place (Bank i) b ws n = refl
+at-own-place (Help i) b ws n = refl
+at-own-place (Half f k) b ws n = refl
+
+-- one item is touched
+abbrev pub IsOne : Touching Item Process → Type 0
+IsOne (nothing out) = ⊥
+IsOne (one d) = Unit {0}
+
+pub one-at : (y : Point) → y ≢ idle → (n w : ℕ) (p : ProcessNumber) (o : Own Process) → IsOne (doingAt y n w p o)
+unfolding doingAt
+one-at idle ne n w p o = absurd (ne refl)
+one-at line1 ne n w p o = tt
+one-at line2 ne n w p o = tt
+one-at line3 ne n w p o = tt
+one-at line4 ne n w p o = tt
+one-at line5 ne n w p o = tt
+one-at line6 ne n w p o = tt
+one-at line7 ne n w p o = tt
+one-at line7copy ne n w p o = tt
+one-at line8 ne n w p o = tt
+one-at line9 ne n w p o = tt
+one-at line10 ne n w p o = tt
+one-at line11 ne n w p o = tt
+one-at line12 ne n w p o = tt
+one-at line12valid ne n w p o = tt
+one-at line13 ne n w p o = tt
+one-at line14 ne n w p o = tt
+one-at line14valid ne n w p o = tt
+one-at line15 ne n w p o = tt
+one-at line17 ne n w p o = tt
+one-at line18 ne n w p o = tt
+one-at line19 ne n w p o = tt
+one-at line23 ne n w p o = tt
+
+-- the premises of `doings`
 module _ {b : Bench} {q : Process} {p : ProcessNumber} {ws : List ℕ} (s : Stepped b q p ws) where
-  -- p's link in X, the process that is helped, and the place of Bank that line 18 reads
-  abbrev t : Bool
-  t = linked (b .x .links) p
+  stands : Stands (oneRecord (b .n)) (5 * b .n) b ws
+  stands = record { laid = one-record-laid (b .n); bank = s .bank; help = s .help; most = s .ready .lent .n-most; words = s .ready .lent .words }
 
-  abbrev g : ProcessNumber
-  g = helped (b .n) (q .x .seq)
+  ranged : Ranged (b .n) (b .w) q p
+  ranged = record {
+    process = s .ready .lent .process;
+    mybuf = s .ready .mybuf;
+    x-buf = s .ready .x-buf;
+    x-seq = s .ready .x-seq;
+    b-buf = s .ready .b-buf;
+    word = s .ready .word;
+  }
 
-  abbrev i : SequenceNumber
-  i = next (b .n) (q .x .seq)
+  wide : 0 < b .w
+  wide = omega (arith, s .ready .word)
 
-  -- p's place of Help and its places of Bank
-  own : p .0 < length (b .help)
-  own = omega (arith, s .help, s .ready .lent .process, s .ready .lent .n-most)
+  abbrev l : Layout
+  l = oneRecord (b .n)
 
-  other : g .0 < length (b .help)
-  other = omega (arith, s .help, help-index-small (s .ready) line14)
-
-  banked : q .x .seq .0 < length (b .bank)
-  banked = omega (arith, s .bank, s .ready .x-seq, s .ready .lent .n-most)
-
-  freed : i .0 < length (b .bank)
-  freed = omega (arith, s .bank, bank-index-small (s .ready) line18)
-
-  valid : (line : ℕ) → TellsTruth p (vlOfX line t) b ws b ws
-  valid line = x-tells p b ws line (Vl t) 0 0 (b .x) (refl, refl)
-
-  linked-x : (line : ℕ) → TellsTruth p (llOfX line (b .x)) b ws (putX b (llX (b .x) p)) ws
-  linked-x line = x-tells p b ws line Ll (b .x .content .buf .0) (b .x .content .seq .0) (llX (b .x) p) (held refl refl, refl)
-
-  -- the words after a read of BUF[f]
-  abbrev afterRead : BufferNumber → List ℕ
-  afterRead f = copiedHalf ws (q .word) (bufferWord (b .w) f (wordOf (q .word))) (returnWord (b .n) (b .w) p (wordOf (q .word)))
-
-  read : (line : ℕ) (f : BufferNumber) → f .0 < 3 * b .n → TellsTruth p (readHalf line f (b .w) q ws) b ws b (afterRead f)
-  read line f h =
-      let row = 3 * b .n + p .0 in
-      let lent = word-lies (s .ready) row (omega (arith, s .ready .lent .process)) in
-      read-tells p b ws line f (q .word) row h (s .ready .word) (omega arith) lent
-
-  -- a half of the word u goes to the buffer that p owns
-  written : (line u : ℕ)
-      → TellsTruth p (halfAccess line (q .mybuf) (q .word) Write (half (q .word) u)) b ws b (halfPut p b ws (q .mybuf .0) (q .word) u)
-  written line u =
-      let lent = word-lies (s .ready) (q .mybuf .0) (omega (arith, s .ready .mybuf)) in
-      write-tells p b ws line (q .mybuf) (q .word) u (s .ready .word) lent
-
-  linked-help : (line : ℕ) (j : ProcessNumber) → j .0 < length (b .help)
-      → TellsTruth p (llAtHelp line j b) b ws (putHelp b j (llHelp (helpAt b j) p)) ws
-  linked-help line j h = help-tells p b ws line j Ll (helpAt b j .content) (llHelp (helpAt b j) p) h (held refl refl, refl)
-
-  stored-help : (line : ℕ) (j : ProcessNumber) (v : BufferNumber) → j .0 < length (b .help)
-      → TellsTruth p (scAtHelp line j p v b) b ws (putHelp b j (scHelp (helpAt b j) p (record { flag = 0; buf = v }))) ws
-  stored-help line j v h =
-      let c : HelpContent = record { flag = 0; buf = v } in
-      let k = helpAt b j in
-      let d = linked (k .links) p in
-      help-tells p b ws line j (Sc d) c (scHelp k p c) h (sc-help p c k d refl)
-
-  stored-bank : TellsTruth p (accessOf line13 p b q ws) b ws (stepAt line13 p b q ws .0 .bench) ws
-  unfolding accessOf stepAt
-  stored-bank =
-      let v = q .x .buf in
-      let k = bankAt b (q .x .seq) in
-      let d = linked (k .links) p in
-      bank-tells p b ws 13 (q .x .seq) (Sc d) v (scBank k p v) banked (sc-bank p v k d refl)
-
-  stored-x : TellsTruth p (accessOf line19 p b q ws) b ws (stepAt line19 p b q ws .0 .bench) ws
-  unfolding accessOf stepAt
-  stored-x =
-      let v : XContent = record { buf = q .mybuf; seq = i } in
-      x-tells p b ws 19 (Sc t) (v .buf .0) (v .seq .0) (scX (b .x) p v) (sc-x p v (b .x) t refl)
+  told : (line : ℕ) (t : Touching Item Process) {out : Moved × List ℕ} → IsOne t → Follows l p b ws out t
+      → TellsTruth p (shown line p t b ws) b ws (out .0 .bench) (out .1)
+  told line (nothing out) x f = absurd x
+  told line (one d) {out} x f =
+      let h = itemAt (d .item) b ws in
+      let b′ = effect l p (one d) b ws .0 .bench in let ws′ = effect l p (one d) b ws .1 in
+      let left : itemAt (d .item) b′ ws′ ≡ acted (d .act) p h =
+      at-own-place (d .item) b′ ws′ (b .n) ∙ item-left stands (ranged .process) wide d (f .inside) (f .areas) ∙ f .exact in
+      let tells : TellsTruth p (shown line p (one d) b ws) b ws b′ ws′ = record {
+        item = subst (Says (shownAct (d .act) (seen p h)) p (shownFirst (d .act) (seen p h)) (shownSecond (d .act) (seen p h)) h) (sym left) (act-says (d .act) p h);
+        others = λ i there ne. at-own-place i b′ ws′ (b .n) ∙ other-left stands (ranged .process) wide (one d) (f .inside) (f .areas) i there (λ e. ne (sym e));
+      } in
+      subst (λ (r : Moved × List ℕ). TellsTruth p (shown line p (one d) b ws) b ws (r .0 .bench) (r .1)) (sym (f .same)) tells
 
   -- what a trace says of a step of p is true, at every point but idle, where no step is made
   pub trace-is-true : (y : Point) → y ≢ idle
       → TellsTruth p (accessOf y p b q ws) b ws (stepAt y p b q ws .0 .bench) (stepAt y p b q ws .1)
   unfolding accessOf stepAt
-  trace-is-true idle n = absurd (n refl)
-  trace-is-true line1 n = help-tells p b ws 1 p Write (record { flag = 1; buf = q .mybuf }) (writeHelp (record { flag = 1; buf = q .mybuf })) own refl
-  trace-is-true line2 n = linked-x 2
-  trace-is-true line3 n = read 3 (q .x .buf) (s .ready .x-buf)
-  trace-is-true line4 n = linked-help 4 p own
-  trace-is-true line5 n = linked-x 5
-  trace-is-true line6 n = read 6 (q .x .buf) (s .ready .x-buf)
-  trace-is-true line7 n = valid 7
-  trace-is-true line7copy n = read 7 (q .b) (s .ready .b-buf)
-  trace-is-true line8 n = linked-help 8 p own
-  trace-is-true line9 n = stored-help 9 p (q .c) own
-  trace-is-true line10 n = help-tells p b ws 10 p Read (helpAt b p .content) (helpAt b p) own (held refl refl, refl)
-  trace-is-true line11 n = written 11 (getD ws (returnWord (b .n) (b .w) p (wordOf (q .word))) 0)
-  trace-is-true line12 n = bank-tells p b ws 12 (q .x .seq) Ll (bankAt b (q .x .seq) .content) (llBank (bankAt b (q .x .seq)) p) banked (held refl refl, refl)
-  trace-is-true line12valid n = valid 12
-  trace-is-true line13 n = stored-bank
-  trace-is-true line14 n = linked-help 14 g other
-  trace-is-true line14valid n = valid 14
-  trace-is-true line15 n = stored-help 15 g (q .mybuf) other
-  trace-is-true line17 n = written 17 (getD ws (offerWord (b .n) (b .w) p (wordOf (q .word))) 0)
-  trace-is-true line18 n = bank-tells p b ws 18 i Read (bankAt b i .content) (bankAt b i) freed (held refl refl, refl)
-  trace-is-true line19 n = stored-x
-  trace-is-true line23 n = valid 23
+  trace-is-true y ne = told (paperLine y) (doingNow y p b q ws) (one-at y ne (b .n) (b .w) p (ownIn l (b .w) p q ws)) (step-follows stands ranged y)
+
+-- two memories
+module _ {b b₂ : Bench} {q : Process} {p : ProcessNumber} {ws ws₂ : List ℕ} (s : Stepped b q p ws) (s₂ : Stepped b₂ q p ws₂) where
+  same-doing : (On : Item → Type 0) (y : Point) → Alike On p q (oneRecord (b .n)) (oneRecord (b₂ .n)) b b₂ ws ws₂ → doingNow y p b q ws ≡ doingNow y p b₂ q ws₂
+  same-doing On y a = ap₂ (λ (n w : ℕ). doingAt y n w p (ownIn (oneRecord (b .n)) (b .w) p q ws)) (a .n) (a .w) ∙ ap (doingAt y (b₂ .n) (b₂ .w) p) (a .own)
+
+  alike-left : (line : ℕ) (t : Touching Item Process) {out out₂ : Moved × List ℕ} → IsOne t
+      → Follows (oneRecord (b .n)) p b ws out t → Follows (oneRecord (b₂ .n)) p b₂ ws₂ out₂ t
+      → Alike (λ i. shown line p t b ws .item ≡ i) p q (oneRecord (b .n)) (oneRecord (b₂ .n)) b b₂ ws ws₂
+      → SameAfter (λ i. shown line p t b ws .item ≡ i) p (oneRecord (b .n)) (oneRecord (b₂ .n)) out out₂
+  alike-left line (nothing out) x f f₂ a = absurd x
+  alike-left line (one d) x f f₂ a = depends (stands s) (stands s₂) (ranged s .process) (wide s) (one d) f f₂ a
+
+-- the item shown is the one that the step depends on
+pub step-depends : {b : Bench} {q : Process} {p : ProcessNumber} {ws : List ℕ} → Stepped b q p ws → (y : Point) → y ≢ idle
+    → DependsOn y p b q ws (accessOf y p b q ws .item)
+unfolding accessOf stepAt
+step-depends {b} {q} {p} {ws} s y ne b₂ ws₂ s₂ a =
+    let l₂ = oneRecord (b₂ .n) in
+    let one-item = one-at y ne (b .n) (b .w) p (ownIn (oneRecord (b .n)) (b .w) p q ws) in
+    let again = subst (Follows l₂ p b₂ ws₂ (stepIn l₂ y p b₂ q ws₂)) (sym (same-doing s s₂ (λ i. accessOf y p b q ws .item ≡ i) y a)) (step-follows (stands s₂) (ranged s₂) y) in
+    alike-left s s₂ (paperLine y) (doingNow y p b q ws) one-item (step-follows (stands s) (ranged s) y) again a

@@ -1,4 +1,3 @@
-pub mod Items
 pub mod Accesses
 pub mod AccessOn
 pub mod TraceLines

@@ -7,8 +7,8 @@ use Rattle.model.specs.Words.{wordOf}
 use Rattle.listing.specs.Quoted.{quoted}
 use Rattle.listing.specs.Decimal.{decimal}
 use Rattle.listing.specs.Lines.{letterS}
-use Rattle.access.specs.declared.Item.{Item}
-use Rattle.access.specs.declared.Item.the-variants.{X, Bank, Help, Half}
+use Rattle.doings.specs.declared.Item.{Item}
+use Rattle.doings.specs.declared.Item.the-variants.{X, Bank, Help, Half}
 use Rattle.access.specs.declared.Act.{Act}
 use Rattle.access.specs.declared.Act.the-variants.{Read, Write, Ll, Sc, Vl}
 use Rattle.access.specs.declared.Access.{Access}

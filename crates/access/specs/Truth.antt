@@ -8,17 +8,18 @@ use lib.ListN.{length}
 use Rattle.llsc.specs.declared.ProcessNumber.{ProcessNumber}
 use Rattle.model.specs.declared.Bench.{Bench}
 use Rattle.model.specs.declared.Process.{Process}
-use Rattle.model.specs.Places.{noLinks, linked, link}
+use Rattle.model.specs.Words.{oneRecord}
+use Rattle.model.specs.Points.{Point}
+use Rattle.model.specs.Machine.{stepAt}
+use Rattle.model.specs.Places.{linked, link}
 use Rattle.taken.specs.Ranges.{Ready}
-use Rattle.access.specs.declared.Item.{Item}
+use Rattle.doings.specs.declared.Item.{Item}
 use Rattle.access.specs.declared.Act.{Act}
 use Rattle.access.specs.declared.Act.the-variants.{Read, Write, Ll, Sc, Vl}
 use Rattle.access.specs.declared.Access.{Access}
-use Rattle.access.specs.Items.{InBench, Holding, itemAt}
-
--- the values v and u, and no link set
-abbrev pub cleared : ℕ → ℕ → Holding
-cleared v u = record { first = v; second = u; links = noLinks }
+use Rattle.doings.specs.Items.{InBench, Holding, itemAt}
+use Rattle.doings.specs.Doings.{cleared}
+use Rattle.doings.specs.Depends.{Alike, SameAfter}
 
 -- the values v and u are in h
 pub record Holds (v u : ℕ) (h : Holding) : Type 0 where
@@ -52,3 +53,11 @@ pub record Stepped (b : Bench) (q : Process) (p : ProcessNumber) (ws : List ℕ)
   pub ready : Ready (b .n) (b .w) q p ws
   pub bank : length (b .bank) ≡ 32
   pub help : length (b .help) ≡ 16
+
+-- A step of p at the point y depends on the item i alone, beside N, W and its own process: in every other bench and
+-- words that are alike in these it is answered alike, and leaves the same of its process and in i.
+abbrev pub DependsOn : Point → ProcessNumber → Bench → Process → List ℕ → Item → Type 0
+DependsOn y p b q ws i =
+    (b₂ : Bench) (ws₂ : List ℕ) → Stepped b₂ q p ws₂
+    → Alike (λ j. i ≡ j) p q (oneRecord (b .n)) (oneRecord (b₂ .n)) b b₂ ws ws₂
+    → SameAfter (λ j. i ≡ j) p (oneRecord (b .n)) (oneRecord (b₂ .n)) (stepAt y p b q ws) (stepAt y p b₂ q ws₂)

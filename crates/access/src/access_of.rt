@@ -2,15 +2,14 @@
 ghost use mathlib.Core.Path.{_≡_};
 ghost use Rattle.model.specs.Points.{pointOf};
 ghost use Rattle.taken.specs.Ranges.{Ready};
-ghost use Rattle.access.specs.Accesses.{noAccess};
-ghost use Rattle.access.specs.AccessOn.{accessOn};
+ghost use Rattle.access.specs.AccessOn.{noAccess, accessOn};
 use crate::Access;
 use crate::Act;
-use crate::Item;
 use crate::on_bank;
 use crate::on_help;
 use crate::on_words;
 use crate::on_x;
+use doings::Item;
 use lines::points;
 use llsc::ProcessNumber;
 use model::Process;

@@ -1,7 +1,5 @@
 // What access a step makes, and its line of a trace. All functions are inner: the trace is made of them.
-use llsc::ProcessNumber;
-use model::BufferNumber;
-use model::SequenceNumber;
+use doings::Item;
 
 pub mod access_of;
 pub mod on_bank;
@@ -10,14 +8,6 @@ pub mod on_words;
 pub mod on_x;
 pub mod texts;
 pub mod trace_lines;
-
-// The shared item that a step touches; of a half word of BUF, the buffer and the word place, which counts halves.
-pub enum Item {
-    X,
-    Bank(SequenceNumber),
-    Help(ProcessNumber),
-    Half(BufferNumber, usize),
-}
 
 // What a step does to its item; an SC and a VL with the truth that they tell.
 pub enum Act {

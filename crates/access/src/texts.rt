@@ -3,7 +3,7 @@ ghost use mathlib.Core.List.{_++_};
 ghost use Rattle.listing.specs.Writing.{Room, Wrote};
 ghost use Rattle.access.specs.TraceLines.{spaced, bracketed, headText, halfText, halfPlaceText, itemText, valuesText, truthText, storedText, writtenText, actText, endText, broughtText};
 use crate::Act;
-use crate::Item;
+use doings::Item;
 
 pub fn spaced(list: &mut [u8], at: usize, n: u64) -> usize
     requires { ⌜ Room (now list) at (spaced n) ⌝ }

@@ -15,6 +15,7 @@ use Rattle.llsc.specs.declared.Order.{Order}
 use Rattle.llsc.specs.declared.Order.the-variants as order
 use Rattle.model.specs.declared.Reply.{Reply}
 use Rattle.model.specs.Records.{noProcess, recordAt}
+use Rattle.model.specs.Words.{wordOf}
 use Rattle.model.specs.Points.{pointOf}
 use Rattle.model.specs.Machine.{Memory}
 use Rattle.model.specs.Refusals.{inRange, isIdle}
@@ -106,7 +107,9 @@ module _ {len : ℕ} {h : RunState} (s : Sound len h) (z : h .run .stop ≡ 0) w
         → i ≡ bankIndex (pointOf (own .line)) (b .n) own
         → j ≡ helpIndex (pointOf (own .line)) (b .n) (numberOf e) own → t ≡ takenAt b i j
         → (traced : Bool) → shownLine traced k (accessSeen traced (numberOf e) (b .n) (b .w) t own (h .words)) e r ≡ cond traced (traceLine k m e r) []
-    shown-same k ei ej et true = ap (λ (x : Access). entryLine k x e r) (access-seen (numberOf e) b own (h .words) (pointOf (own .line)) ei ej et ∙ same-access n)
+    shown-same k ei ej et true =
+        let in-row : wordOf (own .word) < b .w = omega (arith, own-ready (processOf e) n .word) in
+        ap (λ (x : Access). entryLine k x e r) (access-seen (numberOf e) b own (h .words) in-row (pointOf (own .line)) ei ej et ∙ same-access n)
     shown-same k ei ej et false = refl
 
     pub shown-fits : (t : Bool) (k : ℕ) → k ≤ mostEntries → Small e → length (cond t (traceLine k m e r) []) ≤ cond t 128 0

@@ -20,8 +20,7 @@ use Rattle.notation.specs.declared.Entry.{Entry}
 use Rattle.notation.specs.declared.Entry.the-variants.{StartLl, StartVl, StartSc, Step, Finish}
 use Rattle.listing.specs.Writing.{Wrote}
 use Rattle.access.specs.declared.Access.{Access}
-use Rattle.access.specs.Accesses.{noAccess}
-use Rattle.access.specs.AccessOn.{accessOn}
+use Rattle.access.specs.AccessOn.{noAccess, accessOn}
 use Rattle.entry.specs.declared.turn.Turn.{Turn}
 use Rattle.semantics.specs.TextRun.{mostEntries, processOf, orderOf, valueOf}
 use Rattle.entry.specs.RunState.{answerLine, shownLine}

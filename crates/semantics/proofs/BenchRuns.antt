@@ -19,6 +19,7 @@ use Rattle.notation.specs.Scan.{onDigit, more, move, said, atEnd, go, scan}
 use Rattle.notation.specs.FirstLine.{starting, inside, step, whole, proceed, readFrom, read}
 use Rattle.listing.specs.Decimal.{digits, decimal}
 use Rattle.listing.specs.Lines.{lineFeed, answerHead, wordsOf, llLine, truthLine, endLine, refusedLine}
+use Rattle.doings.specs.Doings.{doingAt}
 use Rattle.access.specs.Accesses.{accessOf}
 use Rattle.listing.specs.Quoted.{quoted}
 use Rattle.access.specs.TraceLines.{spaced, bracketed, headText, halfText, halfPlaceText, itemText, valuesText, truthText, storedText, writtenText, actText, endText, stepLine, broughtText, startLine}
@@ -170,6 +171,6 @@ pub traces-line-by-line : map (runs-to true 2000) traces ≡ map (should 2000) t
 unfolding dirtyX dirtyBank dirtyHelp dirtyProcess lent dirtyBytes runs-to lines should traces runWith read readFrom
     proceed step starting inside whole scan go move said more onDigit atEnd kindOf times carryAll carry steps single
     command refusal obey stepAt inRange setUp setUpRefusal llLine truthLine endLine refusedLine answerHead wordsOf
-    decimal digits accessOf spaced bracketed headText halfText halfPlaceText itemText valuesText truthText
+    decimal digits accessOf doingAt spaced bracketed headText halfText halfPlaceText itemText valuesText truthText
     storedText writtenText actText endText stepLine broughtText startLine
 traces-line-by-line = refl

@@ -1,4 +1,5 @@
--- Each line of a trace is true of its own command: `trace-is-true` (crate `access`), joined to the text run.
+-- Each line of a trace is true of its own command: `trace-is-true` and `step-depends` (crate `access`), joined to the
+-- text run.
 use mathlib.Core.Path.{_≡_, refl, sym, ap, subst, _∙_}
 use mathlib.Core.Bool.{Bool, true, false, cond}
 use mathlib.Core.List.{List, [], _∷_, _++_}
@@ -22,11 +23,11 @@ use Rattle.laws.proofs.ListFacts.{sets-out}
 use Rattle.notation.specs.declared.Entry.{Entry}
 use Rattle.notation.specs.declared.Entry.the-variants.{StartLl, StartVl, StartSc, Step, Finish}
 use Rattle.notation.specs.Grammar.{Said}
-use Rattle.access.specs.declared.Item.{Item}
-use Rattle.access.specs.declared.Item.the-variants.{X, Bank, Help, Half}
-use Rattle.access.specs.Items.{InBench, halfHolding, itemAt}
-use Rattle.access.specs.Truth.{TellsTruth}
-use Rattle.access.proofs.Theorems.{trace-is-true}
+use Rattle.doings.specs.declared.Item.{Item}
+use Rattle.doings.specs.declared.Item.the-variants.{X, Bank, Help, Half}
+use Rattle.doings.specs.Items.{InBench, halfHolding, itemAt}
+use Rattle.access.specs.Truth.{TellsTruth, DependsOn}
+use Rattle.access.proofs.Theorems.{trace-is-true, step-depends}
 use Rattle.semantics.specs.Reached.{Reached}
 use Rattle.semantics.specs.TextRun.{Progress, stopped, mostEntries, roomNeeded, processOf, orderOf, valueOf, lineOf, accessNow}
 use Rattle.semantics.specs.TextRun.{traceLine, linesOf, counted, commanded, single, unanswered, steps, carry, carryAll, begun}
@@ -36,8 +37,11 @@ use Rattle.semantics.proofs.AcceptedSteps.{unrefused, left-by, stepped,
 
 -- What the trace line of an entry says of its command, which found the memory m and left m′.
 -- Of a step: README, "every access that led to them": the access shown tells the truth, in the sense of `TellsTruth`.
-abbrev pub StepTrue : ℕ → Memory → Memory → Type 0
-StepTrue p m m′ = TellsTruth (record { 0 = p }) (accessNow m p) (m .bench) (m .words) (m′ .bench) (m′ .words)
+-- And the item shown is the one that the step depends on, in the sense of `DependsOn`.
+pub record StepTrue (p : ℕ) (m m′ : Memory) : Type 0 where
+  pub tells : TellsTruth (record { 0 = p }) (accessNow m p) (m .bench) (m .words) (m′ .bench) (m′ .words)
+  pub depends : let q = recordAt (m .records) (record { 0 = p }) in
+      DependsOn (pointOf (q .line)) (record { 0 = p }) (m .bench) q (m .words) (accessNow m p .item)
 
 -- Of a start: docs/TRACE.md, "a start touches nothing shared".
 abbrev pub StartTrue : Memory → Memory → Type 0
@@ -74,7 +78,9 @@ pub data Told (s : Progress) : Progress → Type 0 where
 -- an accepted step
 step-true : {m : Memory} → Reached m → (p : ℕ) → refusal m p order.Step [] ≡ 0 → StepTrue p m (obeyed m (record { 0 = p }) order.Step [] .1)
 unfolding obey stepAt
-step-true {m} r p z = trace-is-true (stepped r p z) (pointOf (recordAt (m .records) (record { 0 = p }) .line)) (at-work r p z)
+step-true {m} r p z =
+    let y = pointOf (recordAt (m .records) (record { 0 = p }) .line) in
+    record { tells = trace-is-true (stepped r p z) y (at-work r p z); depends = step-depends (stepped r p z) y (at-work r p z) }
 
 -- a start writes at most the own offer area, which lies behind BUF
 module _ (m : Memory) (p : ℕ) (v : List ℕ) where

@@ -40,7 +40,7 @@ abbrev pub only : RecordNumber
 only = record { 0 = 0 }
 
 -- the one record's words lie as a bench's
-one-layout : (n : ℕ) → stationLayout n 1 only ≡ oneRecord n
+pub one-layout : (n : ℕ) → stationLayout n 1 only ≡ oneRecord n
 one-layout n =
     let b : _≡_ {A = ℕ → ℕ} (λ i. 0 * buffers n + i) (λ i. i) = fun-ext (λ i. omega arith) in
     let r : 1 * buffers n ≡ buffers n = omega arith in
@@ -244,3 +244,13 @@ one-record s e idle-called ht c f hh =
 pub one-record-command : OneRecordCommand
 one-record-command s shaped e idle-called c f =
     one-record s e idle-called (let x = shaped .tables in omega arith) c f (λ _ hp. let x = shaped .holdings (c .process) hp in omega arith)
+
+-- and it is refused by the same row
+pub one-record-refusal : (s : StationMemory) → s .r ≡ 1 → ((p : ℕ) → p < s .n → processAt s p .called .0 ≡ 0)
+    → (c : StationOrder) → c .called ≡ 0 → stationRefusal s c ≡ refusal (asBench s) (c .process) (c .order) (c .value)
+one-record-refusal s e idle-called c f =
+    let On : ℕ → StationOrder = λ k. record { process = c .process; order = c .order; called = k; value = c .value } in
+    let With : ℕ → StationMemory = λ r. record { n = s .n; w = s .w; r = r; tables = s .tables; processes = s .processes; words = s .words } in
+    let Same : StationMemory → StationOrder → Type 0 = λ m d. stationRefusal m d ≡ refusal (asBench m) (d .process) (d .order) (d .value) in
+    subst (λ (k : ℕ). Same s (On k)) (sym f)
+    (subst (λ (r : ℕ). Same (With r) (On 0)) (sym e) (refusal-same (s .n) (s .w) (s .tables) (s .processes) (s .words) idle-called (c .process) (c .order) (c .value)))

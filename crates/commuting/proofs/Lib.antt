@@ -1,0 +1,11 @@
+pub mod Examples
+pub mod StationParts
+pub mod StationOwns
+pub mod Swaps
+pub mod Lengths
+pub mod Admission
+pub mod Left
+pub mod Acceptance
+pub mod Theorems
+pub mod AsStation
+pub mod OnTheBench

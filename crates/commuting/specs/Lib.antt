@@ -1,0 +1,4 @@
+pub mod Parts
+pub mod StationDoings
+pub mod Commuting
+pub mod OnTheBench

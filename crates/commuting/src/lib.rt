@@ -1,0 +1,1 @@
+// Theorems about the definitions of `station` and `doings`: nothing here runs.

@@ -1,0 +1,9 @@
+pub mod Examples
+pub mod HalfPuts
+pub mod Windows
+pub mod Layouts
+pub mod ItemLaws
+pub mod AreaLaws
+pub mod Figure2
+pub mod Looks
+pub mod Effects

@@ -1,0 +1,4 @@
+pub mod Items
+pub mod Own
+pub mod Doings
+pub mod Depends

@@ -1,0 +1,2 @@
+pub mod OrLaws
+pub mod Theorems
