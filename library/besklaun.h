@@ -16,7 +16,7 @@
  * Not proved: that the stack suffices. besklaun_run_text and besklaun_trace_text take less than 640 KiB of it,
  * besklaun_judge less than 64 KiB, the others less than 32 KiB. Where a thread has less, the system ends the process.
  *
- * `number` is 0, or the number of the cause of a refusal (docs/NOTATION.md, docs/JUDGE.md).
+ * `number` is 0, or the number of the cause of a refusal (docs/NOTATION.md, docs/JUDGE.md, docs/BOARDS.md).
  */
 #ifndef BESKLAUN_H
 #define BESKLAUN_H
@@ -93,6 +93,21 @@ struct besklaun_turns_after {
 /* The schedule after the one in `turns`, written in its place.
  * Definition: afterInto (followingFor a b turns) turns. */
 struct besklaun_turns_after besklaun_schedule_after(size_t a, size_t b, uint8_t *turns, size_t turn_count);
+
+/* Merging the trace files of a board's two halves (docs/BOARDS.md): the records of both by tick, the first file's first
+ * at equal ticks, with no free bytes. */
+
+struct besklaun_merged {
+    uint8_t number; /* 0, or the cause of a refusal: 25, 26, 27 or 28 */
+    size_t written; /* the bytes written, from the first on; the bytes after them stay. 0 where it is refused */
+};
+
+/* The merged file goes to `out`, which a refusal leaves as it was. What it needs is 12 bytes for each record and 12 for
+ * the trailer; less is refused with 28. Room of first_count + second_count bytes is enough for every pair.
+ * Definition: mergeFiles first second out, boards/specs/Merging. */
+struct besklaun_merged besklaun_merge(const uint8_t *first, size_t first_count,
+                                      const uint8_t *second, size_t second_count,
+                                      uint8_t *out, size_t out_count);
 
 #ifdef __cplusplus
 }

@@ -1,9 +1,12 @@
 //! Links the archive that `rt staticlib besklaun` writes at the top of the project.
 
-use std::path::Path;
+use std::env;
+use std::path::PathBuf;
 
 fn main() {
-    let library = Path::new(env!("CARGO_MANIFEST_DIR"));
+    // asked for when it runs: a project that was moved keeps this program as it was compiled
+    let library = env::var_os("CARGO_MANIFEST_DIR").map(PathBuf::from);
+    let library = library.expect("cargo says where the package is");
     let folder = library.with_file_name("target").join("staticlib");
     let archive = folder.join("libbesklaun.a");
     println!("cargo:rerun-if-changed={}", archive.display());

@@ -4,10 +4,12 @@
 //!
 //! A file for each subject, as in `crates/besklaun/src`.
 
+mod board_files;
 mod logs;
 mod schedules;
 mod texts;
 
+pub use board_files::merge;
 pub use logs::{judge, Verdict};
 pub use schedules::{number_for, schedule_after, schedule_for, Schedule};
 pub use texts::{run_text, trace_text, TextRun};

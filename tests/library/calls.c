@@ -132,6 +132,51 @@ static void schedules(void)
     expect(followed(besklaun_schedule_after(0, 0, NULL, 0), 0, true), "and it is the last");
 }
 
+/* Process 0 at ticks 1 and 3 in one file, process 1 at tick 3 after a free byte in the other, and their merge. */
+static const uint8_t first[] = {
+    1, 0, 0, 0, 0, 0, 0, 0, 0, 1, 0, 0,
+    3, 0, 0, 0, 7, 1, 0, 0, 0, 2, 0, 0,
+    0, 0, 0, 0, 2, 0, 0, 0, 0x54, 0x52, 0x41, 0x4c,
+};
+static const uint8_t second[] = {
+    9,
+    3, 0, 0, 0, 0, 0, 0, 0, 1, 0, 0, 0,
+    1, 0, 0, 0, 1, 0, 0, 0, 0x54, 0x52, 0x41, 0x4c,
+};
+static const uint8_t both[] = {
+    1, 0, 0, 0, 0, 0, 0, 0, 0, 1, 0, 0,
+    3, 0, 0, 0, 7, 1, 0, 0, 0, 2, 0, 0,
+    3, 0, 0, 0, 0, 0, 0, 0, 1, 0, 0, 0,
+    0, 0, 0, 0, 3, 0, 0, 0, 0x54, 0x52, 0x41, 0x4c,
+};
+static const uint8_t no_records[] = {0, 0, 0, 0, 0, 0, 0, 0, 0x54, 0x52, 0x41, 0x4c};
+
+static bool merged(struct besklaun_merged said, unsigned number, size_t written)
+{
+    return said.number == number && said.written == written;
+}
+
+static void board_files(void)
+{
+    size_t a = sizeof first, b = sizeof second, room = sizeof both;
+    uint8_t spoilt[sizeof second];
+    memset(lent, BEFORE, sizeof lent);
+    expect(merged(besklaun_merge(NULL, 0, NULL, 0, NULL, 0), 25, 0), "no bytes at all are 25");
+    expect(merged(besklaun_merge(NULL, 0, second, b, lent, room), 25, 0), "no bytes first are 25");
+    expect(merged(besklaun_merge(first, a, second, b - 1, lent, room), 25, 0), "a cut file is 25");
+    memcpy(spoilt, second, b);
+    spoilt[10] = 4;
+    expect(merged(besklaun_merge(first, a, spoilt, b, lent, room), 26, 0), "an order of 4 is 26");
+    expect(merged(besklaun_merge(first, a, first, a, lent, room), 27, 0), "a process in both files is 27");
+    expect(merged(besklaun_merge(first, a, second, b, NULL, 0), 28, 0), "no room is 28");
+    expect(merged(besklaun_merge(first, a, second, b, lent, room - 1), 28, 0), "room a byte short is 28");
+    expect(stays(0), "a refused merge writes nothing");
+    expect(merged(besklaun_merge(no_records, 12, no_records, 12, lent, 12), 0, 12), "files without records");
+    expect(memcmp(lent, no_records, 12) == 0 && stays(12), "the merge of files without records");
+    expect(merged(besklaun_merge(first, a, second, b, lent, room), 0, room), "two files are merged");
+    expect(memcmp(lent, both, room) == 0 && stays(room), "the merge of two files");
+}
+
 static int run_given(const char *style)
 {
     size_t count = fread(text, 1, sizeof text, stdin);
@@ -153,6 +198,7 @@ int main(int count, char **given)
     logs();
     texts();
     schedules();
+    board_files();
     if (!wrong) {
         puts("as expected");
     }

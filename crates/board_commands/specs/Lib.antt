@@ -1,0 +1,3 @@
+pub mod BoardRun
+pub mod Promises
+pub mod ByValue

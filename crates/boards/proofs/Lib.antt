@@ -1,0 +1,10 @@
+pub mod StoreLaws
+pub mod TrailerLaws
+pub mod FrontLaws
+pub mod ProcessLaws
+pub mod FileLaws
+pub mod MergeLaws
+pub mod RefusalLaws
+pub mod LoopLaws
+pub mod Theorems
+pub mod Examples

@@ -1,0 +1,4 @@
+pub mod Files
+pub mod Merging
+pub mod Promises
+pub mod Places
