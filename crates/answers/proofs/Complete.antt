@@ -66,7 +66,7 @@ pub number-read : (v : ℕ) (cs : List ℕ) → v ≤ largest → isDigit (first
 unfolding tens
 number-read v cs q e = digits-read 9 v cs (omega arith) q ∙ stop v cs e
 
-spaced-read : (v : ℕ) (cs : List ℕ) → v ≤ largest → isDigit (first cs) ≡ false → spacedNumber (space ∷ (decimal v ++ cs)) ≡ got v cs
+pub spaced-read : (v : ℕ) (cs : List ℕ) → v ≤ largest → isDigit (first cs) ≡ false → spacedNumber (space ∷ (decimal v ++ cs)) ≡ got v cs
 unfolding spacedNumber
 spaced-read v cs q e = number-read v cs q e
 

@@ -2,7 +2,7 @@
 // made of them.
 mod answer_lines;
 mod last_lines;
-mod numbers;
+pub mod numbers;
 mod whole;
 
 pub use whole::no_sum;

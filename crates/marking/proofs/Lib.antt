@@ -1,2 +1,4 @@
 pub mod OrLaws
 pub mod Theorems
+pub mod ReadingLaws
+pub mod TracedLines

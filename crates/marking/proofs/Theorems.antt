@@ -1,29 +1,27 @@
 -- The mark of a line is `commute`'s condition.
-use mathlib.Core.Path.{_≡_, refl, sym, ap, ap₂, subst, _∙_}
-use mathlib.Core.Logic.{_≢_, _⊎_, inl, inr}
+use mathlib.Core.Path.{_≡_, refl, sym, ap, ap₂, _∙_}
+use mathlib.Core.Logic.{_≢_, inl, inr}
 use mathlib.Core.List.{List}
 use mathlib.Core.Bool.{Bool, true, false, not, _&&_, _||_}
-use Prim.Native.Nat.{ℕ, _<_}
+use Prim.Native.Nat.{ℕ, _+_, _%_}
 use native.Mathlib.Omega.{arith}
 use lib.Dec.{eqb, ltb}
-use borrow.Author.Tests.{eqb-true, eqb-false, eq-eqb, ne-eqb}
+use borrow.Author.Tests.{eqb-true, eq-eqb, ne-eqb, lt-ltb}
 use Rattle.llsc.specs.declared.ProcessNumber.{ProcessNumber}
 use Rattle.model.specs.declared.Bench.{Bench}
 use Rattle.model.specs.declared.Process.{Process}
 use Rattle.model.specs.Points.{pointOf}
 use Rattle.model.specs.Records.{recordAt}
 use Rattle.model.specs.Words.{oneRecord}
-use Rattle.model.specs.Machine.{Memory}
 use Rattle.model.specs.SetUp.{setUp}
 use Rattle.model.specs.History.{next}
 use Rattle.linearization.specs.After.{after}
 use Rattle.doings.specs.declared.Item.{Item}
 use Rattle.doings.specs.declared.Item.the-variants.{X, Bank, Help, Half}
-use Rattle.doings.specs.Items.{index, wordPlace, itemAt}
+use Rattle.doings.specs.Items.{index, itemAt}
 use Rattle.doings.specs.Own.{ownIn}
 use Rattle.doings.specs.Doings
 use Rattle.doings.specs.Doings.{read, ll, vl, sc, write, looks, Seen, seen, Doing, Touching, nothing, one, doing, Apart}
-use Rattle.doings.proofs.ItemLaws.{same-item}
 use Rattle.laws.proofs.AndLaws.{left, right}
 use Rattle.laws.proofs.Updates.{contra}
 use Rattle.access.specs.Accesses.{shownAct, shown, paperLine, doingNow, accessOf}
@@ -31,11 +29,11 @@ use Rattle.access.proofs.Theorems.{IsOne, one-at}
 use Rattle.commuting.specs.OnTheBench.{benchDoes}
 use Rattle.commuting.proofs.OnTheBench.{commute-on-the-bench}
 use Rattle.marking.specs.declared.Line.{Line}
-use Rattle.marking.specs.Marks.{kindOf, onlyLooks, shownLine, sameItem, apart, maySwap, lineOf, MeansApart, MarksMeanApart, TraceShowsLine, MarkedChangePlaces}
+use Rattle.marking.specs.Marks.{kindOf, wordNamed, onlyLooks, shownLine, sameItem, apart, maySwap, lineOf, MarksMeanApart, TraceShowsLine, MarkedChangePlaces}
 
 -- the numbers of an item are its own
 abbrev Numbers : Item → Item → Type 0
-Numbers i j = (kindOf i ≡ kindOf j) × ((index i ≡ index j) × (wordPlace i ≡ wordPlace j))
+Numbers i j = (kindOf i ≡ kindOf j) × ((index i ≡ index j) × (wordNamed i ≡ wordNamed j))
 
 items-from : (i j : Item) → Numbers i j → i ≡ j
 items-from X X e = refl
@@ -53,21 +51,21 @@ items-from (Help i) (Half g m) e = absurd (omega arith)
 items-from (Half f k) X e = absurd (omega arith)
 items-from (Half f k) (Bank j) e = absurd (omega arith)
 items-from (Half f k) (Help j) e = absurd (omega arith)
-items-from (Half f k) (Half g m) e = ap₂ (λ (a b : ℕ). Half (record { 0 = a }) b) (e .1 .0) (e .1 .1)
+items-from (Half f k) (Half g m) e = ap₂ (λ (a b : ℕ). Half (record { 0 = a }) b) (e .1 .0) (let z : k ≡ m = omega (arith, e .0, e .1 .1) in z)
 
 kind-some : (i : Item) → eqb (kindOf i) 0 ≡ false
 kind-some X = refl
 kind-some (Bank i) = refl
 kind-some (Help i) = refl
-kind-some (Half f k) = refl
+kind-some (Half f k) = ne-eqb (4 + k % 2) 0 (λ e. omega arith)
 
-kind-low : (i : Item) → ltb (kindOf i) 5 ≡ true
+kind-low : (i : Item) → ltb (kindOf i) 6 ≡ true
 kind-low X = refl
 kind-low (Bank i) = refl
 kind-low (Help i) = refl
-kind-low (Half f k) = refl
+kind-low (Half f k) = lt-ltb (4 + k % 2) 6 (omega arith)
 
-command-low : (p : ℕ) (t : Touching Item Process) → ltb (lineOf p t .kind) 5 ≡ true
+command-low : (p : ℕ) (t : Touching Item Process) → ltb (lineOf p t .kind) 6 ≡ true
 command-low p (nothing out) = refl
 command-low p (one d) = kind-low (d .item)
 
@@ -98,7 +96,7 @@ module _ (p q : ℕ) (d e : Doing Item Process) where
   steps-apart false x y = inl (λ z. contra (same-numbers z) x)
     where
       same-numbers : d .item ≡ e .item → sameItem (lineOf p (one d)) (lineOf q (one e)) ≡ true
-      same-numbers z = simp (eq-eqb _ _ (ap kindOf z), eq-eqb _ _ (ap index z), eq-eqb _ _ (ap wordPlace z))
+      same-numbers z = simp (eq-eqb _ _ (ap kindOf z), eq-eqb _ _ (ap index z), eq-eqb _ _ (ap wordNamed z))
 
   steps-not : (s : Bool) → sameItem (lineOf p (one d)) (lineOf q (one e)) ≡ s → (not s || (looks (d .act) && looks (e .act))) ≡ false → Apart (one d) (one e) → ⊥
   steps-not true x y (inl n) = n (one-number x)
@@ -141,7 +139,7 @@ looks-shown (write v u) s = refl
 shown-line : (k : ℕ) (p : ProcessNumber) (t : Touching Item Process) (b : Bench) (ws : List ℕ) → IsOne t → shownLine (p .0) (shown k p t b ws) ≡ lineOf (p .0) t
 shown-line k p (nothing out) b ws x = absurd x
 shown-line k p (one d) b ws x =
-    ap (λ (l : Bool). record { process = p .0; kind = kindOf (d .item); index = index (d .item); place = wordPlace (d .item); looks = l })
+    ap (λ (l : Bool). record { process = p .0; kind = kindOf (d .item); index = index (d .item); place = wordNamed (d .item); looks = l })
     (looks-shown (d .act) (seen p (itemAt (d .item) b ws)))
 
 pub trace-shows-line : TraceShowsLine

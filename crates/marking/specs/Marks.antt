@@ -2,13 +2,14 @@
 use mathlib.Core.Path.{_≡_}
 use mathlib.Core.Logic.{_≢_}
 use mathlib.Core.List.{List, []}
-use Prim.Native.Nat.{ℕ}
+use Prim.Native.Nat.{ℕ, _+_, _%_}
 use mathlib.Core.Bool.{Bool, true, false, not, _&&_, _||_}
 use lib.Dec.{eqb, ltb}
 use Rattle.llsc.specs.declared.ProcessNumber.{ProcessNumber}
 use Rattle.llsc.specs.declared.Order.the-variants.{Step}
 use Rattle.llsc.specs.History.{Command}
 use Rattle.model.specs.declared.Process.{Process}
+use Rattle.model.specs.Words.{wordOf}
 use Rattle.model.specs.Points.{pointOf, idle}
 use Rattle.model.specs.Records.{recordAt}
 use Rattle.model.specs.Machine.{Memory, Shaped}
@@ -17,7 +18,7 @@ use Rattle.model.specs.History.{next}
 use Rattle.linearization.specs.After.{after}
 use Rattle.doings.specs.declared.Item.{Item}
 use Rattle.doings.specs.declared.Item.the-variants.{X, Bank, Help, Half}
-use Rattle.doings.specs.Items.{index, wordPlace}
+use Rattle.doings.specs.Items.{index}
 use Rattle.doings.specs.Doings.{looks, Touching, nothing, one, Apart}
 use Rattle.access.specs.declared.Act.{Act}
 use Rattle.access.specs.declared.Act.the-variants.{Read, Write, Ll, Sc, Vl}
@@ -26,12 +27,19 @@ use Rattle.access.specs.Accesses.{accessOf}
 use Rattle.commuting.specs.OnTheBench.{Admitted, benchDoes, BenchSwapped}
 use Rattle.marking.specs.declared.Line.{Line}
 
--- the kind of an item; 0 stands for none, and 5 for a line that is no command's
+-- the kind of an item, of a half word with which half it is; 0 stands for none, and 6 for a line that is no command's
 abbrev pub kindOf : Item → ℕ
 kindOf X = 1
 kindOf (Bank i) = 2
 kindOf (Help i) = 3
-kindOf (Half f k) = 4
+kindOf (Half f k) = 4 + k % 2
+
+-- the word of a half word
+abbrev pub wordNamed : Item → ℕ
+wordNamed X = 0
+wordNamed (Bank i) = 0
+wordNamed (Help i) = 0
+wordNamed (Half f k) = wordOf k
 
 -- the line of a start of process p, and of a step that shows the access a
 abbrev pub startedLine : ℕ → Line
@@ -49,7 +57,7 @@ shownLine p a = record {
   process = p;
   kind = kindOf (a .item);
   index = index (a .item);
-  place = wordPlace (a .item);
+  place = wordNamed (a .item);
   looks = onlyLooks (a .act);
 }
 
@@ -63,7 +71,7 @@ apart a b = eqb (a .kind) 0 || (eqb (b .kind) 0 || (not (sameItem a b) || (a .lo
 
 -- "two neighbouring accepted commands of different processes"
 abbrev pub maySwap : Line → Line → Bool
-maySwap a b = ltb (a .kind) 5 && (ltb (b .kind) 5 && (not (eqb (a .process) (b .process)) && apart a b))
+maySwap a b = ltb (a .kind) 6 && (ltb (b .kind) 6 && (not (eqb (a .process) (b .process)) && apart a b))
 
 -- what the line of a command says, if t is what the command does
 abbrev pub lineOf : ℕ → Touching Item Process → Line
@@ -72,7 +80,7 @@ lineOf p (one d) = record {
   process = p;
   kind = kindOf (d .item);
   index = index (d .item);
-  place = wordPlace (d .item);
+  place = wordNamed (d .item);
   looks = looks (d .act);
 }
 

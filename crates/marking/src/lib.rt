@@ -2,6 +2,8 @@
 ghost use mathlib.Core.Path.{_≡_};
 ghost use Rattle.marking.specs.Marks.{sameItem, apart, maySwap};
 
+pub mod reading;
+
 // What a line of a trace tells of its command: its process, the shared item that it touched, by its kind and its
 // numbers, and whether it only looked.
 pub struct Line {
@@ -12,7 +14,8 @@ pub struct Line {
     pub looks: bool,
 }
 
-// The kinds: no item, as of a start; the four kinds of items; and a line that is no command's.
+// The kinds: no item, as of a start; the kinds of items, of a half word with which half it is; and a line that is no
+// command's.
 pub const NO_ITEM: u8 = 0;
 
 pub const X: u8 = 1;
@@ -21,9 +24,11 @@ pub const BANK: u8 = 2;
 
 pub const HELP: u8 = 3;
 
-pub const HALF: u8 = 4;
+pub const LOW: u8 = 4;
 
-pub const NO_COMMAND: u8 = 5;
+pub const HIGH: u8 = 5;
+
+pub const NO_COMMAND: u8 = 6;
 
 fn same_item(a: Line, b: Line) -> bool
     ensures { λ r. ⌜ r ≡ sameItem a b ⌝ }

@@ -5,10 +5,12 @@ use witness::commands;
 const USAGE: &str = "usage:
   witness run
   witness trace
+  witness swaps
   witness generate SEED COUNT DIR
   witness cover DIR
   witness compare PROGRAM DIR
   witness compare-trace PROGRAM DIR
+  witness compare-swaps PROGRAM DIR
   witness compare-faults PROGRAM DIR
   witness history SEED COUNT
   witness bench-text KIND N W

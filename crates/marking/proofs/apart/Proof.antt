@@ -9,9 +9,6 @@ use borrow.Author.Tests.{eq-eqb, ne-eqb, not-true, not-false}
 use borrow.Author.Needs.{needs}
 use Rattle.marking.proofs.apart.Statement.{statement}
 use Rattle.marking.proofs.apart.Tie as tie
-use Rattle.marking.proofs.apart.Reads as reads
-use Rattle.marking.proofs.apart.Lts as lts
-use Rattle.marking.proofs.same_item.Reads as same-item-reads
 
 -- src/lib.rt:45:9
 returns : tie.Need-returns

@@ -3,14 +3,10 @@
 use mathlib.Core.Path.{ap}
 use mathlib.Core.Bool.{not}
 use Rattle.laws.proofs.AndLaws.{pass}
-use mathlib.Core.Path.{sym, _∙_}
 use borrow.Author.Tests.{eq-eqb, ne-eqb, lt-ltb, le-ltb}
 use borrow.Author.Needs.{needs}
 use Rattle.marking.proofs.may_swap.Statement.{statement}
 use Rattle.marking.proofs.may_swap.Tie as tie
-use Rattle.marking.proofs.may_swap.Reads as reads
-use Rattle.marking.proofs.may_swap.Lts as lts
-use Rattle.marking.proofs.apart.Reads as apart-reads
 
 -- src/lib.rt:64:9
 returns : tie.Need-returns

@@ -5,8 +5,6 @@ use Rattle.laws.proofs.AndLaws.{pass}
 use borrow.Author.Tests.{eq-eqb, ne-eqb}
 use Rattle.marking.proofs.same_item.Statement.{statement}
 use Rattle.marking.proofs.same_item.Tie as tie
-use Rattle.marking.proofs.same_item.Reads as reads
-use Rattle.marking.proofs.same_item.Lts as lts
 
 -- src/lib.rt:32:9
 returns : tie.Need-returns

@@ -33,10 +33,12 @@ pub fn dispatch(words: &[String]) -> Result<u8, String> {
     match words.as_slice() {
         ["run"] => run::run(wrong),
         ["trace"] => run::trace(wrong),
+        ["swaps"] => run::swaps(),
         ["generate", seed, count, dir] => generate::generate(number(seed)?, number(count)?, dir),
         ["cover", dir] => cover::cover(dir),
         ["compare", program, dir] => compare::compare(program, dir),
         ["compare-trace", program, dir] => compare::compare_trace(program, dir),
+        ["compare-swaps", program, dir] => compare::compare_swaps(program, dir),
         ["compare-faults", program, dir] => compare_faults::compare_faults(program, dir),
         ["history", seed, count] => history::history(number(seed)?, number(count)?, wrong),
         ["difference"] => wrong::difference(wrong.ok_or(NO_READING)?),

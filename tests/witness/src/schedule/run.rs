@@ -3,6 +3,7 @@
 use super::form::{last_line, Entry, Form};
 use super::lines::Lines;
 use super::parse::parse;
+use super::swaps::Touched;
 use super::tree::{Item, Schedule};
 use crate::machine::{Bench, Order, Tally, Wrong};
 
@@ -23,17 +24,29 @@ pub fn run_text(
     lent: &mut [u8],
     wrong: Option<Wrong>,
 ) -> (Outcome, Tally) {
+    let (outcome, tally, _) = run_marked(text, form, lent, wrong);
+    (outcome, tally)
+}
+
+/// The same, and for each entry whether it may change places with the one
+/// before it.
+pub fn run_marked(
+    text: &[u8],
+    form: &Form,
+    lent: &mut [u8],
+    wrong: Option<Wrong>,
+) -> (Outcome, Tally, Vec<bool>) {
     if lent.len() < form.room {
         let nothing = Outcome {
             number: 14,
             entries: 0,
             written: 0,
         };
-        return (nothing, Tally::default());
+        return (nothing, Tally::default(), Vec::new());
     }
     let mut lines = Lines::over(lent);
-    let (number, entries, tally) = match prepare(text, wrong) {
-        Err(number) => (number, 0, Tally::default()),
+    let (number, entries, tally, marks) = match prepare(text, wrong) {
+        Err(number) => (number, 0, Tally::default(), Vec::new()),
         Ok((bench, schedule)) => carry_out(bench, &schedule, form, &mut lines),
     };
     lines.line(&last_line(number, entries));
@@ -44,6 +57,7 @@ pub fn run_text(
             written: lines.written(),
         },
         tally,
+        marks,
     )
 }
 
@@ -65,16 +79,18 @@ fn carry_out(
     schedule: &Schedule,
     form: &Form,
     lines: &mut Lines,
-) -> (u8, u64, Tally) {
+) -> (u8, u64, Tally, Vec<bool>) {
     let mut run = Run {
         bench,
         form,
         lines,
         entries: 0,
         words: schedule.w as usize,
+        before: None,
+        marks: Vec::new(),
     };
     let number = run.items(&schedule.items).err().unwrap_or(0);
-    (number, run.entries, run.bench.tally().clone())
+    (number, run.entries, run.bench.tally().clone(), run.marks)
 }
 
 struct Run<'a, 'b> {
@@ -83,6 +99,8 @@ struct Run<'a, 'b> {
     lines: &'a mut Lines<'b>,
     entries: u64,
     words: usize,
+    before: Option<Touched>,
+    marks: Vec<bool>,
 }
 
 impl Run<'_, '_> {
@@ -121,6 +139,10 @@ impl Run<'_, '_> {
         }
         let answer = self.bench.command(p, &order)?;
         self.entries += 1;
+        let touched = Touched::by(p, self.bench.seen().access.as_ref());
+        let swaps = self.before.is_some_and(|before| before.may_swap(touched));
+        self.marks.push(swaps);
+        self.before = Some(touched);
         let entry = Entry {
             number: self.entries,
             process: p,
