@@ -2,12 +2,11 @@
 //! the bench runs the text.
 //!
 //! Whether a turn of a busy process answers is for the bench to say. A turn
-//! that was not yet seen to answer is taken as one that does not, so that the
-//! process stays busy. Where this is wrong, its next item is a step of an idle
-//! process; the bench refuses it with 6, and by then has shown the answer. So
-//! each run teaches what the next needs, and a run without refusal is right.
-//! What is known of the turns that a schedule shares with the one before it is
-//! kept.
+//! that it has not yet said it of is taken to answer if the call took as many
+//! steps the last time, and the run then shows whether this was so. A run is
+//! right where the items made from what it showed are those that it ran;
+//! otherwise they are run again, and then more of them are right. What is known
+//! of the turns that a schedule shares with the one before it is kept.
 
 use besklaun::Verdict;
 
@@ -16,9 +15,6 @@ use crate::case::Case;
 use crate::state::State;
 use crate::text::{written, Item};
 use crate::Ended;
-
-/// A step of an idle process is refused with it.
-const IDLE: u8 = 6;
 
 /// A schedule: its turns, and their text.
 pub struct Schedule {
@@ -30,8 +26,21 @@ pub struct Carrying<'a> {
     case: &'a Case,
     bench: Bench,
     turns: Vec<u8>,
-    /// For each turn whether it was seen to answer a call.
+    /// For each turn from the first on whether it answered a call, as far as
+    /// the bench has shown it.
     answered: Vec<bool>,
+    /// For each call the own steps that it took when it was last answered.
+    steps: [Vec<usize>; 2],
+}
+
+/// The items of the turns, the place of the turn of each, whether each turn is
+/// taken to answer, and what they leave.
+#[derive(Default)]
+struct Made {
+    items: Vec<Item>,
+    places: Vec<usize>,
+    answers: Vec<bool>,
+    state: State,
 }
 
 impl<'a> Carrying<'a> {
@@ -41,11 +50,13 @@ impl<'a> Carrying<'a> {
 
     /// These turns are made; none of them passes.
     pub fn begun(case: &'a Case, bench: Bench, turns: Vec<u8>) -> Carrying<'a> {
+        let steps = [0, 1].map(|p: usize| vec![0; case.lists[p].len()]);
         Carrying {
             case,
             bench,
-            answered: vec![false; turns.len()],
             turns,
+            answered: Vec::new(),
+            steps,
         }
     }
 
@@ -54,7 +65,6 @@ impl<'a> Carrying<'a> {
         let pairs = self.turns.iter().zip(turns);
         let shared = pairs.take_while(|(before, now)| before == now).count();
         self.answered.truncate(shared);
-        self.answered.resize(turns.len(), false);
         self.turns.clear();
         self.turns.extend_from_slice(turns);
         self.run(false)
@@ -65,7 +75,9 @@ impl<'a> Carrying<'a> {
     /// made.
     pub fn to_the_end(&mut self) -> Result<Run, Ended> {
         let run = self.run(true)?;
-        let (items, mut state) = self.items();
+        let Made {
+            items, mut state, ..
+        } = self.walked();
         let mut answers = run.told.answered[items.len()..].iter();
         for p in 0..2 {
             while !state.is_done(self.case, p) {
@@ -95,7 +107,6 @@ impl<'a> Carrying<'a> {
             self.turns.truncate(place);
             self.answered.truncate(place);
             self.turns.push(1);
-            self.answered.push(false);
         }
         last.is_some()
     }
@@ -107,54 +118,81 @@ impl<'a> Carrying<'a> {
 
     /// The schedule that was carried out.
     pub fn made(&self) -> Schedule {
-        let items: Vec<Item> = self.items().0.iter().map(|(item, _)| *item).collect();
         Schedule {
             turns: self.turns.clone(),
-            text: written(&self.case.first_line, &items),
+            text: written(&self.case.first_line, &self.walked().items),
         }
-    }
-
-    /// The items of the turns made, with the place of the turn of each, and
-    /// what they leave.
-    fn items(&self) -> (Vec<(Item, usize)>, State) {
-        let mut state = State::default();
-        let mut items = Vec::with_capacity(self.turns.len());
-        for (place, turn) in self.turns.iter().enumerate() {
-            let item = state.turn(self.case, *turn as usize, self.answered[place]);
-            items.extend(item.map(|item| (item, place)));
-        }
-        (items, state)
     }
 
     /// A run of the turns made, with both lists to their end where it is asked
-    /// for, that met no refusal.
+    /// for, that took no turn for another.
     fn run(&mut self, to_the_end: bool) -> Result<Run, Ended> {
         loop {
-            let (made, state) = self.items();
-            let mut items: Vec<Item> = made.iter().map(|(item, _)| *item).collect();
+            let made = self.walked();
+            let mut items = made.items.clone();
             if to_the_end {
-                items.extend((0..2).flat_map(|p| state.rest(self.case, p)));
+                items.extend((0..2).flat_map(|p| made.state.rest(self.case, p)));
             }
             let text = written(&self.case.first_line, &items);
             let run = self.bench.traced(&text);
-            let learned = self.learn(&made, &run);
-            match run.number {
-                0 => return Ok(run),
-                IDLE if learned => {}
-                number => return Err(not_carried_out(number, &text)),
+            let mut shown = shown_by(&run, &made);
+            let wrong = (0..shown.len()).find(|place| shown[*place] != made.answers[*place]);
+            if let Some(place) = wrong {
+                shown.truncate(place + 1);
+            }
+            self.answered = shown;
+            self.remember();
+            match (wrong, run.number) {
+                (None, 0) => return Ok(run),
+                (None, number) => return Err(not_carried_out(number, &text)),
+                _ => {}
             }
         }
     }
 
-    /// Whether something new was seen.
-    fn learn(&mut self, made: &[(Item, usize)], run: &Run) -> bool {
-        let mut learned = false;
-        for ((_, place), answered) in made.iter().zip(&run.told.answered) {
-            learned |= self.answered[*place] != *answered;
-            self.answered[*place] = *answered;
+    fn walked(&self) -> Made {
+        let mut made = Made::default();
+        for (place, turn) in self.turns.iter().enumerate() {
+            let p = *turn as usize;
+            let known = self.answered.get(place).copied();
+            let answers = known.unwrap_or_else(|| self.expected(&made.state, p));
+            made.answers.push(answers);
+            if let Some(item) = made.state.turn(self.case, p, answers) {
+                made.items.push(item);
+                made.places.push(place);
+            }
         }
-        learned
+        made
     }
+
+    /// Whether a turn of p is taken to answer.
+    fn expected(&self, state: &State, p: usize) -> bool {
+        let open = state.open_call(p);
+        open.is_some_and(|call| state.steps[p] + 1 == self.steps[p][call])
+    }
+
+    /// The steps that calls took, for the next time.
+    fn remember(&mut self) {
+        let mut state = State::default();
+        for (turn, answered) in self.turns.iter().zip(&self.answered) {
+            let p = *turn as usize;
+            let open = state.open_call(p);
+            state.turn(self.case, p, *answered);
+            if let (Some(call), true) = (open, *answered) {
+                self.steps[p][call] = state.steps[p];
+            }
+        }
+    }
+}
+
+/// Whether each turn answered; of those that were not carried out what it was
+/// taken for.
+fn shown_by(run: &Run, made: &Made) -> Vec<bool> {
+    let mut shown = made.answers.clone();
+    for (place, answered) in made.places.iter().zip(&run.told.answered) {
+        shown[*place] = *answered;
+    }
+    shown
 }
 
 fn not_carried_out(number: u8, text: &str) -> Ended {

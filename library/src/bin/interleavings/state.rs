@@ -3,28 +3,36 @@
 use crate::case::Case;
 use crate::text::Item;
 
-/// How far each list has gone: the calls taken from it, and whether one of
-/// them is open.
+/// How far each list has gone: the calls taken from it, whether the last of
+/// them is open, and the own steps of that one.
 #[derive(Clone, Copy, Default)]
 pub struct State {
     taken: [usize; 2],
+    pub steps: [usize; 2],
     busy: [bool; 2],
 }
 
 impl State {
-    /// A turn of p, and whether it answers: "a turn of an idle
-    /// process starts the next call on its list, which leaves the list even if
-    /// refused; a busy one steps; an idle one with an empty list passes". A
-    /// refused call and a pass have no item.
+    /// A turn of p, and whether it answers: "a turn of an idle process starts
+    /// the next call on its list, which leaves the list even if refused; a
+    /// busy one steps; an idle one with an empty list passes". A refused call
+    /// and a pass have no item.
     pub fn turn(&mut self, case: &Case, p: usize, answers: bool) -> Option<Item> {
         if self.busy[p] {
+            self.steps[p] += 1;
             self.busy[p] = !answers;
             return Some(Item::Step(p));
         }
         let next = case.lists[p].get(self.taken[p])?;
         self.taken[p] += 1;
+        self.steps[p] = 0;
         self.busy[p] = next.refusal == 0;
         self.busy[p].then_some(Item::Start(p, next.call))
+    }
+
+    /// The place in its list of the call that p has open.
+    pub fn open_call(&self, p: usize) -> Option<usize> {
+        self.busy[p].then(|| self.taken[p] - 1)
     }
 
     /// Whether a turn of p would pass.
