@@ -5,12 +5,10 @@ use witness::commands;
 const USAGE: &str = "usage:
   witness run
   witness trace
-  witness swaps
   witness generate SEED COUNT DIR
   witness cover DIR
   witness compare PROGRAM DIR
   witness compare-trace PROGRAM DIR
-  witness compare-swaps PROGRAM DIR
   witness compare-faults PROGRAM DIR
   witness history SEED COUNT
   witness bench-text KIND N W
@@ -42,6 +40,8 @@ const USAGE: &str = "usage:
   witness compare-turns PROGRAM DIR
   witness interleavings
   witness neighbours
+  witness marks
+  witness compare-marks PROGRAM DIR
   witness swaps
   witness both-orders SEED COUNT
   witness moir-run

@@ -1,12 +1,31 @@
-//! `witness neighbours`, `swaps` and `both-orders`: CR 13.
+//! `witness neighbours`, `marks`, `swaps` and `both-orders`: CR 13.
 
+use super::compare::against_texts;
 use super::run::{given, print, text_given};
-use crate::commuting::{entries_of, neighbours, survey, swaps, Survey};
+use crate::commuting::{entries_of, marked, neighbours, survey, swaps, Survey};
+use crate::schedule::trace_of;
 use crate::station::small_list;
 
 /// A trace from standard input: which neighbours may change places.
 pub fn print_neighbours() -> Result<u8, String> {
     print(neighbours(&given()?)?.as_bytes())
+}
+
+/// A schedule text from standard input: its trace, with marks.
+pub fn print_marks() -> Result<u8, String> {
+    print(&marks_of(&text_given()?))
+}
+
+/// The traces with marks of another program.
+pub fn compare_marks(program: &str, dir: &str) -> Result<u8, String> {
+    against_texts(program, dir, "marks", marks_of)
+}
+
+fn marks_of(text: &[u8]) -> Vec<u8> {
+    let trace = String::from_utf8(trace_of(text, None)).expect("a trace is plain text");
+    marked(&trace)
+        .expect("a trace has entries and a last line")
+        .into_bytes()
 }
 
 /// A schedule text from standard input: its neighbours in both orders. Status

@@ -1,5 +1,5 @@
-//! `witness compare PROGRAM DIR`, `witness compare-trace PROGRAM DIR` and
-//! `witness compare-swaps PROGRAM DIR`: another program against the simulator.
+//! `witness compare PROGRAM DIR` and `witness compare-trace PROGRAM DIR`:
+//! another program against the simulator.
 
 use std::fs::{self, File};
 use std::path::Path;
@@ -8,7 +8,7 @@ use std::process::{Command, Stdio};
 use super::files::{read_text, texts_in};
 use super::run::print;
 use crate::moir;
-use crate::schedule::{listing_of, swaps_of, trace_of};
+use crate::schedule::{listing_of, trace_of};
 
 /// Listings.
 pub fn compare(program: &str, dir: &str) -> Result<u8, String> {
@@ -18,11 +18,6 @@ pub fn compare(program: &str, dir: &str) -> Result<u8, String> {
 /// Traces.
 pub fn compare_trace(program: &str, dir: &str) -> Result<u8, String> {
     against_texts(program, dir, "traces", |text| trace_of(text, None))
-}
-
-/// Traces with their marks.
-pub fn compare_swaps(program: &str, dir: &str) -> Result<u8, String> {
-    against(program, dir, "marks", swaps_of)
 }
 
 /// Listings of Moir's bench.
@@ -35,7 +30,7 @@ pub fn compare_moir_trace(program: &str, dir: &str) -> Result<u8, String> {
     against_texts(program, dir, "traces", moir::trace_of)
 }
 
-fn against_texts(
+pub fn against_texts(
     program: &str,
     dir: &str,
     what: &str,

@@ -1,10 +1,10 @@
 //! `witness run` is the program `schedule` of document 01, `witness trace`
-//! the program `trace`, `witness swaps` the program `swaps`.
+//! the program `trace`.
 
 use std::io::{stdin, stdout, Read, Write};
 
 use crate::machine::Wrong;
-use crate::schedule::{listing_of, swaps_of, trace_of, TEXT_LIMIT};
+use crate::schedule::{listing_of, trace_of, TEXT_LIMIT};
 
 pub fn run(wrong: Option<Wrong>) -> Result<u8, String> {
     let (listing, _, _) = listing_of(&text_given()?, wrong);
@@ -13,10 +13,6 @@ pub fn run(wrong: Option<Wrong>) -> Result<u8, String> {
 
 pub fn trace(wrong: Option<Wrong>) -> Result<u8, String> {
     print(&trace_of(&text_given()?, wrong))
-}
-
-pub fn swaps() -> Result<u8, String> {
-    print(&swaps_of(&text_given()?))
 }
 
 pub fn text_given() -> Result<Vec<u8>, String> {

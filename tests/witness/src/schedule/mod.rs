@@ -6,7 +6,6 @@ mod lines;
 mod listing;
 mod parse;
 mod run;
-mod swaps;
 mod trace;
 mod tree;
 
@@ -18,8 +17,6 @@ pub use trace::place_text;
 pub use tree::{Item, Schedule};
 
 use crate::machine::{Tally, Wrong};
-use run::run_marked;
-use swaps::marked;
 
 /// A text run as the program `schedule` makes it: the bytes it prints.
 pub fn listing_of(text: &[u8], wrong: Option<Wrong>) -> (Vec<u8>, Outcome, Tally) {
@@ -29,14 +26,6 @@ pub fn listing_of(text: &[u8], wrong: Option<Wrong>) -> (Vec<u8>, Outcome, Tally
 /// A text run as the program `trace` makes it: the bytes it prints.
 pub fn trace_of(text: &[u8], wrong: Option<Wrong>) -> Vec<u8> {
     written(text, &TRACE, wrong).0
-}
-
-/// A text run as the program `swaps` makes it: the trace, with a mark at each
-/// line that may change places with the one before it.
-pub fn swaps_of(text: &[u8]) -> Vec<u8> {
-    let mut lent = vec![0; TRACE.lent];
-    let (outcome, _, marks) = run_marked(text, &TRACE, &mut lent, None);
-    marked(&lent[..outcome.written], &marks)
 }
 
 fn written(text: &[u8], form: &Form, wrong: Option<Wrong>) -> (Vec<u8>, Outcome, Tally) {

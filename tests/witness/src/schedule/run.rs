@@ -3,7 +3,6 @@
 use super::form::{last_line, Entry, Form};
 use super::lines::Lines;
 use super::parse::parse;
-use super::swaps::Touched;
 use super::tree::{Item, Schedule};
 use crate::machine::{Bench, Order, Tally, Wrong};
 
@@ -24,29 +23,17 @@ pub fn run_text(
     lent: &mut [u8],
     wrong: Option<Wrong>,
 ) -> (Outcome, Tally) {
-    let (outcome, tally, _) = run_marked(text, form, lent, wrong);
-    (outcome, tally)
-}
-
-/// The same, and for each entry whether it may change places with the one
-/// before it.
-pub fn run_marked(
-    text: &[u8],
-    form: &Form,
-    lent: &mut [u8],
-    wrong: Option<Wrong>,
-) -> (Outcome, Tally, Vec<bool>) {
     if lent.len() < form.room {
         let nothing = Outcome {
             number: 14,
             entries: 0,
             written: 0,
         };
-        return (nothing, Tally::default(), Vec::new());
+        return (nothing, Tally::default());
     }
     let mut lines = Lines::over(lent);
-    let (number, entries, tally, marks) = match prepare(text, wrong) {
-        Err(number) => (number, 0, Tally::default(), Vec::new()),
+    let (number, entries, tally) = match prepare(text, wrong) {
+        Err(number) => (number, 0, Tally::default()),
         Ok((bench, schedule)) => carry_out(bench, &schedule, form, &mut lines),
     };
     lines.line(&last_line(number, entries));
@@ -57,7 +44,6 @@ pub fn run_marked(
             written: lines.written(),
         },
         tally,
-        marks,
     )
 }
 
@@ -79,18 +65,16 @@ fn carry_out(
     schedule: &Schedule,
     form: &Form,
     lines: &mut Lines,
-) -> (u8, u64, Tally, Vec<bool>) {
+) -> (u8, u64, Tally) {
     let mut run = Run {
         bench,
         form,
         lines,
         entries: 0,
         words: schedule.w as usize,
-        before: None,
-        marks: Vec::new(),
     };
     let number = run.items(&schedule.items).err().unwrap_or(0);
-    (number, run.entries, run.bench.tally().clone(), run.marks)
+    (number, run.entries, run.bench.tally().clone())
 }
 
 struct Run<'a, 'b> {
@@ -99,8 +83,6 @@ struct Run<'a, 'b> {
     lines: &'a mut Lines<'b>,
     entries: u64,
     words: usize,
-    before: Option<Touched>,
-    marks: Vec<bool>,
 }
 
 impl Run<'_, '_> {
@@ -139,10 +121,6 @@ impl Run<'_, '_> {
         }
         let answer = self.bench.command(p, &order)?;
         self.entries += 1;
-        let touched = Touched::by(p, self.bench.seen().access.as_ref());
-        let swaps = self.before.is_some_and(|before| before.may_swap(touched));
-        self.marks.push(swaps);
-        self.before = Some(touched);
         let entry = Entry {
             number: self.entries,
             process: p,
