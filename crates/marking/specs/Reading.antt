@@ -44,7 +44,9 @@ itemIn bs = cond (eqb (first (drop 2 bs)) (byte "a")) (numbered 2 (drop 6 bs))
 
 -- ` LL`, ` VL`, ` read`
 unfoldable pub looksIn : List ℕ → Bool
-looksIn bs = eqb (first (drop 1 bs)) (byte "L") || (eqb (first (drop 1 bs)) (byte "V") || eqb (first (drop 1 bs)) (byte "r"))
+looksIn bs =
+    let letter : ℕ = first (drop 1 bs) in
+    eqb letter (byte "L") || (eqb letter (byte "V") || eqb letter (byte "r"))
 
 abbrev pub noLine : Line
 noLine = record { process = 0; kind = 6; index = 0; place = 0; looks = true }

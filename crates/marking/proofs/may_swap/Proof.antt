@@ -18,7 +18,8 @@ returns-2 c = simp (lt-ltb _ _ (c .before .before .if1 .left), le-ltb _ _ (c .if
 
 -- src/lib.rt:70:9
 returns-3 : tie.Need-returns-3
-returns-3 c = simp (lt-ltb _ _ (c .before .before .before .before .before .if1 .left), lt-ltb _ _ (c .before .before .before .if2 .left), eq-eqb _ _ (c .if3 .taken))
+returns-3 c =
+    simp (lt-ltb _ _ (c .before .before .before .before .before .if1 .left), lt-ltb _ _ (c .before .before .before .if2 .left), eq-eqb _ _ (c .if3 .taken))
 
 -- src/lib.rt:72:5
 apart-requires : tie.Need-apart-requires
@@ -26,7 +27,10 @@ apart-requires c κs = search needs
 
 -- src/lib.rt:60:1
 returns-4 : tie.Need-returns-4
-returns-4 c = pass _ (lt-ltb _ _ (c .before .before .before .before .before .before .if1 .left)) (pass _ (lt-ltb _ _ (c .before .before .before .before .if2 .left)) (pass _ (ap not (ne-eqb _ _ (c .before .if3 .left))) (c .apart .ensures)))
+returns-4 c =
+    pass _ (lt-ltb _ _ (c .before .before .before .before .before .before .if1 .left))
+    (pass _ (lt-ltb _ _ (c .before .before .before .before .if2 .left))
+    (pass _ (ap not (ne-eqb _ _ (c .before .if3 .left))) (c .apart .ensures)))
 
 pub may-swap-spec : {M : Type 1} → statement M
 may-swap-spec = tie.close (tie.spec returns returns-2 returns-3 apart-requires returns-4)

@@ -33,7 +33,12 @@ further-requires-3 c κs = search needs
 -- src/reading.rt:62:9
 returns : tie.Need-returns
 returns c =
-    let a = c .before .before .before .before .before .before .before .before .args in let b = c .before .before .before .before .before .before .number in let i = c .before .before .before .before .before .further in let w = c .before .before .before .before .number2 in let h = c .before .before .before .further2 in let r = c .further3 in (
+    let a = c .before .before .before .before .before .before .before .before .args in
+    let b = c .before .before .before .before .before .before .number in
+    let i = c .before .before .before .before .before .further in
+    let w = c .before .before .before .before .number2 in
+    let h = c .before .before .before .further2 in
+    let r = c .further3 in (
       high-read (a .text .now) (a .at) (b .result) (w .result) (i .result) (h .result) (b .ensures .0) (i .ensures .0) (w .ensures .0) (h .ensures .0)
           (sym (c .before .before .byte-at .ensures) ∙ c .before .if1 .taken) (r .result) (r .ensures .0),
       r .ensures .1,
@@ -46,7 +51,12 @@ further-requires-4 c κs = search needs
 -- src/reading.rt:52:1
 returns-2 : tie.Need-returns-2
 returns-2 c =
-    let a = c .before .before .before .before .before .before .before .before .args in let b = c .before .before .before .before .before .before .number in let i = c .before .before .before .before .before .further in let w = c .before .before .before .before .number2 in let h = c .before .before .before .further2 in let r = c .further4 in (
+    let a = c .before .before .before .before .before .before .before .before .args in
+    let b = c .before .before .before .before .before .before .number in
+    let i = c .before .before .before .before .before .further in
+    let w = c .before .before .before .before .number2 in
+    let h = c .before .before .before .further2 in
+    let r = c .further4 in (
       low-read (a .text .now) (a .at) (b .result) (w .result) (i .result) (h .result) (b .ensures .0) (i .ensures .0) (w .ensures .0) (h .ensures .0)
           (λ z. c .before .if1 .left (c .before .before .byte-at .ensures ∙ z)) (r .result) (r .ensures .0),
       r .ensures .1,

@@ -25,8 +25,15 @@ numbered-requires c κs = search needs
 -- src/reading.rt:87:9
 returns : tie.Need-returns
 returns c =
-    let a = c .before .before .before .before .before .before .args in let s = c .before .before .before .before .further in let y = c .before .before .before .byte-at .ensures in let r = c .before .further2 in let i = c .numbered in
-    (bank-read (a .text .now) (a .at) (s .result) (s .ensures .0) (r .result) _ (sym y ∙ c .before .before .if1 .taken) (r .ensures .0) (i .ensures .0), i .ensures .1)
+    let a = c .before .before .before .before .before .before .args in
+    let s = c .before .before .before .before .further in
+    let y = c .before .before .before .byte-at .ensures in
+    let r = c .before .further2 in
+    let i = c .numbered in (
+      bank-read (a .text .now) (a .at) (s .result) (s .ensures .0) (r .result) _
+          (sym y ∙ c .before .before .if1 .taken) (r .ensures .0) (i .ensures .0),
+      i .ensures .1,
+    )
 
 -- src/reading.rt:90:13
 further-requires-3 : tie.Need-further-requires-3
@@ -39,8 +46,16 @@ numbered-requires-2 c κs = search needs
 -- src/reading.rt:91:9
 returns-2 : tie.Need-returns-2
 returns-2 c =
-    let a = c .before .before .before .before .before .before .before .args in let s = c .before .before .before .before .before .further in let y = c .before .before .before .before .byte-at .ensures in let r = c .before .further3 in let i = c .numbered2 in
-    (help-read (a .text .now) (a .at) (s .result) (s .ensures .0) (r .result) _ (λ z. c .before .before .before .if1 .left (y ∙ z)) (sym y ∙ c .before .before .if2 .taken) (r .ensures .0) (i .ensures .0), i .ensures .1)
+    let a = c .before .before .before .before .before .before .before .args in
+    let s = c .before .before .before .before .before .further in
+    let y = c .before .before .before .before .byte-at .ensures in
+    let r = c .before .further3 in
+    let i = c .numbered2 in (
+      help-read (a .text .now) (a .at) (s .result) (s .ensures .0) (r .result) _
+          (λ z. c .before .before .before .if1 .left (y ∙ z)) (sym y ∙ c .before .before .if2 .taken)
+          (r .ensures .0) (i .ensures .0),
+      i .ensures .1,
+    )
 
 -- src/reading.rt:94:13
 further-requires-4 : tie.Need-further-requires-4
@@ -53,14 +68,29 @@ half-requires c κs = search needs
 -- src/reading.rt:95:9
 returns-3 : tie.Need-returns-3
 returns-3 c =
-    let a = c .before .before .before .before .before .before .before .before .args in let s = c .before .before .before .before .before .before .further in let y = c .before .before .before .before .before .byte-at .ensures in let r = c .before .further4 in let i = c .half in
-    (buf-read (a .text .now) (a .at) (s .result) (s .ensures .0) (r .result) _ (λ z. c .before .before .before .before .if1 .left (y ∙ z)) (λ z. c .before .before .before .if2 .left (y ∙ z)) (sym y ∙ c .before .before .if3 .taken) (r .ensures .0) (i .ensures .0), i .ensures .1)
+    let a = c .before .before .before .before .before .before .before .before .args in
+    let s = c .before .before .before .before .before .before .further in
+    let y = c .before .before .before .before .before .byte-at .ensures in
+    let r = c .before .further4 in
+    let i = c .half in (
+      buf-read (a .text .now) (a .at) (s .result) (s .ensures .0) (r .result) _
+          (λ z. c .before .before .before .before .if1 .left (y ∙ z))
+          (λ z. c .before .before .before .if2 .left (y ∙ z)) (sym y ∙ c .before .before .if3 .taken)
+          (r .ensures .0) (i .ensures .0),
+      i .ensures .1,
+    )
 
 -- src/reading.rt:79:1
 returns-4 : tie.Need-returns-4
 returns-4 c =
-    let a = c .before .before .before .before .before .before .args in let s = c .before .before .before .before .further in let y = c .before .before .before .byte-at .ensures in
-    (x-read (a .text .now) (a .at) (s .result) (s .ensures .0) (λ z. c .before .before .if1 .left (y ∙ z)) (λ z. c .before .if2 .left (y ∙ z)) (λ z. c .if3 .left (y ∙ z)), s .ensures .1)
+    let a = c .before .before .before .before .before .before .args in
+    let s = c .before .before .before .before .further in
+    let y = c .before .before .before .byte-at .ensures in (
+      x-read (a .text .now) (a .at) (s .result) (s .ensures .0)
+          (λ z. c .before .before .if1 .left (y ∙ z)) (λ z. c .before .if2 .left (y ∙ z))
+          (λ z. c .if3 .left (y ∙ z)),
+      s .ensures .1,
+    )
 
 pub item-spec : {M : Type 1} → statement M
 item-spec =

@@ -39,8 +39,12 @@ started-requires c κs = search needs
 -- src/reading.rt:158:9
 returns-2 : tie.Need-returns-2
 returns-2 c =
-    let a = c .before .before .before .before .before .before .before .before .before .args in let k = c .before .before .before .before .before .before .before .number in let p = c .before .before .before .before .spaced-number in let s = c .before .before .before .further in
-    c .started .ensures ∙ start-read (a .text .now) (a .at) (k .result) (k .ensures .0) (c .before .before .before .before .before .if1 .left) (p .result) (p .ensures .0) (s .result) (s .ensures .0) (sym (c .before .before .byte-at .ensures) ∙ c .before .if2 .taken)
+    let a = c .before .before .before .before .before .before .before .before .before .args in
+    let k = c .before .before .before .before .before .before .before .number in
+    let p = c .before .before .before .before .spaced-number in
+    let s = c .before .before .before .further in
+    c .started .ensures ∙ start-read (a .text .now) (a .at) (k .result) (k .ensures .0) (c .before .before .before .before .before .if1 .left) (p .result) (p .ensures .0) (s .result) (s .ensures .0)
+    (sym (c.before .before .byte-at .ensures) ∙ c .before .if2 .taken)
 
 -- src/reading.rt:160:9
 spaced-number-requires-2 : tie.Need-spaced-number-requires-2
@@ -57,7 +61,13 @@ looks-requires c κs = search needs
 -- src/reading.rt:147:1
 returns-3 : tie.Need-returns-3
 returns-3 c =
-    let a = c .before .before .before .before .before .before .before .before .before .before .before .args in let k = c .before .before .before .before .before .before .before .before .before .number in let p = c .before .before .before .before .before .before .spaced-number in let s = c .before .before .before .before .before .further in let n = c .before .before .spaced-number2 in let i = c .before .item in let l = c .looks in
+    let a = c .before .before .before .before .before .before .before .before .before .before .before .args in
+    let k = c .before .before .before .before .before .before .before .before .before .number in
+    let p = c .before .before .before .before .before .before .spaced-number in
+    let s = c .before .before .before .before .before .further in
+    let n = c .before .before .spaced-number2 in
+    let i = c .before .item in
+    let l = c .looks in
     step-read (a .text .now) (a .at) (k .result) (k .ensures .0) (c .before .before .before .before .before .before .before .if1 .left) (p .result) (p .ensures .0) (s .result) (s .ensures .0)
     (λ z. c .before .before .before .if2 .left (c .before .before .before .before .byte-at .ensures ∙ z)) (n .result) (n .ensures .0) (i .result) (i .ensures .0) (l .result) (l .ensures)
 
