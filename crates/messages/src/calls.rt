@@ -1,77 +1,119 @@
-// Open calls: the kind, the line of Figure 2 that comes next, and the own steps so far.
+// The open call of a process: its kind, the line that comes next, the word place where that line moves words, and the
+// own steps so far. The same words for every method; the figure is told by its number.
+ghost use mathlib.Core.Path.{_≡_};
+ghost use Prim.Native.Nat.{_<_};
+ghost use Rattle.messages.specs.OpenCalls.{placeOf};
 use crate::say;
-use lines::points;
-use model::Process;
-use tables::records::Records;
 
-// A line for each process below N that has an open call.
-pub fn still_open(n: usize, all: Records) {
-    let mut p = 0;
-    while p < 16 {
-        if p < n {
-            open_line(p, all.list[p]);
-        }
-        p += 1;
-    }
+pub const IDLE: u8 = 0;
+
+pub const LL: u8 = 1;
+
+pub const SC: u8 = 2;
+
+pub const VL: u8 = 3;
+
+// How the line that comes next moves words: not, a whole word to a step, or a half.
+pub const NO_WORD: u8 = 0;
+
+pub const WHOLE: u8 = 1;
+
+pub const HALVES: u8 = 2;
+
+pub struct Call {
+    pub kind: u8,
+    pub line: u8,
+    pub moves: u8,
+    // the word place, which counts what a step moves
+    pub place: usize,
+    pub count: usize,
 }
 
-fn open_line(p: usize, process: Process) {
-    if process.line == points::IDLE {
+// The figure whose lines are told, and W.
+pub struct Method {
+    pub figure: u8,
+    pub w: u64,
+}
+
+// Where the record of process p stands among sixteen.
+pub fn place_of(p: u64) -> usize
+    ensures { λ r. ⌜ (r ≡ placeOf p) × (r < 16) ⌝ }
+{
+    if p < 16 {
+        return p as usize;
+    }
+    0
+}
+
+// The line of process p, if its call is open.
+pub fn open_line(p: usize, method: Method, call: Call) {
+    if call.kind == IDLE {
         return;
     }
     say::say(b"open: process ");
     say::number(p);
     say::say(b", ");
-    call(process);
+    told(method, call);
     say::say(b"\n");
 }
 
-// The state of a process that a command named.
-pub fn state(p: usize, n: usize, all: Records) {
-    say::say(b"process ");
-    say::number(p);
-    if n <= p {
-        say::say(b" is not below N, which is ");
-        say::number(n);
-        return;
-    }
-    if p < 16 {
-        busy_or_idle(all.list[p]);
-    }
-}
-
-fn busy_or_idle(process: Process) {
-    if process.line == points::IDLE {
+// Whether the process that a command named is idle, or its call.
+pub fn busy_or_idle(method: Method, call: Call) {
+    if call.kind == IDLE {
         say::say(b" is idle");
         return;
     }
     say::say(b" is busy: ");
-    call(process);
+    told(method, call);
 }
 
-fn call(process: Process) {
-    kind(process.line);
+fn told(method: Method, call: Call) {
+    kind(call.kind);
     say::say(b", line ");
-    say::number(figure_line(process.line) as usize);
-    say::say(b" of Figure 2 next, ");
-    say::number(process.count);
+    say::number(call.line as usize);
+    say::say(b" of Figure ");
+    say::number(method.figure as usize);
+    word(method.w, call.moves, call.place);
+    say::say(b" next, ");
+    say::number(call.count);
+    if call.count == 1 {
+        say::say(b" own step so far");
+        return;
+    }
     say::say(b" own steps so far");
 }
 
-fn kind(line: u8) {
-    match line {
-        1..=11 | points::LINE_7_COPY => say::say(b"LL"),
-        points::LINE_23 => say::say(b"VL"),
+fn kind(kind: u8) {
+    match kind {
+        LL => say::say(b"LL"),
+        VL => say::say(b"VL"),
         _ => say::say(b"SC"),
     }
 }
 
-// The line of Figure 2 to which a program point belongs.
-fn figure_line(line: u8) -> u8 {
-    match line {
-        points::LINE_7_COPY => points::LINE_7,
-        points::LINE_12_VALID => points::LINE_12,
-        points::LINE_14_VALID => points::LINE_14,
-        _ => line,
+// The word of a line that moves words, from 0 on as in a trace.
+fn word(w: u64, moves: u8, place: usize) {
+    match moves {
+        WHOLE => word_of(place, w),
+        HALVES => {
+            word_of(place / 2, w);
+            half(place % 2);
+        }
+        _ => {}
     }
+}
+
+fn word_of(k: usize, w: u64) {
+    say::say(b", word ");
+    say::number(k);
+    say::say(b" of ");
+    say::number(w as usize);
+}
+
+fn half(half: usize) {
+    if half == 0 {
+        say::say(b", low half");
+        return;
+    }
+    say::say(b", high half");
 }

@@ -1,6 +1,14 @@
 // A fault of a text, 10 or 11: where it is, what was expected there, and what stands there.
 use crate::say;
+use crate::shown;
 use positions::Seen;
+
+// The bytes with which some editors begin a text.
+const MARK_0: u8 = 239;
+
+const MARK_1: u8 = 187;
+
+const MARK_2: u8 = 191;
 
 // The text is split at the fault's place.
 pub fn fault(number: u8, before: &[u8], rest: &[u8]) {
@@ -17,12 +25,39 @@ pub fn fault(number: u8, before: &[u8], rest: &[u8]) {
     if rest.len() == 0 {
         expected(s, true, 0);
         say::say(b"; here the text ends");
+        unclosed(before);
+        return;
+    }
+    if is_order_mark(rest) {
+        say::say(b"the text begins with a byte order mark; save it as plain text, without one");
         return;
     }
     let here = rest[0];
     expected(s, false, here);
     say::say(b"; here is ");
     say::byte(here);
+}
+
+// Where the group begins that is open at the text's end.
+fn unclosed(text: &[u8]) {
+    let at = shown::within(positions::unclosed(text), text);
+    if at < text.len() {
+        say::say(b"; its ( is at ");
+        say::place(positions::look(&text[..at]));
+    }
+}
+
+fn is_order_mark(rest: &[u8]) -> bool {
+    if rest.len() < 3 {
+        return false;
+    }
+    if rest[0] != MARK_0 {
+        return false;
+    }
+    if rest[1] != MARK_1 {
+        return false;
+    }
+    rest[2] == MARK_2
 }
 
 fn expected(s: Seen, ended: bool, here: u8) {

@@ -1,18 +1,29 @@
 // Refusals 1 and 2: a number of the first line out of its range.
-use crate::digits;
+ghost use mathlib.Core.Path.{_≡_};
+ghost use Prim.Native.Nat.{_+_};
+ghost use lib.ListN.{length};
+ghost use Rattle.listing.specs.Decimal.{decimal};
 use crate::say;
+use positions::StopReport;
 
-pub fn processes(text: &[u8]) {
+pub fn processes(report: StopReport) {
     say::say(b"line 1, column 1: N is ");
-    say::number(digits::value(text));
+    say::number(report.n as usize);
     say::say(b"; it is 1 to 16");
 }
 
-pub fn words(text: &[u8]) {
-    let at = digits::after_space(text);
+pub fn words(report: StopReport) {
     say::say(b"line 1, column ");
-    say::next(at);
+    say::next(after_number(report.n));
     say::say(b": W is ");
-    say::number(digits::value(&text[at..]));
+    say::number(report.w as usize);
     say::say(b"; it is 1 to 64");
+}
+
+// The place after a number at the beginning of a text and one space. Numbers are written one way only.
+fn after_number(n: u64) -> usize
+    ensures { λ r. ⌜ r ≡ length (decimal n) + 1 ⌝ }
+{
+    let mut digits = [0; 20];
+    listing::number(&mut digits, 0, n) + 1
 }

@@ -1,4 +1,6 @@
 // Bytes and numbers to standard error. What can't be written there is lost: there is no other place to say so.
+use positions::Seen;
+
 pub fn say(bytes: &[u8]) {
     io::write_all(2, bytes);
 }
@@ -12,6 +14,13 @@ pub fn next(n: usize) {
     if n < 18446744073709551615 {
         number(n + 1);
     }
+}
+
+// Line and column.
+pub fn place(s: Seen) {
+    next(s.feeds);
+    say(b":");
+    next(s.since);
 }
 
 // A byte by its name, or by itself where it has a shape.

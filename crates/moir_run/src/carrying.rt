@@ -13,6 +13,7 @@ use moir_rows::records;
 use moir_rows::records::Records;
 use moir_steps::word_places;
 use notation::Entry;
+use notation::entry_words;
 
 pub const MOST_ENTRIES: usize = 60000;
 
@@ -24,13 +25,14 @@ pub const TOO_MUCH: u8 = 12;
 
 pub const NO_ROOM: u8 = 14;
 
-// A run: bench and records, where the listing or the trace goes on, the entries done, the number that stopped it, 0 for
-// none, and whether it is traced.
+// A run: bench and records, where the listing or the trace goes on, the entries done, its place in the list of entries,
+// the number that stopped it, 0 for none, and whether it is traced.
 pub struct Run {
     pub bench: Bench,
     pub all: Records,
     pub written: usize,
     pub done: usize,
+    pub at: usize,
     pub stop: u8,
     pub traced: bool,
 }
@@ -274,16 +276,17 @@ fn room_left(len: usize, written: usize) -> usize {
     len - written
 }
 
-// One entry more, or the number that stops the run before it.
-fn turned(run: Run, e: Entry, list: &mut [u8], words: &mut [u64]) -> Run {
-    let left = room_left(list.len(), run.written);
-    let stop = stop_before(run.done, left, run.traced);
+// One entry more, at a place of the list, or the number that stops the run before it.
+fn turned(run: Run, at: usize, e: Entry, list: &mut [u8], words: &mut [u64]) -> Run {
+    let mut here = run;
+    here.at = at;
+    let left = room_left(list.len(), here.written);
+    let stop = stop_before(here.done, left, here.traced);
     if stop != 0 {
-        let mut ended = run;
-        ended.stop = stop;
-        return ended;
+        here.stop = stop;
+        return here;
     }
-    one(run, e, list, words)
+    one(here, e, list, words)
 }
 
 // The entries of the list, up to `count`; `!` stays at its place in the list until its call answers.
@@ -299,8 +302,8 @@ pub fn carry_out(run: Run, kept: &[u64], count: usize, list: &mut [u8], words: &
         if at >= kept.len() {
             return next;
         }
-        let e = entries::entry_in(kept[at]);
-        next = turned(next, e, list, words);
+        let e = entry_words::entry_in(kept[at]);
+        next = turned(next, at, e, list, words);
         if next.stop != 0 {
             return next;
         }

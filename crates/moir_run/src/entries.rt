@@ -1,19 +1,6 @@
-// What an entry orders: its process, its order and its value. An entry is kept as one number (`notation::entry_words`).
+// What an entry orders: its process, its order and its value.
 use llsc::Order;
 use notation::Entry;
-
-// The entry that a number of the list keeps.
-pub fn entry_in(word: u64) -> Entry {
-    let kind = word % 8;
-    let p = word / 8 % 32;
-    match kind {
-        0 => Entry::StartLl(p),
-        1 => Entry::StartVl(p),
-        2 => Entry::StartSc(p, word / 256 % 4294967296),
-        3 => Entry::Step(p),
-        _ => Entry::Finish(p),
-    }
-}
 
 pub fn process_of(e: Entry) -> u64 {
     match e {

@@ -2,6 +2,7 @@
 // functions themselves only safety is proved.
 mod carrying;
 mod entries;
+mod reports;
 pub mod texts;
 mod tracing;
 mod writing;

@@ -1,14 +1,16 @@
 // The program `moir_trace`: schedule text from standard input, at most 16,385 bytes, run on Moir's bench, and its trace, of
-// at most 3,145,728 bytes, to standard output.
+// at most 3,145,728 bytes, to standard output. Where and why it was refused, and its open calls, go to standard error.
 ghost use mathlib.Core.Path.{_≡_};
 ghost use lib.ListN.{length};
 
 fn main() {
     let mut text = [0; 16385];
     let got = io::read_full(0, &mut text);
+    let given = &text[..got];
     let mut list = room();
-    let written = moir_run::texts::run_text(&text[..got], true, &mut list);
-    print(&list, written);
+    let out = moir_run::texts::run_text(given, true, &mut list);
+    print(&list, out.written);
+    moir_messages::explain(out.number, out.entries, out.report, out.all, given);
 }
 
 // Room for the trace of 60,000 entries.
@@ -21,6 +23,8 @@ fn room() -> [u8; 3145728]
 // The first bytes of the trace, as many as the run wrote.
 fn print(list: &[u8], written: usize) {
     if written <= list.len() {
-        io::write_all(1, &list[0..written]);
+        if !io::write_all(1, &list[0..written]) {
+            messages::not_written();
+        }
     }
 }

@@ -3,6 +3,7 @@ use Prim.Native.Nat.{ℕ}
 use mathlib.Core.Path.{_≡_, refl}
 use mathlib.Core.List.{[]}
 use Rattle.listing.specs.Quoted.{quoted}
+use Rattle.positions.specs.Brackets.{unclosedBelow, unclosedIn}
 use Rattle.positions.specs.Positions.{onByte, seenFrom, seenIn, lineAfter, columnAfter}
 
 record Places : Type 0 where
@@ -33,3 +34,13 @@ in-number = refl
 in-brackets : seenIn (quoted "2 1 5\n2( \n") .solid ≡ 40
 unfolding onByte seenFrom
 in-brackets = refl
+
+-- the `(` that the text ends in: the last one, not the one that a `)` closes, and none
+record Unclosed : Type 0 where
+  last : unclosedIn (quoted "2 1 5\n2(0l 3(1.") ≡ 12
+  closed : unclosedIn (quoted "2 1 5\n2(0l 3(1.) 0.") ≡ 7
+  none : unclosedIn (quoted "2 1 5\n2(0l)") ≡ 11
+
+unclosed : Unclosed
+unfolding unclosedBelow
+unclosed = record { last = refl; closed = refl; none = refl }

@@ -1,2 +1,3 @@
+pub mod BracketLaws
 pub mod Examples
 pub mod PositionLaws

@@ -1,1 +1,2 @@
+pub mod Brackets
 pub mod Positions

@@ -29,6 +29,7 @@ use Rattle.entry.specs.declared.state.Run.{Run}
 use Rattle.run.specs.declared.last_line.Finished.{Finished}
 use Rattle.run.specs.declared.text_run.First.{First}
 use Rattle.semantics.specs.TextRun.{Progress, Ended, ended, begun, carryAll, carriedOut, roomNeeded, longestText, runWith}
+use Rattle.positions.specs.declared.StopReport.{StopReport}
 use Rattle.semantics.specs.StopPlaces.{StopsAt}
 use Rattle.entry.specs.RunState.{RunState, stateOf, progress, Filled, Sound, Kept, Becomes}
 use Rattle.carrying.specs.Carried.{entriesIn}
@@ -43,20 +44,21 @@ pub sound-closable : {len : ℕ} {h : RunState} → Sound len h → Closable (h 
 sound-closable s = record { entries = s .entries; stop = s .stop; room = s .room }
 
 -- with its last line a run is ended
-pub closed-answers : {len stored place : ℕ} {all : Records} {list′ : List ℕ} {out : Finished} (r : Run) (ws list : List ℕ) → Filled len (r .all .list)
+pub closed-answers : {len stored : ℕ} {report : StopReport} {all : Records} {list′ : List ℕ} {out : Finished} (r : Run) (ws list : List ℕ) → Filled len (r .all .list)
     → ((j : ℕ) → stored ≤ j → getD (r .all .list) j noProcess ≡ getD (all .list) j noProcess)
-    → _≡_ {A = Finished × List ℕ} (out, list′) (closed r stored place list) → Answers len all out ws list′ (ended (progress len (stateOf r ws list)))
-closed-answers {len} {stored} {place} {all} {out = out} r ws list f o e = record {
+    → _≡_ {A = Finished × List ℕ} (out, list′) (closed r stored report list) → Answers len all out ws list′ (ended (progress len (stateOf r ws list)))
+closed-answers {len} {stored} {report} {all} {out = out} r ws list f o e = record {
   same = ap (λ (x : Finished × List ℕ). record { number = x .0 .number; entries = x .0 .entries; written = x .0 .written; memory = memoryOf (x .0 .bench) (x .0 .all) len ws; listing = x .1 }) e;
   filled = subst (λ (x : Finished). Filled len (x .all .list)) (sym same) f;
   others = subst (Others all) (sym same) o;
 }
   where
-    same : out ≡ closed r stored place list .0
+    same : out ≡ closed r stored report list .0
     same = ap (λ (x : Finished × List ℕ). x .0) e
 
-pub closed-place : {stored place : ℕ} {list′ : List ℕ} {out : Finished} (r : Run) (list : List ℕ) → _≡_ {A = Finished × List ℕ} (out, list′) (closed r stored place list) → out .place ≡ place
-closed-place r list e = ap (λ (x : Finished × List ℕ). x .0 .place) e
+pub closed-report : {stored : ℕ} {report : StopReport} {list′ : List ℕ} {out : Finished} (r : Run) (list : List ℕ)
+    → _≡_ {A = Finished × List ℕ} (out, list′) (closed r stored report list) → out .report ≡ report
+closed-report r list e = ap (λ (x : Finished × List ℕ). x .0 .report) e
 
 pub answers-as : {len : ℕ} {all : Records} {out : Finished} {ws list : List ℕ} {a b : Ended} → Answers len all out ws list a → a ≡ b → Answers len all out ws list b
 answers-as x e = record { same = x .same ∙ e; filled = x .filled; others = x .others }
@@ -183,9 +185,9 @@ answered {k} {out} {ws′} {list′} len b all ws g e q x =
       x .others,
     )
 
--- with the place at which the run stopped
+-- with where the run stopped
 pub ended-as : {t : Bool} {b : Bench} {all : Records} {len : ℕ} {ws text list : List ℕ} {r : Finished} {ws′ list′ : List ℕ} {e : Ended}
     → (endOf len r ws′ list′ ≡ e) × (r .all ≡ gathered (take len (r .all .list)) noProcess 16) × Others all r
-    → e ≡ runWith t (memoryOf b all len ws) text list → StopsAt t (memoryOf b all len ws) text list (r .place)
+    → e ≡ runWith t (memoryOf b all len ws) text list → StopsAt t (memoryOf b all len ws) text list (r .report)
     → TextRan t b all len ws text list r ws′ list′
 ended-as x e s = record { same = x .0 ∙ e; again = x .1; others = x .2; stops = s }

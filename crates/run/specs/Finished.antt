@@ -1,5 +1,5 @@
 -- The whole text run as the code holds it: what its parts are given and what they answer.
--- Inner: `RunLaws` and `StopLaws` prove that the parts make `TextRun`'s run and `StopPlaces`' place.
+-- Inner: `RunLaws` and `StopLaws` prove that the parts make `TextRun`'s run and `StopPlaces`' report.
 use mathlib.Core.Path.{_≡_}
 use mathlib.Core.Bool.{Bool, false, cond}
 use Prim.Native.Nat.{ℕ, _+_, _≤_}
@@ -14,8 +14,8 @@ use Rattle.model.specs.SetUp.{setUp}
 use Rattle.tables.specs.declared.records.Records.{Records}
 use Rattle.tables.specs.Gathered.{gathered}
 use Rattle.notation.specs.declared.Entry.{Entry}
-use Rattle.notation.specs.Grammar.{deepest}
-use Rattle.notation.specs.EntryWords.{largestPlace}
+use Rattle.notation.specs.Grammar.{Said, deepest}
+use Rattle.notation.specs.EntryWords.{largestPlace, entryIn, placeIn}
 use Rattle.notation.specs.Scan.{scan, between}
 use Rattle.notation.specs.FirstLine.{whole}
 use Rattle.notation.specs.Readers as R
@@ -23,24 +23,25 @@ use Rattle.listing.specs.Lines.{endLine, refusedLine}
 use Rattle.entry.specs.declared.state.Run.{Run}
 use Rattle.run.specs.declared.last_line.Finished.{Finished}
 use Rattle.run.specs.declared.text_run.First.{First}
-use Rattle.semantics.specs.TextRun.{Ended, ended, begun, started, carriedOut, mostEntries, roomNeeded, runWith}
-use Rattle.semantics.specs.StopPlaces.{startedPlace, StopsAt}
+use Rattle.positions.specs.declared.StopReport.{StopReport}
+use Rattle.semantics.specs.TextRun.{processOf, Ended, ended, begun, started, carriedOut, mostEntries, roomNeeded, runWith}
+use Rattle.semantics.specs.StopPlaces.{reportedProcess, startedReport, StopsAt}
 use Rattle.entry.specs.RunState.{Filled, lastRoom}
 
 abbrev pub freshRun : Bench → Records → ℕ → Bool → Run
 freshRun b all k t = record { bench = b; all = all; written = 0; entries = 0; stop = k; traced = t }
 
-abbrev pub finishedOf : Run → ℕ → ℕ → ℕ → Finished
-finishedOf r stored place written =
-    record { bench = r .bench; all = r .all; stored = stored; number = r .stop; entries = r .entries; written = written; place = place }
+abbrev pub finishedOf : Run → ℕ → StopReport → ℕ → Finished
+finishedOf r stored report written =
+    record { bench = r .bench; all = r .all; stored = stored; number = r .stop; entries = r .entries; written = written; report = report }
 
 -- the last line of a run
 abbrev pub lastOf : Run → List ℕ
 lastOf r = cond (eqb (r .stop) 0) (endLine (r .entries)) (refusedLine (r .stop) (r .entries))
 
 -- what a run comes to with its last line
-abbrev pub closed : Run → ℕ → ℕ → List ℕ → Finished × List ℕ
-closed r stored place list = (finishedOf r stored place (r .written + length (lastOf r)), sets list (r .written) (lastOf r))
+abbrev pub closed : Run → ℕ → StopReport → List ℕ → Finished × List ℕ
+closed r stored report list = (finishedOf r stored report (r .written + length (lastOf r)), sets list (r .written) (lastOf r))
 
 -- there is room for the last line
 pub record Closable (r : Run) (list : List ℕ) : Type 0 where
@@ -78,12 +79,12 @@ pub record Lending (len : ℕ) (all : Records) (list : List ℕ) : Type 0 where
 
 -- what a whole text run answers, in one of the two styles, where `all` holds the first sixteen of `len` lent records:
 -- the run of `semantics`, at any lent memory, with the filler in its place again, the records from `stored` on as they
--- were, and the place at which it stopped
+-- were, and where it stopped
 pub record TextRan (t : Bool) (b : Bench) (all : Records) (len : ℕ) (ws text list : List ℕ) (r : Finished) (ws′ list′ : List ℕ) : Type 0 where
   pub same : endOf len r ws′ list′ ≡ runWith t (memoryOf b all len ws) text list
   pub again : r .all ≡ gathered (take len (r .all .list)) noProcess 16
   pub others : Others all r
-  pub stops : StopsAt t (memoryOf b all len ws) text list (r .place)
+  pub stops : StopsAt t (memoryOf b all len ws) text list (r .report)
 
 -- the first line is read
 pub record Headed (s : List ℕ) (f : First) : Type 0 where
@@ -94,13 +95,21 @@ pub record Headed (s : List ℕ) (f : First) : Type 0 where
 abbrev pub refusedWith : ℕ → Memory → List ℕ → Ended
 refusedWith k m list = ended (begun false m list k)
 
+-- what is said of a text with these entries
+abbrev pub saidWith : First → List Entry → Said
+saidWith f es = record { n = f .n; w = f .w; initial = f .initial; entries = es }
+
 -- what is left once the items are read: the set-up and the entries
 abbrev pub startedWith : Bool → First → List Entry → Memory → List ℕ → Ended
-startedWith t f es m list = started t m list (record { n = f .n; w = f .w; initial = f .initial; entries = es }) (setUp m (f .n) (f .w) (replicate (f .w) (f .initial)))
+startedWith t f es m list = started t m list (saidWith f es) (setUp m (f .n) (f .w) (replicate (f .w) (f .initial)))
 
--- and the place of the item that stops it, where `ps` are the places of the entries
-abbrev pub placeWith : Bool → First → List Entry → List ℕ → Memory → List ℕ → ℕ
-placeWith t f es ps m list = startedPlace t list es ps (setUp m (f .n) (f .w) (replicate (f .w) (f .initial)))
+-- what a number of the list reports of the item that it keeps
+abbrev pub wordReport : ℕ → ℕ → ℕ → StopReport
+wordReport n w word = record { n = n; w = w; place = placeIn word; process = reportedProcess (processOf (entryIn word)) }
+
+-- where the run stops, where `ps` are the places of the entries
+abbrev pub reportWith : Bool → First → List Entry → List ℕ → Memory → List ℕ → StopReport
+reportWith t f es ps m list = startedReport t list (saidWith f es) ps (setUp m (f .n) (f .w) (replicate (f .w) (f .initial)))
 
 -- what is left of a text run once the first line is read
 abbrev pub saysAfter : Bool → List ℕ → First → Memory → List ℕ → Ended

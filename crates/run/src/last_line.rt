@@ -1,13 +1,14 @@
 // The end of a text run: its last line and what it returns.
 ghost use mathlib.Core.Path.{_≡_};
+ghost use Rattle.semantics.specs.StopPlaces.{atNoEntry};
 ghost use Rattle.run.specs.Finished.{freshRun, finishedOf, closed, Closable};
 use entry::state::Run;
 use model::Bench;
+use positions::StopReport;
 use tables::records::Records;
 
 // What a text run leaves of the bench and the records, how many of the records may differ from before, and what it
-// returns: its number, the entries done, the listing bytes written and the place in the text at which it stopped, 0
-// where it stopped at none.
+// returns: its number, the entries done, the listing bytes written, and where it stopped.
 pub struct Finished {
     pub bench: Bench,
     pub all: Records,
@@ -15,7 +16,19 @@ pub struct Finished {
     pub number: u8,
     pub entries: usize,
     pub written: usize,
-    pub place: usize,
+    pub report: StopReport,
+}
+
+// A stop at no entry.
+pub fn at_no_entry(n: u64, w: u64, place: usize) -> StopReport
+    ensures { λ r. ⌜ r ≡ atNoEntry n w place ⌝ }
+{
+    StopReport {
+        n,
+        w,
+        place,
+        process: 0,
+    }
 }
 
 // A run before its first entry, or one that a refusal keeps from it.
@@ -33,8 +46,8 @@ pub fn fresh(bench: Bench, all: Records, number: u8, traced: bool) -> Run
 }
 
 // What a run returns that has written so many bytes; the first `stored` records are to be stored.
-pub fn returned(run: Run, stored: usize, place: usize, written: usize) -> Finished
-    ensures { λ r. ⌜ r ≡ finishedOf run stored place written ⌝ }
+pub fn returned(run: Run, stored: usize, report: StopReport, written: usize) -> Finished
+    ensures { λ r. ⌜ r ≡ finishedOf run stored report written ⌝ }
 {
     let bench = run.bench;
     let all = run.all;
@@ -45,21 +58,21 @@ pub fn returned(run: Run, stored: usize, place: usize, written: usize) -> Finish
         number: run.stop,
         entries: run.entries,
         written,
-        place,
+        report,
     }
 }
 
 // "The last line is `end E` or `refused C E`".
-pub fn ended(run: Run, stored: usize, place: usize, list: &mut [u8]) -> Finished
+pub fn ended(run: Run, stored: usize, report: StopReport, list: &mut [u8]) -> Finished
     requires { ⌜ Closable run (now list) ⌝ }
-    ensures { λ r. ⌜ (r, now (list .exit)) ≡ closed run stored place (now (list .entry)) ⌝ }
+    ensures { λ r. ⌜ (r, now (list .exit)) ≡ closed run stored report (now (list .entry)) ⌝ }
 {
     let entries = run.entries as u64;
     let stop = run.stop as u64;
     if stop == 0 {
         let next = listing::end_line(list, run.written, entries);
-        return returned(run, stored, place, next);
+        return returned(run, stored, report, next);
     }
     let next = listing::refused_line(list, run.written, stop, entries);
-    returned(run, stored, place, next)
+    returned(run, stored, report, next)
 }

@@ -8,10 +8,9 @@ ghost use lib.ListN.{length, getD, take};
 ghost use Rattle.model.specs.Records.{noProcess};
 ghost use Rattle.tables.specs.Gathered.{gathered};
 ghost use Rattle.notation.specs.Grammar.{largest};
-ghost use Rattle.notation.specs.EntryWords.{placeIn};
-ghost use Rattle.semantics.specs.StopPlaces.{PlaceInText};
+ghost use Rattle.semantics.specs.StopPlaces.{reportedProcess, atNoEntry, atNoItem, StopInText};
 ghost use Rattle.carrying.specs.Carried.{entriesIn, placesIn};
-ghost use Rattle.run.specs.Finished.{memoryOf, atMostSixteen, Answers, Lending, Headed, TextRan, startedWith, placeWith, saysAfter, refusedWith};
+ghost use Rattle.run.specs.Finished.{memoryOf, atMostSixteen, Answers, Lending, Headed, TextRan, startedWith, wordReport, reportWith, saysAfter, refusedWith};
 use crate::last_line;
 use crate::last_line::Finished;
 use crate::set_up;
@@ -23,6 +22,7 @@ use notation::Header;
 use notation::entry_words;
 use notation::items;
 use notation::items::Items;
+use positions::StopReport;
 use tables::records::Records;
 
 // The first line's numbers, and where the items begin.
@@ -33,12 +33,14 @@ pub struct First {
     pub items: usize,
 }
 
-// A run that is refused before its set-up, in either style, at a place of its text or at 0.
+// A run that is refused before its set-up, in either style, at no entry.
 fn refused(
     bench: Bench,
     all: Records,
     len: usize,
     number: u8,
+    n: u64,
+    w: u64,
     place: usize,
     words: &mut [u64],
     list: &mut [u8],
@@ -46,21 +48,47 @@ fn refused(
     requires { ⌜ (Lending len all (now list)) × (number ≤ 15) ⌝ }
     ensures { λ r. ⌜
         Answers len all r (now (words .exit)) (now (list .exit)) (refusedWith number (memoryOf bench all len (now (words .entry))) (now (list .entry))) ×
-        (r .place ≡ place) ⌝ }
+        (r .report ≡ atNoEntry n w place) ⌝ }
 {
     let run = last_line::fresh(bench, all, number, false);
-    last_line::ended(run, 0, place, list)
+    let report = last_line::at_no_entry(n, w, place);
+    last_line::ended(run, 0, report, list)
 }
 
-// The place of the item that stopped a run at a place of its list; 0 where none did.
-fn stop_place(stop: u8, entries: &[u64], at: usize) -> usize
+// N is at most 16, so that all above 15 are reported alike.
+fn reported_process(p: u64) -> u64
+    ensures { λ r. ⌜ r ≡ reportedProcess p ⌝ }
+{
+    if p <= 15 {
+        return p;
+    }
+    16
+}
+
+// The item that a number of the list keeps: its place, and the process of its entry.
+fn word_report(n: u64, w: u64, word: u64) -> StopReport
+    ensures { λ r. ⌜ r ≡ wordReport n w word ⌝ }
+{
+    let e = entry_words::entry_in(word);
+    let place = entry_words::item_place(word);
+    let process = reported_process(entries::process_of(e));
+    StopReport {
+        n,
+        w,
+        place,
+        process,
+    }
+}
+
+// The item that stopped a run at a place of its list; none where none did.
+fn stop_report(n: u64, w: u64, stop: u8, entries: &[u64], at: usize) -> StopReport
     requires { ⌜ ((stop ≡ 0 → ⊥) → at < length (now entries)) ⌝ }
-    ensures { λ r. ⌜ r ≡ cond (eqb stop 0) 0 (placeIn (getD (now (entries .entry)) at 0)) ⌝ }
+    ensures { λ r. ⌜ r ≡ cond (eqb stop 0) (atNoItem n w) (wordReport n w (getD (now (entries .entry)) at 0)) ⌝ }
 {
     if stop == 0 {
-        return 0;
+        return last_line::at_no_entry(n, w, 0);
     }
-    entry_words::item_place(entries[at])
+    word_report(n, w, entries[at])
 }
 
 // "then 1, 2, 3, then the set-up, then the entries": those of the list, up to `count`. The value is looked at only
@@ -80,14 +108,14 @@ fn started(
     ensures { λ r. ⌜
         Answers len all r (now (words .exit)) (now (list .exit))
         (startedWith traced first (entriesIn count (now (entries .entry))) (memoryOf bench all len (now (words .entry))) (now (list .entry))) ×
-        (r .place ≡ placeWith traced first (entriesIn count (now (entries .entry))) (placesIn count (now (entries .entry)))
+        (r .report ≡ reportWith traced first (entriesIn count (now (entries .entry))) (placesIn count (now (entries .entry)))
         (memoryOf bench all len (now (words .entry))) (now (list .entry))) ⌝ }
 {
     let n = first.n as usize;
     let w = first.w as usize;
     let number = setup::set_up_number(n, w, len, words.len(), w);
     if number != 0 {
-        return refused(bench, all, len, number, 0, words, list);
+        return refused(bench, all, len, number, first.n, first.w, 0, words, list);
     }
     let value = entries::repeated(first.initial);
     setup::words_at_set_up(words, n, w, &value[..w]);
@@ -96,8 +124,8 @@ fn started(
     let run = last_line::fresh(begun, records, 0, traced);
     let carried = carrying::carry_out(run, len, entries, count, words, list);
     let done = carried.run;
-    let place = stop_place(done.stop, entries, carried.at);
-    last_line::ended(done, n, place, list)
+    let report = stop_report(first.n, first.w, done.stop, entries, carried.at);
+    last_line::ended(done, n, report, list)
 }
 
 // Room for the list of a text's entries: 60,000, and the one that is 12 whatever it says.
@@ -122,15 +150,25 @@ fn checked(
     ensures { λ r. ⌜
         Answers len all r (now (words .exit)) (now (list .exit))
         (saysAfter traced (now (text .entry)) first (memoryOf bench all len (now (words .entry))) (now (list .entry))) ×
-        PlaceInText traced (memoryOf bench all len (now (words .entry))) (now (text .entry)) (now (list .entry)) (r .place) ⌝ }
+        StopInText traced (memoryOf bench all len (now (words .entry))) (now (text .entry)) (now (list .entry)) (r .report) ⌝ }
 {
     let mut kept = empty_list();
     let read = items::read_items(text, first.items, limits::DEEPEST, &mut kept, 0);
     match read {
-        Items::Broken(k, place) => refused(bench, all, len, k, place, words, list),
+        Items::Broken(k, place) => refused(bench, all, len, k, 0, 0, place, words, list),
         Items::Closed(next, _) => {
             let place = next - 1;
-            refused(bench, all, len, items::TEXT_BROKEN, place, words, list)
+            refused(
+                bench,
+                all,
+                len,
+                items::TEXT_BROKEN,
+                0,
+                0,
+                place,
+                words,
+                list,
+            )
         }
         Items::Ended(count) => started(bench, all, len, traced, first, &kept, count, words, list),
     }
@@ -164,14 +202,26 @@ fn run_in_style(
     let lent = records_seen(len);
     if list.len() < state::room_needed(traced) {
         let run = last_line::fresh(bench, all, limits::NO_ROOM, traced);
-        return last_line::returned(run, 0, 0, 0);
+        return last_line::returned(run, 0, last_line::at_no_entry(0, 0, 0), 0);
     }
     if limits::LONGEST_TEXT < text.len() {
-        return refused(bench, all, lent, limits::TOO_MUCH, 0, words, list);
+        return refused(bench, all, lent, limits::TOO_MUCH, 0, 0, 0, words, list);
     }
     let header = notation::first_line(text);
     match header {
-        Header::NoFirst(place) => refused(bench, all, lent, items::TEXT_BROKEN, place, words, list),
+        Header::NoFirst(place) => {
+            refused(
+                bench,
+                all,
+                lent,
+                items::TEXT_BROKEN,
+                0,
+                0,
+                place,
+                words,
+                list,
+            )
+        }
         Header::First(n, w, initial, items) => {
             let first = First {
                 n,
@@ -184,8 +234,8 @@ fn run_in_style(
     }
 }
 
-// The text run: the number of its refusal, 0 at `end`, the entries done, the listing bytes written, the place in the
-// text at which it stopped, and all memory after it.
+// The text run: the number of its refusal, 0 at `end`, the entries done, the listing bytes written, where it stopped, and
+// all memory after it.
 // `all` holds the first sixteen of `len` lent records, with a filler where there are fewer.
 pub fn run_by_value(
     bench: Bench,

@@ -10,9 +10,7 @@ fn main() {
     let all = tables::records::records_of(tables::records::no_process());
     let out = run::text_run::run_by_value(bench, all, 16, &mut words, given, &mut list);
     print(&list, out.written);
-    let left = out.bench;
-    let records = out.all;
-    messages::explain(out.number, out.entries, out.place, left.n, records, given);
+    messages::figure2::explain(out.number, out.entries, out.report, out.all, given);
 }
 
 // The first bytes of the listing, as many as the run wrote.

@@ -20,9 +20,7 @@ fn main() {
             messages::not_written();
         }
     }
-    let left = out.bench;
-    let records = out.all;
-    messages::explain(out.number, out.entries, out.place, left.n, records, given);
+    messages::figure2::explain(out.number, out.entries, out.report, out.all, given);
 }
 
 // Room for the trace of 60,000 entries.

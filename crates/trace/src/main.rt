@@ -13,9 +13,7 @@ fn main() {
     let all = tables::records::records_of(tables::records::no_process());
     let out = run::text_run::trace_by_value(bench, all, 16, &mut words, given, &mut list);
     print(&list, out.written);
-    let left = out.bench;
-    let records = out.all;
-    messages::explain(out.number, out.entries, out.place, left.n, records, given);
+    messages::figure2::explain(out.number, out.entries, out.report, out.all, given);
 }
 
 // Room for the trace of 60,000 entries.

@@ -2,6 +2,7 @@
 -- Assumes nothing.
 use mathlib.Core.Path.{_≡_}
 use Prim.Native.Nat.{_+_, _≤_}
+use native.Mathlib.Omega.{arith}
 use lib.ListN.{length}
 use borrow.Author.Needs.{needs}
 use Rattle.moir_run.proofs.carrying.carry_out.Statement.{statement}
@@ -71,13 +72,20 @@ loop-less : tie.Need-loop-less Inv-loop μ-loop
 loop-less c = search needs
 
 loop-again : tie.Need-loop-again Inv-loop μ-loop
-loop-again c = search needs
+loop-again c =
+    let c8 = c .before .before .before .before .before .before .before .before in let c16 = c8 .before .before .before .before .before .before .before .before in
+    let inv = c16 .loop .inv in let after = c8 .turned in
+    let c15 = c8 .before .before .before .before .before .before .before in
+    (omega (arith, inv .0, c15 .loop-test .taken), search needs)
 
 loop-less-2 : tie.Need-loop-less-2 Inv-loop μ-loop
 loop-less-2 c = search needs
 
 loop-again-2 : tie.Need-loop-again-2 Inv-loop μ-loop
-loop-again-2 c = search needs
+loop-again-2 c =
+    let c8 = c .before .before .before .before .before .before .before .before in let c16 = c8 .before .before .before .before .before .before .before .before in
+    let inv = c16 .loop .inv in let after = c8 .turned in
+    search needs
 
 same-length-7 : tie.Need-same-length-7 Inv-loop μ-loop
 same-length-7 c = search needs

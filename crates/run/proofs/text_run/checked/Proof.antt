@@ -8,7 +8,7 @@ use Rattle.notation.proofs.ListedLaws.{kept-within}
 use Rattle.run.specs.Finished.{memoryOf}
 use Rattle.run.proofs.FaultLaws.{broken-small}
 use Rattle.run.proofs.RunLaws.{answers-as, broken-says, closed-says, kept-says}
-use Rattle.run.proofs.StopLaws.{place-is, broken-stops, closed-stops, kept-stops}
+use Rattle.run.proofs.StopLaws.{report-is, broken-stops, closed-stops, kept-stops}
 use borrow.Author.Needs.{needs}
 use Rattle.run.proofs.text_run.checked.Statement.{statement}
 use Rattle.run.proofs.text_run.checked.Tie as tie
@@ -74,7 +74,7 @@ returns c =
     let m = memoryOf (a .bench) (a .all) (a .len) (now (a .words)) in
     let read = subst (ItemsSay _ _ _ _ _ _) (c8 .read .given .1) (c11 .read-items .ensures) .are in
     let x = c4 .refused .ensures in
-    (answers-as (x .0) (broken-says (a .traced) (now (a .text)) (a .first) m (now (a .list)) (read .is)), place-is (x .1) (broken-stops (c17 .pre .1 .line) (read .is)))
+    (answers-as (x .0) (broken-says (a .traced) (now (a .text)) (a .first) m (now (a .list)) (read .is)), report-is (x .1) (broken-stops (c17 .pre .1 .line) (read .is)))
 
 same-length-3 : tie.Need-same-length-3
 same-length-3 c = search needs
@@ -90,7 +90,7 @@ returns-2 c =
     let m = memoryOf (a .bench) (a .all) (a .len) (now (a .words)) in
     let read = subst (ItemsSay _ _ _ _ _ _) (c8 .read2 .given .1) (c11 .read-items .ensures) .are in
     let x = c4 .refused2 .ensures in
-    (answers-as (x .0) (closed-says (a .traced) (now (a .text)) (a .first) m (now (a .list)) (read .read)), place-is (x .1) (closed-stops (c17 .pre .1 .line) (read .read)))
+    (answers-as (x .0) (closed-says (a .traced) (now (a .text)) (a .first) m (now (a .list)) (read .read)), report-is (x .1) (closed-stops (c17 .pre .1 .line) (read .read)))
 
 same-length-5 : tie.Need-same-length-5
 same-length-5 c = search needs

@@ -10,7 +10,7 @@ use Rattle.run.specs.declared.text_run.First.{First}
 use Rattle.semantics.specs.TextRun.{roomNeeded}
 use Rattle.run.specs.Finished.{memoryOf, refusedWith, saysAfter}
 use Rattle.run.proofs.RunLaws.{lending-sixteen, run-14, run-12, run-not-headed, run-headed, answered, ended-as}
-use Rattle.run.proofs.StopLaws.{place-is, line-place, place-sixteen, stops-14, stops-12, stops-looked}
+use Rattle.run.proofs.StopLaws.{report-is, line-stops, report-sixteen, stops-14, stops-12, stops-looked}
 use Rattle.run.proofs.text_run.run_in_style.Statement.{statement}
 use Rattle.run.proofs.text_run.run_in_style.Tie as tie
 
@@ -23,17 +23,20 @@ room-needed-requires c κs = search needs
 fresh-requires : tie.Need-fresh-requires
 fresh-requires c κs = search needs
 
+at-no-entry-requires : tie.Need-at-no-entry-requires
+at-no-entry-requires c κs = search needs
+
 returned-requires : tie.Need-returned-requires
 returned-requires c κs = search needs
 
 returns : tie.Need-returns
 returns c =
-    let c3 = c .before .before .before in let c8 = c3 .before .before .before .before .before in
-    let a = c8 .args in
+    let c4 = c .before .before .before .before in let c9 = c4 .before .before .before .before .before in
+    let a = c9 .args in
     let m = memoryOf (a .bench) (a .all) (a .len) (now (a .words)) in
-    let short : length (now (a .list)) < roomNeeded (a .traced) = omega (arith, c .before .before .if1 .taken, c3 .room-needed .ensures) in
-    rw (c .returned .ensures, c .before .fresh .ensures)
-    (record { same = run-14 (a .traced) m (now (a .text)) (now (a .list)) short; again = c8 .pre; others = λ j l. refl; stops = stops-14 short })
+    let short : length (now (a .list)) < roomNeeded (a .traced) = omega (arith, c .before .before .before .if1 .taken, c4 .room-needed .ensures) in
+    rw (c .returned .ensures, c .before .at-no-entry .ensures, c .before .before .fresh .ensures)
+    (record { same = run-14 (a .traced) m (now (a .text)) (now (a .list)) short; again = c9 .pre; others = λ j l. refl; stops = stops-14 short })
 
 refused-requires : tie.Need-refused-requires
 refused-requires c κs =
@@ -100,8 +103,8 @@ returns-3 c =
     let all = answered (a .len) (a .bench) (a .all) (now (a .words)) (λ m. refusedWith 10 m (now (a .list))) (c14 .records-seen .ensures) (c18 .pre) (c4 .refused2 .ensures .0) in
     let first = subst (HeaderSays _) (c8 .header .given .1) (c10 .first-line .ensures) in
     let room : roomNeeded (a .traced) ≤ length (now (a .list)) = omega (arith, c12 .if1 .left, c13 .room-needed .ensures) in
-    let place = place-is (c4 .refused2 .ensures .1) (line-place first) in
-    ended-as all (run-not-headed (a .traced) m (now (a .text)) (now (a .list)) room (c11 .if2 .left) first) (stops-looked room (c11 .if2 .left) place)
+    let report = report-is (c4 .refused2 .ensures .1) (line-stops first) in
+    ended-as all (run-not-headed (a .traced) m (now (a .text)) (now (a .list)) room (c11 .if2 .left) first) (stops-looked room (c11 .if2 .left) report)
 
 same-length-5 : tie.Need-same-length-5
 same-length-5 c = search needs
@@ -123,8 +126,8 @@ returns-4 c =
     (c4 .checked .ensures .0) in
     let first = subst (HeaderSays _) (c8 .header2 .given .1) (c10 .first-line .ensures) in
     let room : roomNeeded (a .traced) ≤ length (now (a .list)) = omega (arith, c12 .if1 .left, c13 .room-needed .ensures) in
-    let place = place-sixteen (a .len) (a .bench) (a .all) (now (a .words)) (c14 .records-seen .ensures) (c18 .pre) (c4 .checked .ensures .1) in
-    ended-as all (run-headed (a .traced) m (now (a .text)) (now (a .list)) room f (c11 .if2 .left) first) (stops-looked room (c11 .if2 .left) place)
+    let report = report-sixteen (a .len) (a .bench) (a .all) (now (a .words)) (c14 .records-seen .ensures) (c18 .pre) (c4 .checked .ensures .1) in
+    ended-as all (run-headed (a .traced) m (now (a .text)) (now (a .list)) room f (c11 .if2 .left) first) (stops-looked room (c11 .if2 .left) report)
 
 pub run-in-style-spec : {M : Type 1} → statement M
 run-in-style-spec =
@@ -133,6 +136,7 @@ run-in-style-spec =
     records-seen-requires
     room-needed-requires
     fresh-requires
+    at-no-entry-requires
     returned-requires
     returns
     refused-requires

@@ -11,8 +11,8 @@ use Rattle.entry.specs.RunState.{Sound}
 use Rattle.carrying.specs.Carried.{entriesIn, placesIn}
 use Rattle.entry.proofs.WordLaws.{prefix-length}
 use Rattle.run.proofs.StartLaws.{number-small, accepted, begun-sound, first-state, others-left}
-use Rattle.run.proofs.RunLaws.{sound-closable, closed-answers, closed-place, answers-as, refused-start, carried-start}
-use Rattle.run.proofs.StopLaws.{stop-within, item-read, refused-place, begun-place}
+use Rattle.run.proofs.RunLaws.{sound-closable, closed-answers, closed-report, answers-as, refused-start, carried-start}
+use Rattle.run.proofs.StopLaws.{stop-within, item-read, refused-report, begun-report}
 use borrow.Author.Needs.{needs}
 use Rattle.run.proofs.text_run.started.Statement.{statement}
 use Rattle.run.proofs.text_run.started.Tie as tie
@@ -42,7 +42,7 @@ returns c =
     let ps = placesIn (a .count) (now (a .entries)) in
     let x = c4 .refused .ensures in (
       answers-as (x .0) (refused-start (a .traced) (a .first) es (a .bench) (now (a .words)) (c12 .pre .0) (c8 .set-up-number .ensures) (c7 .if1 .taken)),
-      x .1 ∙ refused-place (a .traced) (a .first) es ps (a .bench) (now (a .words)) (c12 .pre .0) (c8 .set-up-number .ensures) (c7 .if1 .taken),
+      x .1 ∙ refused-report (a .traced) (a .first) es ps (a .bench) (now (a .words)) (c12 .pre .0) (c8 .set-up-number .ensures) (c7 .if1 .taken),
     )
 
 repeated-requires : tie.Need-repeated-requires
@@ -103,8 +103,8 @@ carry-out-requires c κs =
     (record { bank = simp length-map at (c16 .good .0 .1 .1 .1 .1 .1 .0 .1 .0 .1); help = simp length-map at (c16 .good .0 .1 .1 .1 .1 .1 .1 .0 .1 .0 .1) }) in
     (c16 .pre .2, subst (Sound _) (sym begins) sound, ap (λ (r : Run). r .stop) (c .before .before .fresh .ensures))
 
-stop-place-requires : tie.Need-stop-place-requires
-stop-place-requires c κs =
+stop-report-requires : tie.Need-stop-report-requires
+stop-report-requires c κs =
     let c5 = c .before .before .before .before .before in let c8 = c5 .before .before .before in
     let c22 = c8 .before .before .before .before .before .before .before .before .before .before .before .before .before .before in
     stop-within (now (c22 .args .entries)) (c22 .pre .2) (ap (λ (r : Run). r .stop) (c8 .fresh .ensures)) (c5 .carry-out .ensures)
@@ -137,10 +137,10 @@ returns-2 c =
     let out = c10 .carry-out .ensures in
     let made = carried-start (a .traced) (a .first) es (a .bench) (now (a .words)) (c27 .pre .0) (c23 .set-up-number .ensures) (c27 .pre .1) (c22 .if1 .left) begins (out .becomes) in
     let others = others-left (a .traced) (a .bench) (now (a .words)) (c27 .pre .0) (a .first .n) (a .first .w) (a .first .initial) (c27 .pre .1) e begins out in
-    let item = item-read (now (a .entries)) (c27 .pre .2) (ap (λ (r : Run). r .stop) (c13 .fresh .ensures)) out in
-    let begun = begun-place (a .traced) (a .first) es ps (a .bench) (now (a .words)) (c27 .pre .0) (c23 .set-up-number .ensures) (c27 .pre .1) (c22 .if1 .left) begins in (
+    let item = item-read (now (a .entries)) (c27 .pre .2) (ap (λ (r : Run). r .stop) (c13 .fresh .ensures)) out (a .first .n) (a .first .w) in
+    let begun = begun-report (a .traced) (a .first) es ps (a .bench) (now (a .words)) (c27 .pre .0) (c23 .set-up-number .ensures) (c27 .pre .1) (c22 .if1 .left) begins in (
       answers-as (closed-answers (c10 .carry-out .result .run) _ _ (c10 .carry-out .ensures .becomes .kept .sound .filled) others (c .before .before .ended .ensures)) (made .same),
-      closed-place (c10 .carry-out .result .run) _ (c .before .before .ended .ensures) ∙ c4 .stop-place .ensures ∙ item ∙ begun,
+      closed-report (c10 .carry-out .result .run) _ (c .before .before .ended .ensures) ∙ c4 .stop-report .ensures ∙ item ∙ begun,
     )
 
 pub started-spec : {M : Type 1} → statement M
@@ -160,7 +160,7 @@ started-spec =
     records-at-set-up-requires
     fresh-requires
     carry-out-requires
-    stop-place-requires
+    stop-report-requires
     ended-requires
     same-length-3
     same-length-4
