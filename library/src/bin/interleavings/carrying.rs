@@ -31,6 +31,8 @@ pub struct Carrying<'a> {
     answered: Vec<bool>,
     /// For each call the own steps that it took when it was last answered.
     steps: [Vec<usize>; 2],
+    /// The calls that the last schedule took from each list.
+    taken: [usize; 2],
 }
 
 /// The items of the turns, the place of the turn of each, whether each turn is
@@ -57,6 +59,7 @@ impl<'a> Carrying<'a> {
             turns,
             answered: Vec::new(),
             steps,
+            taken: [0; 2],
         }
     }
 
@@ -116,6 +119,11 @@ impl<'a> Carrying<'a> {
         self.bench.judged(&run.told.log)
     }
 
+    /// How many calls the schedule that was carried out took from each list.
+    pub fn taken(&self) -> [usize; 2] {
+        self.taken
+    }
+
     /// The schedule that was carried out.
     pub fn made(&self) -> Schedule {
         Schedule {
@@ -142,6 +150,10 @@ impl<'a> Carrying<'a> {
             }
             self.answered = shown;
             self.remember();
+            self.taken = match to_the_end {
+                true => [0, 1].map(|p: usize| self.case.lists[p].len()),
+                false => made.state.taken(),
+            };
             match (wrong, run.number) {
                 (None, 0) => return Ok(run),
                 (None, number) => return Err(not_carried_out(number, &text)),

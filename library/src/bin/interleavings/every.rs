@@ -33,6 +33,7 @@ pub fn of_turns(plan: &Plan, case: &Case, [a, b]: [usize; 2]) -> Result<Survey, 
             let found = schedule_for(a, b, number).map_err(not_numbered)?;
             let run = carrying.schedule(found.turns())?;
             survey.note(run.listing(), carrying.judged(&run), || carrying.made())?;
+            survey.note_taken(carrying.taken());
             counter.add_one();
         }
         Ok(survey)
@@ -53,6 +54,7 @@ pub fn to_the_end(plan: &Plan, case: &Case) -> Result<Survey, Ended> {
         while !counter.is_stopped() {
             let run = carrying.to_the_end()?;
             survey.note(run.listing(), carrying.judged(&run), || carrying.made())?;
+            survey.note_taken(carrying.taken());
             counter.add_one();
             if !carrying.advance(turns) {
                 break;

@@ -10,17 +10,19 @@ mod plan;
 mod progress;
 mod report;
 mod shared_out;
+mod signals;
 mod state;
 mod survey;
 mod text;
 mod trace;
 
-use std::io::{stdin, stdout, Read, Write};
+use std::io::{stdin, stdout, ErrorKind, Read, Write};
 use std::process::ExitCode;
 
 use bench::Bench;
 use case::Case;
 use plan::Plan;
+use progress::say;
 use report::report;
 
 /// A plan is no longer.
@@ -48,13 +50,24 @@ fn main() -> ExitCode {
     };
     let written = stdout().write_all(printed.as_bytes());
     match written.and_then(|()| stdout().flush()) {
-        Ok(()) => ExitCode::from(status),
-        Err(error) => trouble(&format!("standard output can't be written: {error}")),
+        Ok(()) => {}
+        // nobody reads on: as a program that the signal PIPE ends
+        Err(error) if error.kind() == ErrorKind::BrokenPipe => return ExitCode::from(141),
+        Err(error) => return trouble(&format!("standard output can't be written: {error}")),
     }
+    if signals::came() {
+        signals::follow();
+    }
+    ExitCode::from(status)
 }
 
+/// The one argument is the name of the plan's file, for the message.
 fn trouble(told: &str) -> ExitCode {
-    eprintln!("interleavings: {told}");
+    let file = std::env::args_os().nth(1);
+    let named = file.map_or(String::new(), |file| {
+        format!("{}: ", file.to_string_lossy())
+    });
+    say(&format!("interleavings: {named}{told}\n"));
     ExitCode::from(2)
 }
 

@@ -38,6 +38,7 @@ impl Plan {
     /// `N W K`, a line of calls for process 0, one for process 1, and then
     /// `A B` or nothing. What is wrong is told with its line.
     pub fn read(text: &str) -> Result<Plan, String> {
+        no_other_gaps(text)?;
         let lines: Vec<&str> = text.lines().collect();
         let (first, second, turns) = match lines[..] {
             [_, first, second] => (first, second, ""),
@@ -59,6 +60,24 @@ impl Plan {
     pub fn first_line(&self) -> String {
         format!("{} {} {}\n", self.n, self.w, self.initial)
     }
+}
+
+/// Only spaces part what stands on a line, and only a line feed ends one.
+fn no_other_gaps(text: &str) -> Result<(), String> {
+    for (line, bytes) in text.split('\n').enumerate() {
+        if let Some(column) = bytes.bytes().position(|byte| byte.is_ascii_control()) {
+            let here = match bytes.as_bytes()[column] {
+                b'\r' => "a carriage return".to_string(),
+                b'\t' => "a tab".to_string(),
+                byte => format!("byte {byte}"),
+            };
+            let (line, column) = (line + 1, column + 1);
+            return Err(format!(
+                "line {line}, column {column}: only spaces and line feeds part a plan; here is {here}"
+            ));
+        }
+    }
+    Ok(())
 }
 
 fn read_turns(line: &str) -> Result<Option<[usize; 2]>, String> {
@@ -139,6 +158,9 @@ mod tests {
             ("2 1 5\nl\nl\n12\n", "line 4: A B"),
             ("2 1 5\nl\nl\n1 2 3\n", "line 4: A B"),
             ("2 1 5\nl\nl\n1 2\n3\n", "line 5"),
+            ("2 1 5\r\nl\r\nl\r\n", "line 1, column 6: only spaces"),
+            ("2 1 5\nl\tv\nl\n", "line 2, column 2: only spaces"),
+            ("2 1 5\nl\nl\x0cv\n", "line 3, column 2: only spaces"),
         ];
         for (text, told) in wrong {
             let error = Plan::read(text).unwrap_err();

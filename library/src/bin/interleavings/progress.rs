@@ -9,6 +9,11 @@ const FIRST: Duration = Duration::from_millis(500);
 /// Nor where no more seconds are left then.
 const SHORT: f64 = 2.0;
 
+/// Words on standard error. Those that do not get out harm nothing.
+pub fn say(words: &str) {
+    let _ = stderr().write_all(words.as_bytes());
+}
+
 pub struct Progress {
     /// How many schedules there are, or about how many, and how it is said.
     expected: f64,
@@ -54,14 +59,19 @@ impl Progress {
         let left = shown_time(seconds);
         let shown = &self.shown;
         if !self.said {
-            eprintln!("interleavings: {shown}, about {left} at {rate:.0} a second; Ctrl-C ends it");
+            let rate = format!("{rate:.0} a second");
+            say(&format!(
+                "interleavings: {shown}, about {left} at {rate}; Ctrl-C ends it with a report so far\n"
+            ));
             self.said = true;
         } else if self.terminal {
-            eprint!("\rinterleavings: {done} of {shown} done, about {left} left   ");
-            // a message that does not get out harms nothing
-            let _ = stderr().flush();
+            say(&format!(
+                "\rinterleavings: {done} of {shown} done, about {left} left   "
+            ));
         } else {
-            eprintln!("interleavings: {done} of {shown} done, about {left} left");
+            say(&format!(
+                "interleavings: {done} of {shown} done, about {left} left\n"
+            ));
         }
         self.next = now + Duration::from_secs(if self.terminal { 1 } else { 10 });
     }
@@ -69,8 +79,13 @@ impl Progress {
     /// Whatever else is said begins on a line of its own.
     pub fn done(&self) {
         if self.said && self.terminal {
-            eprintln!();
+            say("\n");
         }
+    }
+
+    /// How many there are, in words.
+    pub fn of(&self) -> String {
+        self.shown.clone()
     }
 }
 

@@ -4,23 +4,33 @@ use crate::case::Case;
 use crate::survey::{Listing, Survey};
 
 pub fn report(case: &Case, survey: &Survey) -> String {
-    let mut told = format!(
-        "schedules {}\nlistings {}\njudge yes\n",
-        survey.schedules,
-        survey.listings.len()
-    );
-    told += &refused_calls(case);
+    let (schedules, listings) = (survey.schedules, survey.listings.len());
+    let mut told = match &survey.stopped_of {
+        None => format!("schedules {schedules}\nlistings {listings}\njudge yes\n"),
+        Some(all) => format!(
+            "incomplete: ended by a signal after {schedules} of {all}\n\
+             listings so far {listings}\njudge yes so far\n"
+        ),
+    };
+    told += &refused_calls(case, survey.taken);
     for (place, listing) in survey.listings.iter().enumerate() {
-        told += &block(place + 1, listing);
+        told += &match survey.stopped_of {
+            None => block(
+                place + 1,
+                listing,
+                &format!(", first number {}, ", listing.first),
+            ),
+            Some(_) => block(place + 1, listing, " so far, one of them has "),
+        };
     }
     told
 }
 
-/// A line for each call that the bench refuses.
-fn refused_calls(case: &Case) -> String {
+/// A line for each call that the bench refuses, where some schedule took it.
+fn refused_calls(case: &Case, taken: [usize; 2]) -> String {
     let mut told = String::new();
     for (p, list) in case.lists.iter().enumerate() {
-        for (place, listed) in list.iter().enumerate() {
+        for (place, listed) in list.iter().take(taken[p]).enumerate() {
             if listed.refusal != 0 {
                 let (number, call) = (listed.refusal, listed.call);
                 told += &format!(
@@ -33,8 +43,9 @@ fn refused_calls(case: &Case) -> String {
     told
 }
 
-/// How many schedules give a listing, the first of them and the listing.
-fn block(place: usize, listing: &Listing) -> String {
+/// How many schedules give a listing, one of them and the listing; `which` says
+/// which one it is.
+fn block(place: usize, listing: &Listing, which: &str) -> String {
     let schedules = match listing.times {
         1 => "1 schedule".to_string(),
         times => format!("{times} schedules"),
@@ -43,8 +54,8 @@ fn block(place: usize, listing: &Listing) -> String {
         true => "no turns".to_string(),
         false => format!("turns {}", digits(&listing.turns)),
     };
-    let (first, text, lines) = (listing.first, &listing.text, &listing.lines);
-    format!("\nlisting {place}: {schedules}, first number {first}, {turns}\n{text}prints\n{lines}")
+    let (text, lines) = (&listing.text, &listing.lines);
+    format!("\nlisting {place}: {schedules}{which}{turns}\n{text}prints\n{lines}")
 }
 
 fn digits(turns: &[u8]) -> String {

@@ -7,13 +7,13 @@ use std::thread;
 use std::time::Duration;
 
 use crate::progress::Progress;
+use crate::signals;
 use crate::survey::Survey;
 use crate::Ended;
 
 const TICK: Duration = Duration::from_millis(100);
 
-/// How many schedules are done in all threads, and whether the others should
-/// stop.
+/// How many schedules are done in all threads, and whether they should stop.
 #[derive(Default)]
 pub struct Counter {
     done: AtomicU64,
@@ -60,14 +60,19 @@ pub fn shared_out(
     })
 }
 
-/// Waits for every task, or for one that failed.
+/// Waits for every task, or for one that failed. After a signal each ends with
+/// what it has.
 fn collected(
     receiver: Receiver<(u64, Surveyed)>,
     mut progress: Progress,
     counter: &Counter,
 ) -> Surveyed {
     let mut surveys = BTreeMap::new();
+    signals::watch();
     loop {
+        if signals::came() {
+            counter.stopped.store(true, Ordering::Relaxed);
+        }
         match receiver.recv_timeout(TICK) {
             Ok((task, survey)) => drop(surveys.insert(task, survey?)),
             Err(RecvTimeoutError::Timeout) => progress.tell(counter.done.load(Ordering::Relaxed)),
@@ -79,5 +84,6 @@ fn collected(
     for survey in surveys.into_values() {
         all.append(survey);
     }
+    all.stopped_of = counter.is_stopped().then(|| progress.of());
     Ok(all)
 }

@@ -35,6 +35,11 @@ impl State {
         self.busy[p].then(|| self.taken[p] - 1)
     }
 
+    /// How many calls were taken from each list, refused ones counted.
+    pub fn taken(&self) -> [usize; 2] {
+        self.taken
+    }
+
     /// Whether a turn of p would pass.
     pub fn is_done(&self, case: &Case, p: usize) -> bool {
         !self.busy[p] && self.taken[p] == case.lists[p].len()

@@ -22,6 +22,10 @@ pub struct Listing {
 pub struct Survey {
     pub schedules: u64,
     pub listings: Vec<Listing>,
+    /// The most calls that a schedule took from each list.
+    pub taken: [usize; 2],
+    /// Where not all were carried out: how many there are, in words.
+    pub stopped_of: Option<String>,
     places: HashMap<String, usize>,
 }
 
@@ -52,8 +56,16 @@ impl Survey {
         })
     }
 
+    /// A schedule took so many calls from each list.
+    pub fn note_taken(&mut self, taken: [usize; 2]) {
+        for p in 0..2 {
+            self.taken[p] = self.taken[p].max(taken[p]);
+        }
+    }
+
     /// Schedules that come after these.
     pub fn append(&mut self, after: Survey) {
+        self.note_taken(after.taken);
         for mut listing in after.listings {
             if let Some(place) = self.places.get(&listing.lines) {
                 self.listings[*place].times += listing.times;
