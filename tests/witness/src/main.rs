@@ -1,6 +1,6 @@
 use std::process::ExitCode;
 
-use witness::commands;
+use witness::commands::{self, say, NO_SUCH};
 
 const USAGE: &str = "usage:
   witness run
@@ -59,7 +59,8 @@ fn main() -> ExitCode {
     match commands::dispatch(&words) {
         Ok(code) => ExitCode::from(code),
         Err(complaint) => {
-            eprintln!("witness: {complaint}\n{USAGE}");
+            let usage = if complaint == NO_SUCH { USAGE } else { "" };
+            say(&format!("witness: {complaint}\n{usage}"));
             ExitCode::from(2)
         }
     }

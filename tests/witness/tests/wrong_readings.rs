@@ -4,8 +4,8 @@
 mod common;
 use common::listing_when;
 use witness::counterexample::counterexample;
-use witness::history::{record, served_order};
-use witness::machine::Wrong;
+use witness::history::{of_text, record, search, served_order, Found};
+use witness::machine::{Reply, Wrong};
 use witness::rng::Rng;
 
 fn check(schedule: &str, right_end: &str, wrong: Wrong, wrong_lines: &str) {
@@ -15,6 +15,9 @@ fn check(schedule: &str, right_end: &str, wrong: Wrong, wrong_lines: &str) {
     let torn = listing_when(&text, Some(wrong));
     let answers = torn.rsplit_once(" / ").expect("more than one line").0;
     assert!(answers.ends_with(wrong_lines), "{torn}");
+    let found = |wrong| search(&of_text(text.as_bytes(), wrong).unwrap(), 1000);
+    assert!(matches!(found(None), Found::Order(_)));
+    assert_eq!(found(Some(wrong)), Found::NoOrder);
 }
 
 #[test]
@@ -94,4 +97,28 @@ fn a_counterexample_is_short() {
         let text = counterexample(1, 200_000, wrong).expect(name);
         assert!(text.len() < 120, "{name}: {text}");
     }
+}
+
+/// The order of the calls of a long text is found, and a search is given up
+/// where it may look at too little.
+#[test]
+fn a_long_history() {
+    let text = format!("2 1 5\n0l 0! {}", "0v 0! 1l 1! ".repeat(300));
+    let history = of_text(text.as_bytes(), None).unwrap();
+    assert_eq!(history.calls.len(), 601);
+    assert!(matches!(search(&history, 1000), Found::Order(order) if order.len() == 601));
+    assert_eq!(search(&history, 600), Found::GivenUp);
+}
+
+/// A VL that says true after another's SC has no order, however many calls
+/// come before it.
+#[test]
+fn one_answer_that_is_wrong() {
+    let text = format!("2 1 5\n{}0s7 0! 1v 1!", "0l 0! 1l 1! ".repeat(100));
+    let mut history = of_text(text.as_bytes(), None).unwrap();
+    assert!(matches!(search(&history, 1000), Found::Order(_)));
+    let last = history.calls.last_mut().unwrap();
+    assert_eq!(last.reply, Reply::Validated(false));
+    last.reply = Reply::Validated(true);
+    assert_eq!(search(&history, 1000), Found::NoOrder);
 }

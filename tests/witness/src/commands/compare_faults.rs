@@ -7,7 +7,7 @@ use std::process::{Command, Stdio};
 
 use super::files::{read_text, texts_in};
 use super::run::print;
-use crate::schedule::{parse, Fault, TEXT_LIMIT};
+use crate::schedule::{parse, told_place, TEXT_LIMIT};
 
 pub fn compare_faults(program: &str, dir: &str) -> Result<u8, String> {
     let mut faults = 0;
@@ -29,15 +29,6 @@ pub fn compare_faults(program: &str, dir: &str) -> Result<u8, String> {
         faults += 1;
     }
     print(format!("compared the places of {faults} faults, 0 differ\n").as_bytes())
-}
-
-/// Lines and columns count from 1, a column for each byte.
-fn told_place(text: &[u8], fault: Fault) -> String {
-    let before = &text[..fault.place];
-    let line = before.split(|byte| *byte == b'\n').count();
-    let start = before.iter().rposition(|byte| *byte == b'\n');
-    let column = fault.place - start.map_or(0, |at| at + 1) + 1;
-    format!("refused {}: line {line}, column {column}: ", fault.number)
 }
 
 fn said_by(program: &str, path: &Path) -> Result<String, String> {

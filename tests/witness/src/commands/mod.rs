@@ -21,8 +21,12 @@ mod wrong;
 mod zeros;
 
 pub use bench_text::bench_text;
+pub use run::say;
 
 use crate::machine::Wrong;
+
+/// The complaint that the usage answers.
+pub const NO_SUCH: &str = "no such subcommand";
 
 const NO_READING: &str = "a reading is missing: --wrong KIND";
 
@@ -98,7 +102,7 @@ pub fn dispatch(words: &[String]) -> Result<u8, String> {
         ["bench-listing", kind, n, w] => {
             fractions::print_bench_listing(kind, number(n)?, number(w)?)
         }
-        _ => Err("no such subcommand".to_string()),
+        _ => Err(NO_SUCH.to_string()),
     }
 }
 

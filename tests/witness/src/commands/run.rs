@@ -1,7 +1,8 @@
 //! `witness run` is the program `schedule` of document 01, `witness trace`
 //! the program `trace`.
 
-use std::io::{stdin, stdout, Read, Write};
+use std::io::{stderr, stdin, stdout, ErrorKind, Read, Write};
+use std::process::exit;
 
 use crate::machine::Wrong;
 use crate::schedule::{listing_of, trace_of, TEXT_LIMIT};
@@ -32,6 +33,15 @@ pub fn given() -> Result<String, String> {
 
 pub fn print(bytes: &[u8]) -> Result<u8, String> {
     let mut out = stdout();
-    let written = out.write_all(bytes).and_then(|()| out.flush());
-    written.map(|()| 0).map_err(|error| error.to_string())
+    match out.write_all(bytes).and_then(|()| out.flush()) {
+        Ok(()) => Ok(0),
+        // nobody reads on: as a program that the signal PIPE ends
+        Err(error) if error.kind() == ErrorKind::BrokenPipe => exit(141),
+        Err(error) => Err(format!("standard output could not be written: {error}")),
+    }
+}
+
+/// A line on standard error; one that does not get out harms nothing.
+pub fn say(line: &str) {
+    let _ = writeln!(stderr(), "{}", line.trim_end());
 }

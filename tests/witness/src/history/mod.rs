@@ -4,7 +4,9 @@
 mod object;
 mod record;
 mod search;
+mod traced;
 
 pub use object::{Kind, Object};
 pub use record::{record, Call, History};
-pub use search::{moments, served_order};
+pub use search::{moments, search, served_order, Found};
+pub use traced::of_text;
