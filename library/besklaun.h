@@ -14,7 +14,7 @@
  * what it leaves there is what its definition says, named at each function, in the folder crates/ of the project.
  * Nothing is kept between calls, so calls from several threads do not disturb each other.
  * Not proved: that the stack suffices. besklaun_run_text and besklaun_trace_text take less than 640 KiB of it,
- * besklaun_judge less than 64 KiB, the others less than 32 KiB. Where a thread has less, the system ends the process.
+ * besklaun_run_board less than 128 KiB, besklaun_judge less than 64 KiB, the others less than 32 KiB. Where a thread has less, the system ends the process.
  *
  * `number` is 0, or the number of the cause of a refusal (docs/NOTATION.md, docs/JUDGE.md, docs/BOARDS.md).
  */
@@ -108,6 +108,24 @@ struct besklaun_merged {
 struct besklaun_merged besklaun_merge(const uint8_t *first, size_t first_count,
                                       const uint8_t *second, size_t second_count,
                                       uint8_t *out, size_t out_count);
+
+/* Running such a file (docs/BOARDS.md) on record 0 of a bench that is set up for it and then gone: its records one by
+ * one, an SC's value in all w words, up to the first refusal. */
+
+struct besklaun_board_run {
+    uint8_t number; /* 0 at `end`, or the C of `refused C E`: 1, 2, 4 to 7, 14, 25 or 26 */
+    size_t done;    /* the commands done */
+    size_t written; /* the bytes written, from the first on; the bytes after them stay */
+};
+
+/* A set-up for n processes and w words with `initial` in each, then the file; the listing goes to `listing`. With less
+ * than 744 bytes of room left before a command the run is refused with 14; at the start nothing is written then.
+ * A file may have more than 60,000 records. Room of file_count + 744 bytes is enough for every file: the records of a
+ * call are more bytes than the line of its answer (tested, not proved).
+ * Definition: boardRun n w initial file listing, besklaun/specs/BoardRuns and board_listing/specs/BoardListing. */
+struct besklaun_board_run besklaun_run_board(size_t n, size_t w, uint32_t initial,
+                                             const uint8_t *file, size_t file_count,
+                                             uint8_t *listing, size_t listing_count);
 
 #ifdef __cplusplus
 }

@@ -9,7 +9,7 @@ mod logs;
 mod schedules;
 mod texts;
 
-pub use board_files::merge;
+pub use board_files::{merge, run_board, BoardRun};
 pub use logs::{judge, Verdict};
 pub use schedules::{number_for, schedule_after, schedule_for, Schedule};
 pub use texts::{run_text, trace_text, TextRun};

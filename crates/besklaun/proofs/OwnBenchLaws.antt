@@ -15,7 +15,7 @@ use Rattle.run.specs.Finished.{TextRan, memoryOf}
 use Rattle.besklaun.specs.OwnBench.{ownMemory, ownWords, seen, textRun}
 
 -- what the run holds, as its makers give it
-own-memory : (b : Bench) (q : Process) (all : Records) → b ≡ emptyBench → q ≡ noProcess → all ≡ record { list = replicate 16 q } →
+pub own-memory : (b : Bench) (q : Process) (all : Records) → b ≡ emptyBench → q ≡ noProcess → all ≡ record { list = replicate 16 q } →
     memoryOf b all 16 ownWords ≡ ownMemory
 own-memory b q all e f g = rw (g, f, e) refl
 

@@ -1,3 +1,4 @@
+pub mod BoardRuns
 pub mod Judgements
 pub mod OwnBench
 pub mod TurnBytes

@@ -17,7 +17,7 @@ use station_records::processes::Processes;
 use station_records::processes::with_process;
 
 // "25 and 26 also before a run": the number of the file's refusal, 0 for none.
-fn file_refusal(file: &[u8]) -> u8
+pub fn file_refusal(file: &[u8]) -> u8
     ensures { λ r. ⌜ r ≡ fileNumber (now (file .entry)) ⌝ }
 {
     if !good_trailer(file) {

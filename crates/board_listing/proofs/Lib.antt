@@ -1,0 +1,5 @@
+pub mod RecordLaws
+pub mod LoopLaws
+pub mod LineLaws
+pub mod ListedLaws
+pub mod Examples

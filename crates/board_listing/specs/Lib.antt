@@ -1,0 +1,2 @@
+pub mod BoardListing
+pub mod ListedRun
