@@ -4,13 +4,18 @@
 
 #![forbid(unsafe_code)]
 
+#[path = "../trace_files/files.rs"]
 mod files;
 mod reasons;
+#[path = "../trace_files/records.rs"]
+mod records;
 
 use std::ffi::OsString;
 use std::io::{self, Write};
 use std::path::Path;
 use std::process::ExitCode;
+
+use records::MOST_BYTES;
 
 /// Why there is no merge.
 enum Failure {
@@ -40,8 +45,8 @@ fn ended(status: u8, words: &str) -> ExitCode {
 }
 
 fn merged(first: &Path, second: &Path, out: &Path) -> Result<(), Failure> {
-    let a = files::read(first).map_err(Failure::Trouble)?;
-    let b = files::read(second).map_err(Failure::Trouble)?;
+    let a = files::read(first, MOST_BYTES).map_err(Failure::Trouble)?;
+    let b = files::read(second, MOST_BYTES).map_err(Failure::Trouble)?;
     let mut bytes = vec![0; a.len() + b.len()];
     let written = besklaun::merge(&a, &b, &mut bytes).map_err(|number| {
         let reason = reasons::refused(number, (first, &a), (second, &b));

@@ -5,14 +5,11 @@ use std::fs::{self, File};
 use std::io::{self, Read, Write};
 use std::path::{Path, PathBuf};
 
-pub const MOST_BYTES: usize = 16_777_216;
-
-/// The bytes of a file; of one that is too long, one more than a file may
-/// have.
-pub fn read(path: &Path) -> Result<Vec<u8>, String> {
+/// The bytes of a file; of one that is longer than `most`, one more.
+pub fn read(path: &Path, most: usize) -> Result<Vec<u8>, String> {
     let mut bytes = Vec::new();
     File::open(path)
-        .and_then(|file| file.take(MOST_BYTES as u64 + 1).read_to_end(&mut bytes))
+        .and_then(|file| file.take(most as u64 + 1).read_to_end(&mut bytes))
         .map_err(|error| format!("'{}' can't be read: {error}", path.display()))?;
     Ok(bytes)
 }
