@@ -1,2 +1,3 @@
 pub mod BoardListing
+pub mod Promises
 pub mod ListedRun
