@@ -156,6 +156,28 @@ static bool merged(struct besklaun_merged said, unsigned number, size_t written)
     return said.number == number && said.written == written;
 }
 
+static bool board_ran(struct besklaun_board_run said, unsigned number, size_t done, size_t written)
+{
+    return said.number == number && said.done == done && said.written == written;
+}
+
+/* Of the file `first` the bench takes the start of the LL, and no SC while it is open. */
+static void board_runs(void)
+{
+    size_t a = sizeof first;
+    memset(lent, BEFORE, sizeof lent);
+    expect(board_ran(besklaun_run_board(1, 1, 5, NULL, 0, NULL, 0), 14, 0, 0), "no room for a listing");
+    expect(board_ran(besklaun_run_board(1, 1, 5, first, a, lent, 743), 14, 0, 0), "743 bytes are too few for a run");
+    expect(stays(0), "a run refused with 14 at its start writes nothing");
+    expect(board_ran(besklaun_run_board(0, 0, 5, NULL, 0, lent, 744), 1, 0, 12), "no process is 1");
+    expect(board_ran(besklaun_run_board(1, 65, 5, NULL, 0, lent, 744), 2, 0, 12), "65 words are 2");
+    expect(board_ran(besklaun_run_board(1, 64, 5, NULL, 0, lent, 744), 25, 0, 13), "a run of no bytes is 25");
+    expect(memcmp(lent, "refused 25 0\n", 13) == 0 && stays(13), "the listing of a file that is refused");
+    expect(board_ran(besklaun_run_board(1, 1, 5, no_records, 12, lent, 744), 0, 0, 6), "a run of no records");
+    expect(board_ran(besklaun_run_board(1, 1, 5, first, a, lent, 744), 5, 1, 12), "an SC during an LL is 5");
+    expect(memcmp(lent, "refused 5 1\n", 12) == 0, "the listing of a run that is refused");
+}
+
 static void board_files(void)
 {
     size_t a = sizeof first, b = sizeof second, room = sizeof both;
@@ -199,6 +221,7 @@ int main(int count, char **given)
     texts();
     schedules();
     board_files();
+    board_runs();
     if (!wrong) {
         puts("as expected");
     }

@@ -1,4 +1,5 @@
 pub mod OwnBenchLaws
 pub mod BoardRunLaws
 pub mod TurnByteLaws
+pub mod BoardTheorems
 pub mod Theorems

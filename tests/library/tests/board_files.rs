@@ -1,12 +1,13 @@
-//! Merges: what 02's CR 12 says of small files, and the separately written
-//! merge on thousands of pairs and at the limits. All bytes lent are
-//! compared, those that must stay too.
+//! Merges and runs: what 02's CR 12 says of small files, and the separately
+//! written merge and run on thousands of files and at the limits. All bytes
+//! lent are compared, those that must stay too.
 
 use std::collections::BTreeMap;
 use std::thread;
 
-use besklaun::merge;
-use witness::boards::{self as separately, limits, pair};
+use besklaun::{merge, run_board, BoardRun};
+use witness::boards::{self as separately, case, limits, pair, Numbers};
+use witness::schedule::LISTING;
 
 /// What stands in the bytes lent before a merge.
 const BEFORE: u8 = 0xa5;
@@ -137,4 +138,105 @@ fn stack() {
     let small = thread::Builder::new().stack_size(16 * 1024);
     let merged = small.spawn(move || merge(&first, &second, &mut [0; 72]));
     assert_eq!(merged.unwrap().join().unwrap(), Ok(72));
+}
+
+/// A file run on a bench of its own: what it returns, and what it prints.
+fn ran(n: usize, w: usize, initial: u32, file: &[u8], room: usize) -> (BoardRun, Vec<u8>) {
+    let mut listing = vec![BEFORE; room];
+    let run = run_board(n, w, initial, file, &mut listing);
+    assert!(listing[run.written..].iter().all(|byte| *byte == BEFORE));
+    listing.truncate(run.written);
+    (run, listing)
+}
+
+/// An LL of one word, 4W+6 steps, and an SC of 9, 2W+4.
+fn load_and_store() -> Vec<u8> {
+    let steps = |count| vec![record(1, 0, 0, 0); count];
+    let parts = [
+        vec![record(1, 0, 0, 1)],
+        steps(10),
+        vec![record(1, 9, 0, 2)],
+        steps(6),
+    ];
+    file(b"free", &parts.concat())
+}
+
+fn returned(number: u8, done: usize, written: usize) -> BoardRun {
+    BoardRun {
+        number,
+        done,
+        written,
+    }
+}
+
+#[test]
+fn a_run() {
+    let (run, listing) = ran(1, 1, 5, &load_and_store(), 800);
+    assert_eq!(listing, b"0 L 10 5\n0 S 6 1\nend 18\n");
+    assert_eq!(run, returned(0, 18, listing.len()));
+    let (run, listing) = ran(1, 2, 5, &load_and_store(), 800);
+    assert_eq!(listing, b"refused 5 11\n");
+    assert_eq!(run, returned(5, 11, listing.len()));
+}
+
+/// 14 at the start, then the set-up, then the file, then before each command
+/// 14.
+#[test]
+fn causes_of_a_run() {
+    let whole = load_and_store();
+    assert_eq!(ran(0, 0, 5, &[], 743).0, returned(14, 0, 0));
+    assert_eq!(ran(0, 0, 5, &[], 744).1, b"refused 1 0\n");
+    assert_eq!(ran(16, 65, 5, &[], 744).1, b"refused 2 0\n");
+    assert_eq!(ran(usize::MAX, 1, 5, &[], 744).1, b"refused 1 0\n");
+    assert_eq!(ran(16, 64, u32::MAX, &[], 744).1, b"refused 25 0\n");
+    let falls = file(b"", &[record(2, 0, 0, 1), record(1, 0, 0, 0)]);
+    assert_eq!(ran(1, 1, 5, &falls, 744).1, b"refused 26 0\n");
+    assert_eq!(ran(1, 1, 5, &whole, 752).1, b"0 L 10 5\nrefused 14 11\n");
+    assert_eq!(ran(1, 1, 5, &whole, 753).0.number, 0);
+    assert_eq!(run_board(1, 1, 5, &[], &mut []), returned(14, 0, 0));
+}
+
+#[test]
+fn as_the_separately_written_run() {
+    let mut seen = BTreeMap::new();
+    let mut most = 0;
+    for index in 0..1_000 {
+        let case = case(14, index);
+        let Numbers { n, w, initial } = case.bench;
+        let room = case.room.min(case.file.len() + LISTING.room);
+        let mut expected = vec![BEFORE; room];
+        let listed = separately::run_listed(case.bench, &case.file, &LISTING, &mut expected);
+        let mut listing = vec![BEFORE; room];
+        let run = run_board(n as usize, w as usize, initial, &case.file, &mut listing);
+        let told = returned(listed.number, listed.done as usize, listed.written);
+        assert_eq!(run, told, "case {index}");
+        assert!(listing == expected, "case {index}: other bytes");
+        *seen.entry(run.number).or_insert(0) += 1;
+        most = most.max(run.done);
+    }
+    let numbers: Vec<_> = seen.keys().copied().collect();
+    assert_eq!(numbers, [0, 1, 2, 4, 5, 6, 7, 14, 25, 26], "{seen:?}");
+    assert!(most > 60_000, "{most}");
+}
+
+/// The longest file: a start, and then a step or another start of process 0.
+#[test]
+fn the_longest_run() {
+    let all = 1_398_100;
+    let call = [vec![record(0, 0, 0, 1)], vec![record(0, 0, 0, 0); 10]].concat();
+    let records: Vec<_> = call.into_iter().cycle().take(all).collect();
+    let longest = file(b"free", &records);
+    let (run, listing) = ran(1, 1, 5, &longest, longest.len() + 744);
+    assert_eq!((run.number, run.done), (0, all));
+    let (lines, last) = listing.split_at(listing.len() - b"end 1398100\n".len());
+    assert_eq!(last, b"end 1398100\n");
+    assert_eq!(lines, b"0 L 10 5\n".repeat(all / 11));
+}
+
+/// The stack that besklaun.h names.
+#[test]
+fn stack_of_a_run() {
+    let small = thread::Builder::new().stack_size(128 * 1024);
+    let ran = small.spawn(|| run_board(16, 64, 5, &load_and_store(), &mut [0; 744]));
+    assert_eq!(ran.unwrap().join().unwrap().number, 5);
 }

@@ -31,6 +31,10 @@ const USAGE: &str = "usage:
   witness board-limits DIR
   witness compare-merge PROGRAM DIR
   witness compare-board-run PROGRAM DIR
+  witness board-cases SEED COUNT DIR
+  witness board-listing N W K FILE
+  witness board-trace N W K FILE
+  witness compare-board PROGRAM DIR
   witness schedules A B
   witness ways
   witness schedule-questions SEED COUNT

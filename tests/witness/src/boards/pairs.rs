@@ -60,7 +60,7 @@ fn room(rng: &mut Rng, records: usize) -> u64 {
     }
 }
 
-fn free_bytes(rng: &mut Rng) -> Vec<u8> {
+pub(super) fn free_bytes(rng: &mut Rng) -> Vec<u8> {
     let number = match rng.below(4) {
         0 => rng.between(1, 40),
         1 => rng.pick(&[1, 11, 12, 13, 24]),
@@ -90,7 +90,7 @@ fn records_of_a_run(rng: &mut Rng, list: &List) -> Vec<BoardRecord> {
 }
 
 /// A command of this process, now and then one that is refused.
-fn command(rng: &mut Rng, bench: &mut Bench, p: usize, tick: u32) -> BoardRecord {
+pub(super) fn command(rng: &mut Rng, bench: &mut Bench, p: usize, tick: u32) -> BoardRecord {
     let (stray, blind) = (rng.once_in(600), rng.once_in(200));
     let process = if stray { rng.bits() as u8 } else { p as u8 };
     let order = match rng.below(10) {

@@ -36,7 +36,7 @@ fn run_records(bench: &mut Bench, records: &[BoardRecord]) -> FileRun {
 }
 
 /// "an SC's value in all W words"
-fn order_of(record: &BoardRecord, w: usize) -> Order {
+pub(super) fn order_of(record: &BoardRecord, w: usize) -> Order {
     match record.order {
         0 => Order::Step,
         1 => Order::Load,

@@ -1,6 +1,7 @@
 //! One file for each subcommand.
 
 mod bench_text;
+mod board_program;
 mod boards;
 mod commuting;
 mod compare;
@@ -72,6 +73,16 @@ pub fn dispatch(words: &[String]) -> Result<u8, String> {
         ["board-limits", dir] => boards::board_limits(dir),
         ["compare-merge", program, dir] => boards::compare_merge(program, dir),
         ["compare-board-run", program, dir] => boards::compare_run(program, dir),
+        ["board-cases", seed, count, dir] => {
+            board_program::cases(number(seed)?, number(count)?, dir)
+        }
+        ["board-listing", n, w, initial, file] => {
+            board_program::listing(board_program::numbers(n, w, initial)?, file)
+        }
+        ["board-trace", n, w, initial, file] => {
+            board_program::trace(board_program::numbers(n, w, initial)?, file)
+        }
+        ["compare-board", program, dir] => board_program::compare(program, dir),
         ["schedules", a, b] => interleaving::schedules(number(a)?, number(b)?),
         ["ways"] => interleaving::print_ways(),
         ["schedule-questions", seed, count] => {

@@ -10,7 +10,9 @@ mod run;
 mod trace;
 mod tree;
 
+pub(crate) use form::{last_line, Entry};
 pub use form::{Form, LISTING, TRACE};
+pub(crate) use lines::Lines;
 pub use listing::answer_line;
 pub use parse::{parse, Fault};
 pub use refusals::{told, told_place};
