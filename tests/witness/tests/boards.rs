@@ -1,7 +1,9 @@
 //! Board traces (02, CR 12), by its sentences.
 
-use witness::boards::{merge, pair, records_in, run_file, written, BoardRecord, FileRun};
+use witness::boards::{merge, pair, printed, records_in, run_file, run_listed, written};
+use witness::boards::{BoardRecord, FileRun, Listed, Numbers};
 use witness::machine::{Bench, Order};
+use witness::schedule::{LISTING, TRACE};
 use witness::station::replies;
 
 const ROOM: u64 = 1_000;
@@ -257,4 +259,49 @@ fn a_step_steps_whatever_call_is_open() {
         assert!(bench.is_idle(p) || bench.processes()[p].count == count + 1);
     }
     assert!(others > 20, "{others}");
+}
+
+const ONE_OF_ONE: Numbers = Numbers {
+    n: 1,
+    w: 1,
+    initial: 5,
+};
+
+/// An LL of one word takes 4W+6 steps.
+fn a_load() -> Vec<BoardRecord> {
+    [vec![record(1, 0, 1, 0)], vec![step(1, 0); 10]].concat()
+}
+
+/// "The listing has a line for each answer", and its last line.
+#[test]
+fn a_listing() {
+    let refused = [a_load(), vec![step(1, 0)]].concat();
+    let (listed, bytes) = printed(ONE_OF_ONE, &file(&refused), &LISTING);
+    assert_eq!(bytes, b"0 L 10 5\nrefused 6 11\n");
+    let told = Listed {
+        number: 6,
+        done: 11,
+        written: bytes.len(),
+    };
+    assert_eq!(listed, told);
+    let (_, trace) = printed(ONE_OF_ONE, &file(&refused), &TRACE);
+    assert!(trace.starts_with(b"1 0 start L\n2 0 1 Help[0] write 1 2 links cleared\n"));
+}
+
+/// 14, then the set-up, then 25 and 26, then 14 before each command.
+#[test]
+fn causes_of_a_listing() {
+    let number = |n, w, file: &[u8], room: usize| {
+        let bench = Numbers { n, w, initial: 5 };
+        run_listed(bench, file, &LISTING, &mut vec![0; room]).number
+    };
+    let falls = file(&[step(2, 0), step(1, 0)]);
+    let two = file(&[a_load(), a_load()].concat());
+    assert_eq!(number(0, 0, &[], 743), 14);
+    assert_eq!(number(0, 0, &[], 744), 1);
+    assert_eq!(number(1, 65, &[], 744), 2);
+    assert_eq!(number(1, 1, &[], 744), 25);
+    assert_eq!(number(1, 1, &falls, 744), 26);
+    assert_eq!(number(1, 1, &two, 752), 14);
+    assert_eq!(number(1, 1, &two, 753), 0);
 }
