@@ -5,10 +5,7 @@ use mathlib.Core.List.{List}
 use Rattle.semantics.specs.TextRun.{Ended}
 use Rattle.board_listing.specs.BoardListing.{boardListed}
 use Rattle.besklaun.specs.declared.board_files.BoardRun.{BoardRun}
-use lib.ListN.{replicate}
-use Rattle.station.specs.Station.{StationMemory, stationMemory}
-use Rattle.station.specs.StationSetUp.{emptyStation, emptyProcess}
-use Rattle.besklaun.specs.OwnBench.{ownWords, ownMemory}
+use Rattle.besklaun.specs.OwnBench.{ownMemory}
 
 -- "number (0 for none) and commands done", and the bytes written
 abbrev pub boardSeen : Ended → BoardRun × List ℕ
@@ -17,7 +14,3 @@ boardSeen e = (record { number = e .number; done = e .entries; written = e .writ
 -- a set-up for N = n and W = w with k in all W words, and then the file, its listing into these bytes
 abbrev pub boardRun : ℕ → ℕ → ℕ → List ℕ → List ℕ → BoardRun × List ℕ
 boardRun n w k file bytes = boardSeen (boardListed ownMemory n w k file bytes)
-
--- the same bench as that of record 0 of a station, for what is proved of it (proofs/BoardTheorems)
-abbrev pub ownStation : StationMemory
-ownStation = stationMemory emptyStation (replicate 16 emptyProcess) ownWords

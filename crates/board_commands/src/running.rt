@@ -1,34 +1,16 @@
 // The records of a file, one command after the other, up to the first refusal.
 ghost use mathlib.Core.Path.{_≡_};
-ghost use Rattle.boards.specs.Files.{fileNumber};
 ghost use Rattle.boards.specs.Places.{There, leftOf};
 ghost use Rattle.board_commands.specs.ByValue.{leftWith, recordsRun, fileRun};
 use crate::RunLeft;
 use crate::commands::decide_at;
+use board_rows::file_refusal;
 use boards::Left;
-use boards::records::good_records;
-use boards::refusals::BAD_RECORD;
-use boards::refusals::BAD_TRAILER;
 use boards::trailers::RECORD_SIZE;
-use boards::trailers::good_trailer;
 use boards::trailers::records_of;
 use station::Station;
 use station_records::processes::Processes;
 use station_records::processes::with_process;
-
-// "25 and 26 also before a run": the number of the file's refusal, 0 for none.
-pub fn file_refusal(file: &[u8]) -> u8
-    ensures { λ r. ⌜ r ≡ fileNumber (now (file .entry)) ⌝ }
-{
-    if !good_trailer(file) {
-        return BAD_TRAILER;
-    }
-    let from = records_of(file);
-    if !good_records(file, from) {
-        return BAD_RECORD;
-    }
-    0
-}
 
 // A run that ends here. Nothing is stored back where nothing was done.
 fn left_with(station: Station, all: Processes, number: u8, done: usize) -> RunLeft

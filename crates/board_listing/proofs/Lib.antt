@@ -3,5 +3,3 @@ pub mod LoopLaws
 pub mod LineLaws
 pub mod ListedLaws
 pub mod Examples
-pub mod StationLaws
-pub mod Theorems

@@ -1,5 +1,6 @@
 -- A board's trace file run on the bench, with a listing: 02, CR 12 ("The bench also runs such a file .. up to the first
--- refusal") with the listing of 01 ("The listing has a line for each answer"). `Promises` says that it is CR 12's run.
+-- refusal") with the listing of 01 ("The listing has a line for each answer"). Crate `board_promises` ties it to the run
+-- on a station.
 use Prim.Native.Nat.{ℕ, _-_}
 use mathlib.Core.List.{List, [], _∷_}
 use mathlib.Core.Bool.{false, cond}

@@ -1,3 +1,2 @@
 pub mod BoardListing
-pub mod Promises
 pub mod ListedRun

@@ -12,7 +12,7 @@ ghost use Rattle.board_listing.specs.BoardListing.{boardListed};
 ghost use Rattle.board_listing.specs.ListedRun.{Between, closed, endOf, RunsFile, SetsUp};
 use crate::ending;
 use crate::records;
-use board_commands::running::file_refusal;
+use board_rows::file_refusal;
 use boards::trailers::records_of;
 use entry::entries;
 use entry::limits;

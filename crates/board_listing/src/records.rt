@@ -8,6 +8,7 @@ use boards::Left;
 use boards::trailers::RECORD_SIZE;
 use entry::state::Run;
 
+// Each record is the only entry of a run that has done none; the commands done are counted here.
 pub fn obey_records(run: Run, file: &[u8], from: Left, words: &mut [u64], list: &mut [u8]) -> Run
     requires { ⌜ (There (now file) from) × (Between (stateOf run (now words) (now list))) × (from .count ≤ 9999999) ⌝ }
     ensures { λ r. ⌜ Obeys (leftOf (now (file .entry)) from) (stateOf run (now (words .entry)) (now (list .entry))) (stateOf r (now (words .exit)) (now (list .exit))) ⌝ }

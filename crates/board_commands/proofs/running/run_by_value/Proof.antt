@@ -2,7 +2,8 @@
 use mathlib.Core.Path.{sym, _∙_}
 use denote.Ref.{now}
 use borrow.Author.Needs.{needs}
-use Rattle.board_commands.proofs.FileRows.{has-trailer, long-enough, refused-file, records-there, run-file}
+use Rattle.board_rows.proofs.FileRows.{has-trailer, long-enough}
+use Rattle.board_commands.proofs.FileRows.{refused-file, records-there, run-file}
 use Rattle.board_commands.proofs.running.run_by_value.Statement.{statement}
 use Rattle.board_commands.proofs.running.run_by_value.Tie as tie
 

@@ -1,7 +1,7 @@
 -- `board_listing::listed::run_file`: refused by its rows, or run.
 use mathlib.Core.Path.{sym, _∙_}
 use denote.Ref.{now}
-use Rattle.board_commands.proofs.FileRows.{has-trailer, long-enough}
+use Rattle.board_rows.proofs.FileRows.{has-trailer, long-enough}
 use Rattle.board_listing.proofs.ListedLaws.{file-small, file-refused, records-there, records-few, file-run}
 use borrow.Author.Needs.{needs}
 use Rattle.board_listing.proofs.listed.run_file.Statement.{statement}

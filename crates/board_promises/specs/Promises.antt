@@ -4,14 +4,16 @@ use Prim.Native.Nat.{ℕ}
 use mathlib.Core.Path.{_≡_}
 use mathlib.Core.List.{List}
 use lib.ListN.{replicate}
-use Rattle.station.specs.Station.{StationMemory}
+use Rattle.station.specs.Station.{StationMemory, stationMemory}
 use Rattle.station.specs.StationRefusals.{StationShaped}
-use Rattle.station.specs.StationSetUp.{stationSetUp}
+use Rattle.station.specs.StationSetUp.{emptyStation, emptyProcess, stationSetUp}
 use Rattle.station_laws.specs.OneRecord.{asBench}
 use Rattle.semantics.specs.TextRun.{Ended}
 use Rattle.board_commands.specs.declared.FileRun.{FileRun}
 use Rattle.board_commands.specs.BoardRun.{runFile}
 use Rattle.board_listing.specs.BoardListing.{boardListed}
+use Rattle.besklaun.specs.OwnBench.{ownWords}
+use Rattle.besklaun.specs.BoardRuns.{boardRun}
 
 -- number and commands done
 abbrev pub returned : Ended → FileRun
@@ -33,3 +35,12 @@ module _ (s : StationMemory) (n w k : ℕ) (file listing : List ℕ) where
 
 abbrev pub EveryListedRun : Type 0
 EveryListedRun = (s : StationMemory) → StationShaped s → (n w k : ℕ) (file listing : List ℕ) → AsOnAStation s n w k file listing
+
+-- So it is of the run that the library exports: its bench is that of record 0 of this station.
+abbrev pub ownStation : StationMemory
+ownStation = stationMemory emptyStation (replicate 16 emptyProcess) ownWords
+
+abbrev pub EveryExportedRun : Type 0
+EveryExportedRun =
+    (n w k : ℕ) (file bytes : List ℕ) → let r = boardRun n w k file bytes .0 in let begun = stationSetUp ownStation n w 1 (replicate w k) in
+    begun .0 ≡ 0 → (r .number ≡ 14 → ⊥) → record { number = r .number; done = r .done } ≡ runFile file (begun .1) .0

@@ -1,10 +1,10 @@
--- `board_commands::running::file_refusal` meets its contract: the rows in order.
+-- `board_rows::file_refusal` meets its contract: the rows in order.
 use borrow.Author.Needs.{needs}
 use borrow.Author.Tests.{not-true, not-false}
 use Rattle.boards.proofs.RefusalLaws.{trailer-of, row-of, they-are-there}
-use Rattle.board_commands.proofs.FileRows.{bad-trailer, long-enough, bad-record, right-file}
-use Rattle.board_commands.proofs.running.file_refusal.Statement.{statement}
-use Rattle.board_commands.proofs.running.file_refusal.Tie as tie
+use Rattle.board_rows.proofs.FileRows.{bad-trailer, long-enough, bad-record, right-file}
+use Rattle.board_rows.proofs.file_refusal.Statement.{statement}
+use Rattle.board_rows.proofs.file_refusal.Tie as tie
 
 good-trailer-requires : tie.Need-good-trailer-requires
 good-trailer-requires c κs = search needs

@@ -1,24 +1,28 @@
--- The theorem: a listed run is CR 12's run on record 0 of a station of one record, in its number and the commands done.
+-- The theorems: a listed run, and the exported one, is CR 12's run on record 0 of a station of one record, in its number and
+-- the commands done.
 use mathlib.Core.Path.{_≡_, refl, sym, ap, ap₂, subst, _∙_}
 use mathlib.Core.Bool.{Bool, true, false, cond}
 use mathlib.Core.List.{List}
 use Prim.Native.Nat.{ℕ}
 use lib.Dec.{eqb, ltb}
-use lib.ListN.{length, replicate}
+use lib.ListN.{length, replicate, getD-replicate}
 use borrow.Author.Tests.{eqb-true, eqb-false, eq-eqb, ne-eqb}
 use Rattle.model.specs.Machine.{Memory}
 use Rattle.model.specs.SetUp.{setUp}
 use Rattle.boards.specs.Files.{decode, fileNumber}
-use Rattle.station.specs.Station.{StationMemory}
+use Rattle.station.specs.declared.Tables.{Tables}
+use Rattle.station.specs.declared.StationProcess.{StationProcess}
+use Rattle.station.specs.Station.{StationMemory, noTables, noStationProcess}
+use Rattle.station.specs.StationSetUp.{emptyTables, emptyProcess}
 use Rattle.station.specs.StationRefusals.{StationShaped}
 use Rattle.station_laws.specs.OneRecord.{asBench}
 use Rattle.station_laws.proofs.Theorems.{one-record-is-the-bench}
 use Rattle.semantics.specs.TextRun.{Progress, Ended, ended, begun, roomNeeded}
 use Rattle.board_commands.specs.declared.FileRun.{FileRun}
 use Rattle.board_commands.specs.BoardRun.{runRecords, runFile}
 use Rattle.board_listing.specs.BoardListing.{obeyAll, runListed, afterSetUp, boardListed}
-use Rattle.board_listing.specs.Promises.{returned, listed, prepared, AsOnAStation, EveryListedRun}
-use Rattle.board_listing.proofs.StationLaws.{One, all-records}
+use Rattle.board_promises.specs.Promises.{returned, listed, prepared, AsOnAStation, EveryListedRun, ownStation, EveryExportedRun}
+use Rattle.board_promises.proofs.StationLaws.{One, all-records}
 
 module _ (s : StationMemory) (shaped : StationShaped s) (n w k : ℕ) (file listing : List ℕ) where
   abbrev m : Memory
@@ -74,3 +78,15 @@ every-listed-run s shaped n w k file listing = record {
       ap returned (behind s shaped n w k file listing h)
       ∙ ap (λ (t : Bool). returned (cond t (runListed (asBench (prepared s n w k file listing .1)) file listing) (ended (begun false (asBench s) listing j)))) (ne-eqb j 0 y);
 }
+
+-- the library's bench
+own-shaped : StationShaped ownStation
+own-shaped = record {
+  tables = refl;
+  bank = λ j h. ap (λ (t : Tables). length (t .bank)) (getD-replicate 8 j emptyTables noTables h);
+  help = λ j h. ap (λ (t : Tables). length (t .help)) (getD-replicate 8 j emptyTables noTables h);
+  holdings = λ p h. ap (λ (q : StationProcess). length (q .holdings)) (getD-replicate 16 p emptyProcess noStationProcess h);
+}
+
+pub every-exported-run : EveryExportedRun
+every-exported-run n w k file bytes z h = every-listed-run ownStation own-shaped n w k file bytes .ran z h

@@ -1,0 +1,2 @@
+pub mod StationLaws
+pub mod Theorems
