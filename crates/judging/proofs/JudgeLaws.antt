@@ -2,102 +2,92 @@
 use mathlib.Core.Path.{_≡_, refl, sym, ap, ap₂, _∙_}
 use Prim.Native.Nat.{ℕ}
 use mathlib.Core.List.{List, [], _∷_}
-use mathlib.Core.Bool.{Bool, true, false, not, _&&_, _||_, cond}
+use mathlib.Core.Bool.{Bool, true, false, not, _&&_, cond}
+use lib.Dec.{eqb}
 use borrow.Author.Tests.{eq-eqb, ne-eqb}
 use Rattle.llsc.specs.Object.{fresh}
 use Rattle.llsc.specs.Rows.{every, some}
 use Rattle.verdicts.specs.declared.Verdict.{Verdict}
 use Rattle.verdicts.specs.declared.Verdict.the-variants.{Refused, Yes, No}
 use Rattle.verdicts.specs.Log.{Entry, rows, entries}
-use Rattle.verdicts.specs.Verdicts.{eachTwo, kindKnown, apart, differ, inside, truthTold, inOrder, servedSo, llBefore, earnsYes, logRefusal, judged}
+use Rattle.verdicts.specs.declared.Reason.{Reason}
+use Rattle.verdicts.specs.Verdicts.{eachTwo, kindKnown, apart, differ, inside, servedAlike, llBefore, earnsYes, logRefusal, judged}
+use Rattle.verdicts.specs.Reasons.{inValue, notAlike, numberedInOrder}
+use Rattle.verdicts.proofs.ReasonLaws.{across, some-not, none, served-none}
 use Rattle.judging.specs.declared.order.Order.{Order}
-use Rattle.judging.specs.declared.heads.Test.the-variants.{Wrong, Clashes}
-use Rattle.judging.specs.Heads.{head, someRow, clashes, unled}
+use Rattle.judging.specs.declared.heads.Test.the-variants.{Wrong}
+use Rattle.judging.specs.Heads.{someRow, someClash, someUnled}
 use Rattle.judging.specs.Orders.{placesOf, SortedBy}
-use Rattle.judging.specs.Objects.{allAlike}
-use Rattle.judging.proofs.TestLaws.{and-false, and-true}
+use Rattle.judging.specs.Objects.{notAlikeAt}
+use Rattle.judging.proofs.TestLaws.{and-false, and-true, twice-not}
 
-both-not : (x y : Bool) → (not x && not y) ≡ not (x || y)
-both-not true y = refl
-both-not false y = refl
-
-and-not : (x y : Bool) → (x && not y) ≡ not (not x || y)
-and-not true y = refl
-and-not false y = refl
-
-across : (a b x y : Bool) → ((a && x) && (b && y)) ≡ ((a && b) && (x && y))
-across false b x y = refl
-across true false x y = and-false x
-across true true x y = refl
-
--- every entry passes both tests exactly where none fails one
-every-both : (f g : Entry → Bool) (es : List Entry) → (every f es && every g es) ≡ not (some (λ e. not (f e && g e)) es)
-every-both f g [] = refl
-every-both f g (e ∷ es) = across (f e) (g e) (every f es) (every g es) ∙ ap (λ b. (f e && g e) && b) (every-both f g es) ∙ and-not (f e && g e) (some (λ e. not (f e && g e)) es)
-
+-- two tests of every entry, or of each two, as one
 join-every : (f g : Entry → Bool) (es : List Entry) → (every f es && every g es) ≡ every (λ e. f e && g e) es
 join-every f g [] = refl
 join-every f g (e ∷ es) = across (f e) (g e) (every f es) (every g es) ∙ ap (λ b. (f e && g e) && b) (join-every f g es)
 
+join-two : (f g : Entry → Entry → Bool) (es : List Entry) → (eachTwo f es && eachTwo g es) ≡ eachTwo (λ d e. f d e && g d e) es
+join-two f g [] = refl
+join-two f g (e ∷ es) = across (every (f e) es) (every (g e) es) (eachTwo f es) (eachTwo g es) ∙ ap₂ _&&_ (join-every (f e) (g e) es) (join-two f g es)
+
+every-not : (f : Entry → Bool) (es : List Entry) → every f es ≡ not (some (λ e. not (f e)) es)
+every-not f es = twice-not (every f es) ∙ ap not (sym (some-not f es))
+
 -- no entry is wrong, no two clash, none lacks its LL
-wrong-not : (es : List Entry) → (every kindKnown es && (every inside es && every truthTold es)) ≡ not (someRow Wrong es)
-wrong-not es = ap (λ b. every kindKnown es && b) (join-every inside truthTold es) ∙ every-both kindKnown (λ e. inside e && truthTold e) es
+wrong-not : (es : List Entry) → (every kindKnown es && every inside es) ≡ not (someRow Wrong es)
+wrong-not es = join-every kindKnown inside es ∙ every-not (λ e. kindKnown e && inside e) es
 
-clash-not : (es : List Entry) → (eachTwo apart es && eachTwo differ es) ≡ not (clashes es)
-clash-not [] = refl
-clash-not (e ∷ es) =
-    across (every (apart e) es) (every (differ e) es) (eachTwo apart es) (eachTwo differ es)
-    ∙ ap₂ _&&_ (every-both (apart e) (differ e) es) (clash-not es) ∙ both-not (someRow (Clashes (head e)) es) (clashes es)
-
-led-not : (all es : List Entry) → every (llBefore all) es ≡ not (unled all es)
-led-not all [] = refl
-led-not all (e ∷ es) = ap (llBefore all e &&_) (led-not all es) ∙ and-not (llBefore all e) (unled all es)
+clash-not : (es : List Entry) → (eachTwo apart es && eachTwo differ es) ≡ not (someClash es)
+clash-not es = join-two apart differ es ∙ twice-not (eachTwo (λ e f. apart e f && differ e f) es)
 
 -- the six conditions in the order in which the code looks
-sort-out : (k a d i t s l : Bool) → (k && (a && (d && (i && ((t && s) && (l && true)))))) ≡ ((k && (i && t)) && ((a && d) && (l && s)))
-sort-out false a d i t s l = refl
-sort-out true false d i t s l = sym (and-false (i && t))
-sort-out true true false i t s l = sym (and-false (i && t))
-sort-out true true true false t s l = refl
-sort-out true true true true false s l = refl
-sort-out true true true true true true l = and-true l ∙ sym (and-true l)
-sort-out true true true true true false l = sym (and-false l)
+sort-out : (k a d i s l : Bool) → (k && (a && (d && (i && (s && (l && true)))))) ≡ ((k && i) && ((a && d) && (l && s)))
+sort-out false a d i s l = refl
+sort-out true false d i s l = sym (and-false i)
+sort-out true true false i s l = sym (and-false i)
+sort-out true true true false s l = refl
+sort-out true true true true true l = and-true l ∙ sym (and-true l)
+sort-out true true true true false l = sym (and-false l)
 
 module _ (value : List ℕ) (es : List Entry) where
   abbrev found : Bool → Bool → Bool → Bool
-  found wrong clash lacking = not wrong && (not clash && (not lacking && servedSo value (inOrder es)))
+  found wrong clash lacking = not wrong && (not clash && (not lacking && servedAlike value es))
 
-  earns-is : earnsYes value es ≡ found (someRow Wrong es) (clashes es) (unled es es)
+  earns-is : earnsYes value es ≡ found (someRow Wrong es) (someClash es) (someUnled es)
   unfolding earnsYes
   earns-is =
-      sort-out (every kindKnown es) (eachTwo apart es) (eachTwo differ es) (every inside es) (every truthTold es) (servedSo value (inOrder es)) (every (llBefore es) es)
-      ∙ ap₂ (λ x y. x && (y && (every (llBefore es) es && servedSo value (inOrder es)))) (wrong-not es) (clash-not es)
-      ∙ ap (λ x. not (someRow Wrong es) && (not (clashes es) && (x && servedSo value (inOrder es)))) (led-not es es)
+      sort-out (every kindKnown es) (eachTwo apart es) (eachTwo differ es) (every inside es) (servedAlike value es) (every (llBefore es) es)
+      ∙ ap₂ (λ x y. x && (y && (every (llBefore es) es && servedAlike value es))) (wrong-not es) (clash-not es)
+      ∙ ap (λ x. not (someRow Wrong es) && (not (someClash es) && (x && servedAlike value es))) (every-not (llBefore es) es)
 
   module _ (a : Bool) (ea : a ≡ someRow Wrong es) where
     pub is-wrong : a ≡ true → false ≡ earnsYes value es
-    is-wrong z = sym (earns-is ∙ ap (λ x. found x (clashes es) (unled es es)) (sym ea ∙ z))
+    is-wrong z = sym (earns-is ∙ ap (λ x. found x (someClash es) (someUnled es)) (sym ea ∙ z))
 
-    module _ (za : a ≡ false) (b : Bool) (eb : b ≡ clashes es) where
-      not-wrong : earnsYes value es ≡ found false b (unled es es)
-      not-wrong = earns-is ∙ ap₂ (λ x y. found x y (unled es es)) (sym ea ∙ za) (sym eb)
+    module _ (za : a ≡ false) (b : Bool) (eb : b ≡ someClash es) where
+      not-wrong : earnsYes value es ≡ found false b (someUnled es)
+      not-wrong = earns-is ∙ ap₂ (λ x y. found x y (someUnled es)) (sym ea ∙ za) (sym eb)
 
       pub is-clash : b ≡ true → false ≡ earnsYes value es
-      is-clash z = sym (not-wrong ∙ ap (λ y. found false y (unled es es)) z)
+      is-clash z = sym (not-wrong ∙ ap (λ y. found false y (someUnled es)) z)
 
-      module _ (zb : b ≡ false) (c : Bool) (ec : c ≡ unled es es) where
+      module _ (zb : b ≡ false) (c : Bool) (ec : c ≡ someUnled es) where
         no-clash : earnsYes value es ≡ found false false c
         no-clash = not-wrong ∙ ap₂ (found false) zb (sym ec)
 
         pub is-unled : c ≡ true → false ≡ earnsYes value es
         is-unled z = sym (no-clash ∙ ap (found false false) z)
 
-        pub all-led : c ≡ false → servedSo value (inOrder es) ≡ earnsYes value es
+        pub all-led : c ≡ false → servedAlike value es ≡ earnsYes value es
         all-led z = sym (no-clash ∙ ap (found false false) z)
 
 -- the places of the order, served, are the calls in moment order, served
-pub served-sorted : (log value : List ℕ) (w left : ℕ) (o : Order) → SortedBy log w left o → allAlike log w (fresh value) (placesOf o) ≡ servedSo value (inOrder (rows left w log))
-served-sorted log value w left o s = ap (servedSo value) (s .order)
+pub served-sorted : (log value : List ℕ) (w left : ℕ) (o : Order) → SortedBy log w left o
+    → (r : Reason) → r ≡ notAlikeAt log w (fresh value) inValue (placesOf o) → r ≡ notAlike (fresh value) inValue (numberedInOrder (rows left w log))
+served-sorted log value w left o s r e = e ∙ ap (notAlike (fresh value) inValue) (s .order)
+
+pub served-alike : (value : List ℕ) (es : List Entry) (r : Reason) → r ≡ notAlike (fresh value) inValue (numberedInOrder es) → eqb (r .condition) 0 ≡ servedAlike value es
+served-alike value es r e = ap none e ∙ served-none value es
 
 -- the verdict
 module _ (n w : ℕ) (value log : List ℕ) where

@@ -18,13 +18,10 @@ use Rattle.verdicts.specs.Log.{Entry, width, entryOf, rows, entries, begun}
 use Rattle.verdicts.specs.Verdicts.{row4log, row8log, row16, logRefusal}
 use Rattle.judging.specs.Heads.{Fit}
 use Rattle.judging.specs.Orders.{SortFit}
+use Rattle.judging.proofs.HeadLaws.{rows-length}
 
 pub fit-whole : (w : ℕ) (log : List ℕ) → w ≤ 64 → Fit w 0 (length log / width w) log
 fit-whole w log h = record { narrow = h; inside = let z = div-mul-le-self (length log) (width w) in omega arith }
-
-pub rows-length : (k w : ℕ) (ns : List ℕ) → length (rows k w ns) ≡ k
-rows-length zero w ns = refl
-rows-length (suc k) w ns = ap suc (rows-length k w (drop (width w) ns))
 
 -- one row more
 some-last : (f : Entry → Bool) (w k : ℕ) (ns : List ℕ) → some f (rows (suc k) w ns) ≡ (some f (rows k w ns) || f (entryOf w (drop (k * width w) ns)))
@@ -64,16 +61,21 @@ module _ (n w : ℕ) (log : List ℕ) where
       let above : length log + (5 + w) < (k + 1) * width w = let z = suc-mul k (width w) in let y : (k + 1) * width w ≡ suc k * width w = ap (_* width w) (add-one k) in omega arith in
       ap (λ k. rows k w log) (div-eq-of-lt-le {k = k} (width w) {m = length log + (5 + w)} a above)
 
+  pub begun-whole : length log ≤ left * width w → begun w log ≡ rows left w log
+  begun-whole h = let z = div-mul-le-self (length log) (width w) in rows-begun left (omega arith) (omega arith)
+
+  pub begun-cut : left * width w < length log → begun w log ≡ rows (suc left) w log
+  begun-cut h = let z = suc-mul left (width w) in let y = over in rows-begun (suc left) (omega arith) (omega arith)
+
   no-cut : length log ≤ left * width w → cause ≡ some strange (rows left w log)
-  no-cut h = let z = div-mul-le-self (length log) (width w) in ap (some strange) (rows-begun left (omega arith) (omega arith))
+  no-cut h = ap (some strange) (begun-whole h)
 
   first-number : (at : ℕ) → entryOf w (drop at log) .process ≡ getD log at 0
   first-number at = getD-drop at log 0 0 ∙ ap (λ i. getD log i 0) (add-zero at)
 
   cut : left * width w < length log → cause ≡ (some strange (rows left w log) || leb n (getD log (left * width w) 0))
   cut h =
-      let z = suc-mul left (width w) in let y = over in
-      ap (some strange) (rows-begun (suc left) (omega arith) (omega arith)) ∙ some-last strange w left log ∙ ap (λ p. some strange (rows left w log) || leb n p) (first-number (left * width w))
+      ap (some strange) (begun-cut h) ∙ some-last strange w left log ∙ ap (λ p. some strange (rows left w log) || leb n p) (first-number (left * width w))
 
   pub stranger : (r : Bool) → r ≡ some strange (rows left w log) → r ≡ true → true ≡ cause
   stranger r e z = go (decLt (left * width w) (length log))

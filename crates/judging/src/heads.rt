@@ -2,8 +2,9 @@
 ghost use mathlib.Core.Path.{_≡_};
 ghost use Prim.Native.Nat.{_+_, _≤_};
 ghost use lib.ListN.{length, drop};
-ghost use Rattle.judging.specs.declared.heads.Test.the-variants.{Wrong, Clashes, Leads};
+ghost use Rattle.judging.specs.declared.heads.Test.the-variants.{Unknown, Outside, Wrong, Overlaps, Clashes, Leads};
 ghost use Rattle.judging.specs.Heads.{headOf, testOf};
+ghost use Rattle.judging.specs.Heads.{against as Heads·against};
 
 pub const LL: u64 = 1;
 
@@ -20,14 +21,26 @@ pub struct Head {
     pub moment: u64,
 }
 
-// A process not below N; an answer not after its start; a kind, moment or truth that is wrong by itself; an overlap or
-// an equal moment with another entry; an LL of another entry's process before it.
+// A process not below N; an answer not after its start; a kind that is none; a moment outside its call; one of these two;
+// an overlap with another entry of its process; that entry's moment; one of these two; an LL of another entry's process
+// before it.
 pub enum Test {
     Stranger(u64),
     Backwards,
+    Unknown,
+    Outside,
     Wrong,
+    Overlaps(Head),
+    Coincides(Head),
     Clashes(Head),
     Leads(Head),
+}
+
+// How two entries can't stand together.
+pub enum Pairing {
+    Overlap,
+    Moment,
+    Either,
 }
 
 // The entry at a place.
@@ -45,26 +58,44 @@ pub fn head_at(log: &[u64], at: usize) -> Head
     }
 }
 
-// A kind that is none, a moment outside, or an SC's or VL's truth that is neither 0 nor 1.
-fn wrong(e: Head) -> bool
-    ensures { λ r. ⌜ r ≡ testOf Wrong e ⌝ }
+fn unknown(e: Head) -> bool
+    ensures { λ r. ⌜ r ≡ testOf Unknown e ⌝ }
 {
     if e.kind < LL {
         return true;
     }
-    if e.kind > VL {
-        return true;
-    }
+    e.kind > VL
+}
+
+fn outside(e: Head) -> bool
+    ensures { λ r. ⌜ r ≡ testOf Outside e ⌝ }
+{
     if e.moment <= e.start {
         return true;
     }
-    if e.moment > e.answer {
+    e.moment > e.answer
+}
+
+// A kind that is none, or a moment outside.
+fn wrong(e: Head) -> bool
+    ensures { λ r. ⌜ r ≡ testOf Wrong e ⌝ }
+{
+    if unknown(e) {
         return true;
     }
-    if e.kind == LL {
+    outside(e)
+}
+
+fn overlaps(e: Head, f: Head) -> bool
+    ensures { λ r. ⌜ r ≡ testOf (Overlaps e) f ⌝ }
+{
+    if e.process != f.process {
         return false;
     }
-    e.truth > 1
+    if e.answer < f.start {
+        return false;
+    }
+    e.start <= f.answer
 }
 
 // Two entries that overlap, of one process, or have one moment.
@@ -74,13 +105,7 @@ fn clash(e: Head, f: Head) -> bool
     if e.moment == f.moment {
         return true;
     }
-    if e.process != f.process {
-        return false;
-    }
-    if e.answer < f.start {
-        return false;
-    }
-    e.start <= f.answer
+    overlaps(e, f)
 }
 
 // An LL of e's process before it.
@@ -102,8 +127,23 @@ pub fn passes(t: Test, f: Head) -> bool
     match t {
         Test::Stranger(n) => n <= f.process,
         Test::Backwards => f.answer <= f.start,
+        Test::Unknown => unknown(f),
+        Test::Outside => outside(f),
         Test::Wrong => wrong(f),
+        Test::Overlaps(e) => overlaps(e, f),
+        Test::Coincides(e) => e.moment == f.moment,
         Test::Clashes(e) => clash(e, f),
         Test::Leads(e) => leads(e, f),
+    }
+}
+
+// What a later entry is looked at for.
+pub fn against(p: Pairing, e: Head) -> Test
+    ensures { λ r. ⌜ r ≡ Heads·against p e ⌝ }
+{
+    match p {
+        Pairing::Overlap => Test::Overlaps(e),
+        Pairing::Moment => Test::Coincides(e),
+        Pairing::Either => Test::Clashes(e),
     }
 }

@@ -21,14 +21,15 @@ fn earns(log: &[u64], value: &[u64], w: usize, left: usize) -> bool
     if looking::some_row(log, w, 0, left, Test::Wrong) {
         return false;
     }
-    if looking::some_clash(log, w, 0, left) {
+    if looking::some_clash(log, w, left) {
         return false;
     }
     if looking::some_unled(log, w, left) {
         return false;
     }
     let order = order::sorted(log, w, left);
-    object::served(log, value, w, order)
+    let r = object::not_alike(log, value, w, order);
+    r.condition == 0
 }
 
 // The judge: N, W, the value with which the object begins, and the log, 6 + W numbers for each call.

@@ -1,13 +1,16 @@
-// Figure 1's object, fed the rows of a log. Its words are not copied: they are those given, or those of a row.
+// Figure 1's object, fed the rows of a log. Its words are not copied: they are those given, or those of the row at `from`.
 ghost use mathlib.Core.Path.{_≡_};
 ghost use Prim.Native.Nat.{_+_, _≤_};
 ghost use lib.ListN.{length, take, drop};
 ghost use Rattle.llsc.specs.Object.{fresh};
 ghost use Rattle.verdicts.specs.Verdicts.{sameWords};
+ghost use Rattle.verdicts.specs.Reasons.{inValue};
 ghost use Rattle.judging.specs.Orders.{placesOf, Good, GoodPlaces};
-ghost use Rattle.judging.specs.Objects.{Sane, toldAlike, MovedOn, allAlike};
+ghost use Rattle.judging.specs.Objects.{Sane, toldAlike, MovedOn, answersAt, notAlikeAt};
 use crate::heads;
+use crate::looking;
 use crate::order::Order;
+use verdicts::Reason;
 
 pub struct Held {
     pub links: [bool; 16],
@@ -41,14 +44,14 @@ fn alike(log: &[u64], value: &[u64], w: usize, at: usize, held: Held) -> bool
             return same_words(value, 0, log, at + 6, w);
         }
         let from = held.from;
-        return same_words(log, from, log, at + 6, w);
+        return same_words(log, from + 6, log, at + 6, w);
     }
     let links = held.links;
     let p = e.process as usize;
     if links[p] {
         return e.truth == 1;
     }
-    e.truth != 1
+    e.truth == 0
 }
 
 // The object after the row's call.
@@ -73,20 +76,46 @@ fn moved(log: &[u64], w: usize, at: usize, held: Held) -> Held
     let links = held.links;
     if links[p] {
         let cleared = [false; 16];
-        let from = at + 6;
         return Held {
             links: cleared,
             first: false,
-            from: from,
+            from: at,
         };
     }
     held
 }
 
-// Whether the object, begun with the value, answers each call alike in the order given.
-pub fn served(log: &[u64], value: &[u64], w: usize, order: Order) -> bool
-    requires { ⌜ (GoodPlaces (now log) w order) × ((order .count ≤ 512) × (length (now value) ≡ w)) ⌝ }
-    ensures { λ r. ⌜ r ≡ allAlike (now (log .entry)) w (fresh (now (value .entry))) (placesOf order) ⌝ }
+// What the object answers the row's call, as a reason.
+fn answers(log: &[u64], w: usize, at: usize, held: Held) -> Reason
+    requires { ⌜ (w ≤ 64) × (Good (now log) w at) ⌝ }
+    ensures { λ r. ⌜ r ≡ answersAt (now (log .entry)) w at held ⌝ }
+{
+    let e = heads::head_at(log, at);
+    let call = at / (6 + w);
+    if e.kind == heads::LL {
+        return Reason {
+            condition: 5,
+            call: call,
+            other: held.from / (6 + w),
+            given: held.first,
+            truth: false,
+        };
+    }
+    let links = held.links;
+    let p = e.process as usize;
+    Reason {
+        condition: 5,
+        call: call,
+        other: 0,
+        given: false,
+        truth: links[p],
+    }
+}
+
+// The first call, in the order given, that the object, begun with the value, does not answer alike.
+pub fn not_alike(log: &[u64], value: &[u64], w: usize, order: Order) -> Reason
+    requires { ⌜ (w ≤ 64) × ((GoodPlaces (now log) w order) × ((order .count ≤ 512) × (length (now value) ≡ w))) ⌝ }
+    ensures { λ r. ⌜ r ≡ notAlikeAt (now (log .entry)) w (fresh (now (value .entry))) inValue (placesOf order) ⌝ }
 {
     let at = order.at;
     let count = order.count;
@@ -103,8 +132,8 @@ pub fn served(log: &[u64], value: &[u64], w: usize, order: Order) -> bool
             held = moved(log, w, p, held);
             i = i + 1;
         } else {
-            return false;
+            return answers(log, w, p, held);
         }
     }
-    true
+    looking::no_reason()
 }

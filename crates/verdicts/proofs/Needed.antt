@@ -9,7 +9,7 @@ use Rattle.verdicts.specs.Log.{entries}
 use Rattle.verdicts.specs.Verdicts.{conditions, earnsYes, logRefusal, judged}
 
 -- one word: process, kind, start, answer, truth, moment, word
-abbrev call : ℕ → ℕ → ℕ → ℕ → ℕ → ℕ → ℕ → List ℕ
+abbrev pub call : ℕ → ℕ → ℕ → ℕ → ℕ → ℕ → ℕ → List ℕ
 call p k s a t m v = p ∷ k ∷ s ∷ a ∷ t ∷ m ∷ v ∷ []
 
 abbrev said : List ℕ → Verdict

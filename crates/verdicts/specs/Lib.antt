@@ -1,2 +1,3 @@
 pub mod Log
 pub mod Verdicts
+pub mod Reasons

@@ -2,7 +2,7 @@
 use mathlib.Core.Path.{_∙_}
 use borrow.Author.Needs.{needs}
 use Rattle.verdicts.specs.Log.{rows}
-use Rattle.judging.proofs.JudgeLaws.{is-wrong, is-clash, is-unled, all-led, served-sorted}
+use Rattle.judging.proofs.JudgeLaws.{is-wrong, is-clash, is-unled, all-led, served-sorted, served-alike}
 use Rattle.judging.proofs.earns.Statement.{statement}
 use Rattle.judging.proofs.earns.Tie as tie
 
@@ -33,14 +33,15 @@ returns-3 c =
 sorted-requires : tie.Need-sorted-requires
 sorted-requires c κs = search needs
 
-served-requires : tie.Need-served-requires
-served-requires c κs = search needs
+not-alike-requires : tie.Need-not-alike-requires
+not-alike-requires c κs = let s = c .before .before .before .before .before .before .before .before .before in (s .pre .0 .fit .narrow, search needs)
 
 returns-4 : tie.Need-returns-4
 returns-4 c =
-    let u = c .before .before .before in let d = u .before .before in let b = d .before .before in let a = b .before .before .before .args in
-    c .served .ensures ∙ served-sorted (a .log .now) (a .value .now) (a .w) (a .left) _ (c .before .sorted .ensures)
-    ∙ all-led (a .value .now) (rows (a .left) (a .w) (a .log .now)) _ (b .some-row .ensures) (search needs) _ (d .some-clash .ensures) (search needs) _ (u .some-unled .ensures) (search needs)
+    let n = c .before in let u = n .before .before .before in let d = u .before .before in let b = d .before .before in let a = b .before .before .before .args in
+    let es = rows (a .left) (a .w) (a .log .now) in
+    served-alike (a .value .now) es _ (served-sorted (a .log .now) (a .value .now) (a .w) (a .left) _ (n .before .sorted .ensures) _ (n .not-alike .ensures))
+    ∙ all-led (a .value .now) es _ (b .some-row .ensures) (search needs) _ (d .some-clash .ensures) (search needs) _ (u .some-unled .ensures) (search needs)
 
 pub earns-spec : {M : Type 1} → statement M
 earns-spec =
@@ -53,5 +54,5 @@ earns-spec =
     some-unled-requires
     returns-3
     sorted-requires
-    served-requires
+    not-alike-requires
     returns-4)

@@ -1,61 +1,15 @@
--- `judging::looking::some_row` meets its contract.
+-- `judging::looking::some_row` meets its contract: one is found.
+use Rattle.judging.specs.Heads.{head, testOf}
+use Rattle.judging.proofs.HeadLaws.{first-some-row}
 use borrow.Author.Needs.{needs}
-use native.Mathlib.Omega.{arith}
-use mathlib.Core.Path.{refl}
-use Rattle.judging.proofs.HeadLaws.{fit-first}
-use Rattle.judging.proofs.RowLoops.{SomeInv, row-stop, row-go, row-end}
 use Rattle.judging.proofs.looking.some_row.Statement.{statement}
 use Rattle.judging.proofs.looking.some_row.Tie as tie
 
-abbrev Inv-loop : tie.InvT-loop
-Inv-loop log w at left t i₀ k₀ i k = SomeInv log w at left t i k
+first-row-requires : tie.Need-first-row-requires
+first-row-requires c κs = search needs
 
-abbrev μ-loop : tie.MeasureT-loop
-μ-loop log w at left t i₀ k₀ i k = k
-
-loop-holds : tie.Need-loop-holds Inv-loop μ-loop
-loop-holds c = record { fit = search needs; same = refl }
-
-head-at-requires : tie.Need-head-at-requires Inv-loop μ-loop
-head-at-requires c κs = let z = fit-first _ _ _ _ (c .loop-test .taken) (c .before .loop .inv .fit) in omega arith
-
-passes-requires : tie.Need-passes-requires Inv-loop μ-loop
-passes-requires c κs = tt
-
-returns : tie.Need-returns Inv-loop μ-loop
-returns c = row-stop _ _ _ _ _ _ _ (c .before .before .before .before .loop .inv) (search needs) _ (c .before .before .head-at .ensures) _ (c .before .passes .ensures) (c .if1 .taken)
-
-add-i : tie.Need-add-i Inv-loop μ-loop
-add-i c = let z = c .before .before .before .before .loop .inv .fit .narrow in omega arith
-
-add-i-2 : tie.Need-add-i-2 Inv-loop μ-loop
-add-i-2 c = let z = fit-first _ _ _ _ (c .before .before .before .loop-test .taken) (c .before .before .before .before .loop .inv .fit) in omega arith
-
-sub-k : tie.Need-sub-k Inv-loop μ-loop
-sub-k c = search needs
-
-loop-less : tie.Need-loop-less Inv-loop μ-loop
-loop-less c = omega arith
-
-loop-again : tie.Need-loop-again Inv-loop μ-loop
-loop-again c = row-go _ _ _ _ _ _ _ (c .before .before .before .before .loop .inv) (search needs) _ (c .before .before .head-at .ensures) _ (c .before .passes .ensures) (c .if1 .left)
-
-returns-2 : tie.Need-returns-2 Inv-loop μ-loop
-returns-2 c = row-end _ _ _ _ _ _ _ (c .before .loop .inv) (search needs)
+returns : tie.Need-returns
+returns c = let a = c .before .before .args in first-some-row (a .w) (a .at) (a .log .now) (λ e. testOf (a .t) (head e)) (a .left) _ (c .first-row .ensures)
 
 pub some-row-spec : {M : Type 1} → statement M
-some-row-spec =
-    tie.close
-    (tie.spec
-    Inv-loop
-    μ-loop
-    loop-holds
-    head-at-requires
-    passes-requires
-    returns
-    add-i
-    add-i-2
-    sub-k
-    loop-less
-    loop-again
-    returns-2)
+some-row-spec = tie.close (tie.spec first-row-requires returns)

@@ -1,61 +1,16 @@
--- `judging::looking::some_unled` meets its contract.
+-- `judging::looking::some_unled` meets its contract: one is found.
+use Rattle.verdicts.specs.Log.{rows}
+use Rattle.judging.specs.Heads.{head, lacksLl}
+use Rattle.judging.proofs.HeadLaws.{first-some-row}
 use borrow.Author.Needs.{needs}
-use native.Mathlib.Omega.{arith}
-use mathlib.Core.Path.{refl}
-use Rattle.judging.proofs.HeadLaws.{fit-first}
-use Rattle.judging.proofs.RowLoops.{UnledInv, unled-stop, unled-go, unled-end}
 use Rattle.judging.proofs.looking.some_unled.Statement.{statement}
 use Rattle.judging.proofs.looking.some_unled.Tie as tie
 
-abbrev Inv-loop : tie.InvT-loop
-Inv-loop log w left i₀ k₀ i k = UnledInv log w left i k
+first-unled-requires : tie.Need-first-unled-requires
+first-unled-requires c κs = search needs
 
-abbrev μ-loop : tie.MeasureT-loop
-μ-loop log w left i₀ k₀ i k = k
-
-loop-holds : tie.Need-loop-holds Inv-loop μ-loop
-loop-holds c = record { fit = search needs; same = refl }
-
-head-at-requires : tie.Need-head-at-requires Inv-loop μ-loop
-head-at-requires c κs = let z = fit-first _ _ _ _ (c .loop-test .taken) (c .before .loop .inv .fit) in omega arith
-
-lacks-requires : tie.Need-lacks-requires Inv-loop μ-loop
-lacks-requires c κs = search needs
-
-returns : tie.Need-returns Inv-loop μ-loop
-returns c = unled-stop _ _ _ _ _ (c .before .before .before .before .loop .inv) (search needs) _ (c .before .before .head-at .ensures) _ (c .before .lacks .ensures) (c .if1 .taken)
-
-add-i : tie.Need-add-i Inv-loop μ-loop
-add-i c = let z = c .before .before .before .before .loop .inv .fit .narrow in omega arith
-
-add-i-2 : tie.Need-add-i-2 Inv-loop μ-loop
-add-i-2 c = let z = fit-first _ _ _ _ (c .before .before .before .loop-test .taken) (c .before .before .before .before .loop .inv .fit) in omega arith
-
-sub-k : tie.Need-sub-k Inv-loop μ-loop
-sub-k c = search needs
-
-loop-less : tie.Need-loop-less Inv-loop μ-loop
-loop-less c = omega arith
-
-loop-again : tie.Need-loop-again Inv-loop μ-loop
-loop-again c = unled-go _ _ _ _ _ (c .before .before .before .before .loop .inv) (search needs) _ (c .before .before .head-at .ensures) _ (c .before .lacks .ensures) (c .if1 .left)
-
-returns-2 : tie.Need-returns-2 Inv-loop μ-loop
-returns-2 c = unled-end _ _ _ _ _ (c .before .loop .inv) (search needs)
+returns : tie.Need-returns
+returns c = let a = c .before .before .args in first-some-row (a .w) 0 (a .log .now) (λ e. lacksLl (rows (a .left) (a .w) (a .log .now)) (head e)) (a .left) _ (c .first-unled .ensures)
 
 pub some-unled-spec : {M : Type 1} → statement M
-some-unled-spec =
-    tie.close
-    (tie.spec
-    Inv-loop
-    μ-loop
-    loop-holds
-    head-at-requires
-    lacks-requires
-    returns
-    add-i
-    add-i-2
-    sub-k
-    loop-less
-    loop-again
-    returns-2)
+some-unled-spec = tie.close (tie.spec first-unled-requires returns)

@@ -20,12 +20,17 @@ returns c =
     told-first (a .log .now) (a .value .now) (a .w) (a .at) (a .held) _ (c .before .before .before .before .head-at .ensures) (search needs) (search needs) (search needs) _ (c .same-words .ensures)
 
 add-same-words-2 : tie.Need-add-same-words-2
-add-same-words-2 c = search needs
+add-same-words-2 c =
+    let s = c .before .before .before .before .before .before in
+    let z = s .pre .1 .0 .inside (c .if2 .left) in omega arith
+
+add-same-words-3 : tie.Need-add-same-words-3
+add-same-words-3 c = search needs
 
 same-words-requires-2 : tie.Need-same-words-requires-2
 same-words-requires-2 c κs =
     let s = c .before .before .before .before .before .before in
-    (s .pre .1 .0 .inside (c .if2 .left), let z = s .pre .0 .inside in omega arith)
+    (let z = s .pre .1 .0 .inside (c .if2 .left) in omega arith, let z = s .pre .0 .inside in omega arith)
 
 returns-2 : tie.Need-returns-2
 returns-2 c =
@@ -54,6 +59,7 @@ alike-spec =
     same-words-requires
     returns
     add-same-words-2
+    add-same-words-3
     same-words-requires-2
     returns-2
     array-read-if3

@@ -24,9 +24,6 @@ returns-2 c =
 array-read-if3 : tie.Need-array-read-if3
 array-read-if3 c = low-process _ _ _ _ (c .before .before .before .before .before .before .before .pre .0) (c .before .before .before .before .before .head-at .ensures)
 
-add-from : tie.Need-add-from
-add-from c = search needs
-
 returns-3 : tie.Need-returns-3
 returns-3 c =
     let a = c .before .before .before .before .before .before .before .before .args in
@@ -46,6 +43,5 @@ moved-spec =
     returns
     returns-2
     array-read-if3
-    add-from
     returns-3
     returns-4)

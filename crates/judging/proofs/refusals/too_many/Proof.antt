@@ -1,6 +1,6 @@
 -- `judging::refusals::too_many` meets its contract: there are as many entries as whole rows.
 use borrow.Author.Needs.{needs}
-use Rattle.judging.proofs.RefusalLaws.{rows-length}
+use Rattle.judging.proofs.HeadLaws.{rows-length}
 use Rattle.judging.proofs.refusals.too_many.Statement.{statement}
 use Rattle.judging.proofs.refusals.too_many.Tie as tie
 

@@ -1,0 +1,2 @@
+pub mod FailingLaws
+pub mod RefusedLaws
