@@ -14,7 +14,8 @@
  * what it leaves there is what its definition says, named at each function, in the folder crates/ of the project.
  * Nothing is kept between calls, so calls from several threads do not disturb each other.
  * Not proved: that the stack suffices. besklaun_run_text and besklaun_trace_text take less than 640 KiB of it,
- * besklaun_run_board less than 128 KiB, besklaun_judge less than 64 KiB, the others less than 32 KiB. Where a thread has less, the system ends the process.
+ * besklaun_run_board less than 128 KiB, the judges less than 64 KiB, the others less than 32 KiB. Where a thread has
+ * less, the system ends the process.
  *
  * `number` is 0, or the number of the cause of a refusal (docs/NOTATION.md, docs/JUDGE.md, docs/BOARDS.md).
  */
@@ -41,6 +42,23 @@ struct besklaun_judgement {
  * Definition: judgementOf (judged n w value log), besklaun/specs/Judgements and verdicts/specs/Verdicts. */
 struct besklaun_judgement besklaun_judge(size_t n, size_t w, const uint64_t *value, size_t value_count,
                                          const uint64_t *log, size_t log_count);
+
+/* The same, with why it is no. A call is told by its index in the log, from 0 on: its numbers begin at index * (6 + w).
+ * Where a field means nothing it is 0 or false. */
+struct besklaun_reasoned {
+    uint8_t number;    /* as above */
+    bool yes;          /* as above */
+    uint8_t condition; /* 0, or where it is neither refused nor yes the first condition of docs/JUDGE.md that fails, 1 to 6 */
+    bool given;        /* condition 5, an LL: the object answers the value. Refused 8: the value is not of w words */
+    bool truth;        /* condition 5, an SC or VL: what the object answers */
+    size_t call;       /* the call at fault; of two the first. Refused 4, 8 or 17: the call that it is about */
+    size_t other;      /* conditions 2 and 3: the second call. Condition 5, an LL, where `given` is false: the SC whose
+                        * words the object answers */
+};
+
+/* Definition: reasonedOf (judgedWithReason n w value log), besklaun/specs/Judgements and verdicts/specs/Reasons. */
+struct besklaun_reasoned besklaun_judge_with_reason(size_t n, size_t w, const uint64_t *value, size_t value_count,
+                                                    const uint64_t *log, size_t log_count);
 
 /* Running a schedule text (docs/NOTATION.md), on a bench that is set up for it and then gone. */
 

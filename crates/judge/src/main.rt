@@ -1,26 +1,40 @@
 // The program `judge`: a log as text from standard input, under 2,097,152 bytes and at most 65,536 numbers, and its
-// verdict, `yes`, `no` or `refused C`, to standard output. A text that is no log gets a line on standard error instead.
+// verdict, `yes`, `no` or `refused C`, to standard output. Why it is not yes goes to standard error; so does why a text is
+// no log, which gets no verdict.
+mod calls;
+mod faults;
+mod lines;
+mod refusals;
+mod say;
+mod why;
+
 ghost use mathlib.Core.Path.{_≡_};
+ghost use Prim.Native.Nat.{_≤_};
 ghost use lib.ListN.{length};
+use logtext::Reading;
+use verdicts::Judgement;
 use verdicts::Verdict;
 
 fn main() {
     let mut text = text_room();
     let got = io::read_full(0, &mut text);
     if got == text.len() {
-        io::write_all(
-            2,
-            b"judge: the text has 2,097,152 bytes or more; nothing was judged\n",
-        );
+        faults::too_long();
         return;
     }
+    let given = &text[..got];
     let mut numbers = number_room();
-    let reading = logtext::read(&text[..got], &mut numbers);
+    let reading = logtext::read(given, &mut numbers);
+    told(reading, &numbers, given);
+}
+
+// What there is to say once the text is read.
+fn told(reading: Reading, numbers: &[u64], text: &[u8]) {
     if reading.fault != 0 {
-        tell(reading.fault);
+        faults::tell(reading.fault, reading.count, text);
         return;
     }
-    answer(&numbers, reading.count);
+    answer(numbers, reading.count, text);
 }
 
 // Room for 512 calls of 64 words and their spaces, twice and more.
@@ -37,51 +51,40 @@ fn number_room() -> [u64; 65536]
     [0; 65536]
 }
 
-// Why a text is no log.
-fn tell(fault: u8) {
-    if fault == logtext::STRAY_BYTE {
-        io::write_all(
-            2,
-            b"judge: the text has a byte that is no digit and no space; nothing was judged\n",
-        );
-        return;
-    }
-    if fault == logtext::TOO_LARGE {
-        io::write_all(
-            2,
-            b"judge: a number of the text is 2^64 or more; nothing was judged\n",
-        );
-        return;
-    }
-    io::write_all(
-        2,
-        b"judge: the text has more than 65,536 numbers; nothing was judged\n",
-    );
-}
-
-// The verdict on the first numbers of the room.
-fn answer(numbers: &[u64], count: usize) {
+// The verdict on the first numbers of the room, and why it is not yes.
+fn answer(numbers: &[u64], count: usize, text: &[u8]) {
     if count < 2 {
-        io::write_all(2, b"judge: the text lacks N and W; nothing was judged\n");
+        faults::lacks_n_and_w(count);
         return;
     }
     if count <= numbers.len() {
-        print(logtext::judge_numbers(&numbers[..count]));
+        judged(&numbers[..count], text);
     }
 }
 
-fn print(verdict: Verdict) {
+fn judged(numbers: &[u64], text: &[u8])
+    requires { ⌜ 2 ≤ length (now numbers) ⌝ }
+{
+    let judgement = logtext::judge_numbers(numbers);
+    print(judgement);
+    why::explain(judgement, numbers, text);
+}
+
+fn print(judgement: Judgement) {
+    let verdict = judgement.verdict;
     match verdict {
-        Verdict::Yes => {
-            io::write_all(1, b"yes\n");
-        }
-        Verdict::No => {
-            io::write_all(1, b"no\n");
-        }
+        Verdict::Yes => out(b"yes\n"),
+        Verdict::No => out(b"no\n"),
         Verdict::Refused(number) => {
-            io::write_all(1, b"refused ");
+            out(b"refused ");
             io::print_decimal(1, number as u64);
-            io::write_all(1, b"\n");
+            out(b"\n");
         }
+    }
+}
+
+fn out(bytes: &[u8]) {
+    if !io::write_all(1, bytes) {
+        say::say(b"standard output could not be written\n");
     }
 }

@@ -1,1 +1,3 @@
 pub mod ReadingLaws
+pub mod PlaceLaws
+pub mod PlaceExamples

@@ -9,8 +9,8 @@ use lib.Dec.{eqb, ltb, leb}
 use lib.ListN.{length, getD, set, take, drop, length-set, length-drop, drop-of-length-le}
 use lib.Seq.{take-suc-set, length-take-le, drop-cons, take-all}
 use borrow.Author.Tests.{eq-eqb, ne-eqb, lt-ltb, le-ltb, le-leb, lt-leb}
-use Rattle.verdicts.specs.declared.Verdict.{Verdict}
-use Rattle.verdicts.specs.Verdicts.{judged}
+use Rattle.verdicts.specs.declared.Judgement.{Judgement}
+use Rattle.verdicts.specs.Reasons.{judgedWithReason}
 use Rattle.logtext.specs.declared.Reading.{Reading}
 use Rattle.logtext.specs.Numbers.{Scan, stopped, isDigit, isGap, digitTaken, closed, byteTaken, scan, readNumbers, judgedNumbers}
 use Rattle.logtext.specs.Readings.{asScan, Reads, stoppedAt, digitRead}
@@ -155,10 +155,10 @@ module _ (ns : List ℕ) where
   abbrev part : List ℕ
   part = take (length ns - 2) (drop 2 ns)
 
-  pub judged-whole : w ≤ length part → (r : Verdict) → r ≡ judged (getD ns 0 0) w (take w part) (take (length part - w) (drop w part)) → r ≡ judgedNumbers ns
-  judged-whole h r e = e ∙ ap (judged (getD ns 0 0) w (take w part)) (from w part) ∙ ap (λ ms. judged (getD ns 0 0) w (take w ms) (drop w ms)) (from 2 ns)
+  pub judged-whole : w ≤ length part → (r : Judgement) → r ≡ judgedWithReason (getD ns 0 0) w (take w part) (take (length part - w) (drop w part)) → r ≡ judgedNumbers ns
+  judged-whole h r e = e ∙ ap (judgedWithReason (getD ns 0 0) w (take w part)) (from w part) ∙ ap (λ ms. judgedWithReason (getD ns 0 0) w (take w ms) (drop w ms)) (from 2 ns)
 
-  pub judged-short : length part < w → (r : Verdict) → r ≡ judged (getD ns 0 0) w part (take (length part - length part) (drop (length part) part)) → r ≡ judgedNumbers ns
+  pub judged-short : length part < w → (r : Judgement) → r ≡ judgedWithReason (getD ns 0 0) w part (take (length part - length part) (drop (length part) part)) → r ≡ judgedNumbers ns
   judged-short h r e =
       let none : drop (length part) part ≡ drop w part = drop-of-length-le part {i = length part} (omega arith) ∙ sym (drop-of-length-le part {i = w} (omega arith)) in
-      e ∙ ap₂ (judged (getD ns 0 0) w) (sym (take-all w part (omega arith))) (from (length part) part ∙ none) ∙ ap (λ ms. judged (getD ns 0 0) w (take w ms) (drop w ms)) (from 2 ns)
+      e ∙ ap₂ (judgedWithReason (getD ns 0 0) w) (sym (take-all w part (omega arith))) (from (length part) part ∙ none) ∙ ap (λ ms. judgedWithReason (getD ns 0 0) w (take w ms) (drop w ms)) (from 2 ns)

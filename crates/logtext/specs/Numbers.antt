@@ -5,8 +5,8 @@ use mathlib.Core.Bool.{Bool, true, false, _||_, cond}
 use lib.Dec.{eqb, ltb}
 use lib.ListN.{length, getD, take, drop}
 use Rattle.llsc.specs.Rows.{between}
-use Rattle.verdicts.specs.declared.Verdict.{Verdict}
-use Rattle.verdicts.specs.Verdicts.{judged}
+use Rattle.verdicts.specs.declared.Judgement.{Judgement}
+use Rattle.verdicts.specs.Reasons.{judgedWithReason}
 
 -- a reading: why it stopped (0: it did not), whether a number is being read, that number so far, and those read
 pub record Scan : Type 0 where
@@ -57,6 +57,6 @@ scan room (b ∷ bs) s = cond (eqb (byteTaken room b s .fault) 0) (scan room bs 
 abbrev pub readNumbers : ℕ → List ℕ → Scan
 readNumbers room text = scan room text begin
 
--- what is said of the numbers of a text: N, W, the value's W words, the log
-abbrev pub judgedNumbers : List ℕ → Verdict
-judgedNumbers ns = judged (getD ns 0 0) (getD ns 1 0) (take (getD ns 1 0) (drop 2 ns)) (drop (getD ns 1 0) (drop 2 ns))
+-- what is said of the numbers of a text, and why: N, W, the value's W words, the log
+abbrev pub judgedNumbers : List ℕ → Judgement
+judgedNumbers ns = judgedWithReason (getD ns 0 0) (getD ns 1 0) (take (getD ns 1 0) (drop 2 ns)) (drop (getD ns 1 0) (drop 2 ns))

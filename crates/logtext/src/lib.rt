@@ -1,10 +1,12 @@
-// The text of a log: its numbers, read into lent memory, and what the judge says of them.
+// The text of a log: its numbers, read into lent memory, where they stand, and what the judge says of them.
+pub mod places;
+
 ghost use mathlib.Core.Path.{_≡_};
 ghost use Prim.Native.Nat.{_≤_, _<_};
 ghost use lib.ListN.{length};
 ghost use Rattle.logtext.specs.Numbers.{isGap, judgedNumbers};
 ghost use Rattle.logtext.specs.Readings.{Closed, ByteRead, TextRead, stoppedAt, digitRead};
-use verdicts::Verdict;
+use verdicts::Judgement;
 
 pub const STRAY_BYTE: u8 = 1;
 
@@ -77,7 +79,7 @@ fn close(r: Reading, numbers: &mut [u64]) -> Reading
     }
 }
 
-fn is_gap(b: u8) -> bool
+pub fn is_gap(b: u8) -> bool
     ensures { λ r. ⌜ r ≡ isGap b ⌝ }
 {
     if b == b' ' {
@@ -130,8 +132,8 @@ pub fn read(text: &[u8], numbers: &mut [u64]) -> Reading
     close(r, numbers)
 }
 
-// What the judge says of the numbers of a text.
-pub fn judge_numbers(numbers: &[u64]) -> Verdict
+// What the judge says of the numbers of a text, and why.
+pub fn judge_numbers(numbers: &[u64]) -> Judgement
     requires { ⌜ 2 ≤ length (now numbers) ⌝ }
     ensures { λ r. ⌜ r ≡ judgedNumbers (now (numbers .entry)) ⌝ }
 {
@@ -139,7 +141,7 @@ pub fn judge_numbers(numbers: &[u64]) -> Verdict
     let w = numbers[1] as usize;
     let rest = &numbers[2..];
     if rest.len() < w {
-        return judging::judge(n, w, rest, &rest[rest.len()..]);
+        return reasons::judge_with_reason(n, w, rest, &rest[rest.len()..]);
     }
-    judging::judge(n, w, &rest[..w], &rest[w..])
+    reasons::judge_with_reason(n, w, &rest[..w], &rest[w..])
 }

@@ -6,23 +6,17 @@ use borrow.Author.Needs.{needs}
 use Rattle.judge.proofs.answer.Statement.{statement}
 use Rattle.judge.proofs.answer.Tie as tie
 
-slice-aggregate-write-all : tie.Need-slice-aggregate-write-all
-slice-aggregate-write-all c = search needs
-
-write-all-requires : tie.Need-write-all-requires
-write-all-requires c κs = search needs
+lacks-n-and-w-requires : tie.Need-lacks-n-and-w-requires
+lacks-n-and-w-requires c κs = search needs
 
 returns : tie.Need-returns
 returns c = search needs
 
-slice-aggregate-judge-numbers : tie.Need-slice-aggregate-judge-numbers
-slice-aggregate-judge-numbers c = sym (length-take-le _ _ (search needs))
+slice-aggregate-judged : tie.Need-slice-aggregate-judged
+slice-aggregate-judged c = sym (length-take-le _ _ (search needs))
 
-judge-numbers-requires : tie.Need-judge-numbers-requires
-judge-numbers-requires c κs = let a = c .before .before .before .before .args in let z = length-take-le (a .count) (a .numbers .now) (search needs) in omega (arith, z)
-
-print-requires : tie.Need-print-requires
-print-requires c κs = search needs
+judged-requires : tie.Need-judged-requires
+judged-requires c κs = let a = c .before .before .before .before .before .args in let z = length-take-le (a .count) (a .numbers .now) (search needs) in omega (arith, z)
 
 returns-2 : tie.Need-returns-2
 returns-2 c = search needs
@@ -34,11 +28,9 @@ pub answer-spec : {M : Type 1} → statement M
 answer-spec =
     tie.close
     (tie.spec
-    slice-aggregate-write-all
-    write-all-requires
+    lacks-n-and-w-requires
     returns
-    slice-aggregate-judge-numbers
-    judge-numbers-requires
-    print-requires
+    slice-aggregate-judged
+    judged-requires
     returns-2
     returns-3)

@@ -21,44 +21,44 @@ part-rest-start c = search needs
 part-rest-end : tie.Need-part-rest-end
 part-rest-end c = search needs
 
-mul-judge : tie.Need-mul-judge
-mul-judge c = search needs
+mul-judge-with-reason : tie.Need-mul-judge-with-reason
+mul-judge-with-reason c = search needs
 
-sub-judge : tie.Need-sub-judge
-sub-judge c = search needs
+sub-judge-with-reason : tie.Need-sub-judge-with-reason
+sub-judge-with-reason c = search needs
 
-part-judge-start : tie.Need-part-judge-start
-part-judge-start c = search needs
+part-judge-with-reason-start : tie.Need-part-judge-with-reason-start
+part-judge-with-reason-start c = search needs
 
-part-judge-end : tie.Need-part-judge-end
-part-judge-end c = search needs
+part-judge-with-reason-end : tie.Need-part-judge-with-reason-end
+part-judge-with-reason-end c = search needs
 
-judge-requires : tie.Need-judge-requires
-judge-requires c κs = search needs
+judge-with-reason-requires : tie.Need-judge-with-reason-requires
+judge-with-reason-requires c κs = search needs
 
 returns : tie.Need-returns
-returns c = judged-short (c .before .before .before .before .before .before .before .args .numbers .now) (search needs) _ (c .judge .ensures)
+returns c = judged-short (c .before .before .before .before .before .before .before .args .numbers .now) (search needs) _ (c .judge-with-reason .ensures)
 
-slice-aggregate-judge : tie.Need-slice-aggregate-judge
-slice-aggregate-judge c = sym (length-take-le _ _ (search needs))
+slice-aggregate-judge-with-reason : tie.Need-slice-aggregate-judge-with-reason
+slice-aggregate-judge-with-reason c = sym (length-take-le _ _ (search needs))
 
-mul-judge-2 : tie.Need-mul-judge-2
-mul-judge-2 c = search needs
+mul-judge-with-reason-2 : tie.Need-mul-judge-with-reason-2
+mul-judge-with-reason-2 c = search needs
 
-sub-judge-2 : tie.Need-sub-judge-2
-sub-judge-2 c = search needs
+sub-judge-with-reason-2 : tie.Need-sub-judge-with-reason-2
+sub-judge-with-reason-2 c = search needs
 
-part-judge-start-2 : tie.Need-part-judge-start-2
-part-judge-start-2 c = search needs
+part-judge-with-reason-start-2 : tie.Need-part-judge-with-reason-start-2
+part-judge-with-reason-start-2 c = search needs
 
-part-judge-end-2 : tie.Need-part-judge-end-2
-part-judge-end-2 c = search needs
+part-judge-with-reason-end-2 : tie.Need-part-judge-with-reason-end-2
+part-judge-with-reason-end-2 c = search needs
 
-judge-requires-2 : tie.Need-judge-requires-2
-judge-requires-2 c κs = search needs
+judge-with-reason-requires-2 : tie.Need-judge-with-reason-requires-2
+judge-with-reason-requires-2 c κs = search needs
 
 returns-2 : tie.Need-returns-2
-returns-2 c = judged-whole (c .before .before .before .before .before .before .before .before .args .numbers .now) (search needs) _ (c .judge2 .ensures)
+returns-2 c = judged-whole (c .before .before .before .before .before .before .before .before .args .numbers .now) (search needs) _ (c .judge-with-reason2 .ensures)
 
 pub judge-numbers-spec : {M : Type 1} → statement M
 judge-numbers-spec =
@@ -69,16 +69,16 @@ judge-numbers-spec =
     sub-rest
     part-rest-start
     part-rest-end
-    mul-judge
-    sub-judge
-    part-judge-start
-    part-judge-end
-    judge-requires
+    mul-judge-with-reason
+    sub-judge-with-reason
+    part-judge-with-reason-start
+    part-judge-with-reason-end
+    judge-with-reason-requires
     returns
-    slice-aggregate-judge
-    mul-judge-2
-    sub-judge-2
-    part-judge-start-2
-    part-judge-end-2
-    judge-requires-2
+    slice-aggregate-judge-with-reason
+    mul-judge-with-reason-2
+    sub-judge-with-reason-2
+    part-judge-with-reason-start-2
+    part-judge-with-reason-end-2
+    judge-with-reason-requires-2
     returns-2)

@@ -3,13 +3,15 @@
 //! SC's or VL's 1 or 0, moment, words.
 
 mod logger;
+mod reason;
 mod samples;
 mod text;
 mod verdict;
 
 pub use logger::{log_of_schedule, Logger, PLACES};
+pub use reason::{reason, Reason};
 pub use samples::{bench_log, sample, Sample, SPOILT};
-pub use text::{read, written, Fault};
+pub use text::{line_of, read, written, Fault};
 pub use verdict::{judge, Verdict, MOST_CALLS};
 
 /// What a judge is given.

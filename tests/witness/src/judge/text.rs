@@ -51,6 +51,18 @@ fn end(numbers: &mut Vec<u64>, open: Option<u64>) -> Result<(), Fault> {
     Ok(())
 }
 
+/// The line, from 1 on, of the number of an index.
+pub fn line_of(text: &str, index: usize) -> usize {
+    let mut passed = 0;
+    for (number, line) in (1..).zip(text.lines()) {
+        passed += line.split_whitespace().count();
+        if passed > index {
+            return number;
+        }
+    }
+    text.lines().count()
+}
+
 /// A line for N and W, one for the value, one for each call.
 pub fn written(log: &Log) -> String {
     let line = |numbers: &[u64]| {

@@ -55,18 +55,18 @@ fn refusal(log: &Log) -> Option<u8> {
     None
 }
 
-struct Call<'a> {
-    process: usize,
-    kind: u64,
-    start: u64,
-    answer: u64,
-    truth: u64,
-    moment: u64,
-    words: &'a [u64],
+pub(super) struct Call<'a> {
+    pub process: usize,
+    pub kind: u64,
+    pub start: u64,
+    pub answer: u64,
+    pub truth: u64,
+    pub moment: u64,
+    pub words: &'a [u64],
 }
 
 impl Call<'_> {
-    fn of(numbers: &[u64]) -> Call<'_> {
+    pub fn of(numbers: &[u64]) -> Call<'_> {
         Call {
             process: numbers[0] as usize,
             kind: numbers[1],
