@@ -10,6 +10,6 @@ mod schedules;
 mod texts;
 
 pub use board_files::{merge, run_board, BoardRun};
-pub use logs::{judge, Verdict};
+pub use logs::{judge, judge_with_reason, Object, Reason, Verdict};
 pub use schedules::{number_for, schedule_after, schedule_for, Schedule};
 pub use texts::{run_text, trace_text, TextRun};

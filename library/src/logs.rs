@@ -82,7 +82,10 @@ impl fmt::Display for Reason {
                 write!(to, "condition 4: the moment of call {call} is outside it")
             }
             Reason::Answer { call, object } => {
-                write!(to, "condition 5: call {call}: Figure 1's object answers {object}")
+                write!(
+                    to,
+                    "condition 5: call {call}: Figure 1's object answers {object}"
+                )
             }
             Reason::NoLl(call) => write!(to, "condition 6: call {call} has no LL before it"),
         }
@@ -158,11 +161,14 @@ fn verdict(number: u8, yes: bool) -> Verdict {
 pub fn judge_with_reason(n: usize, w: usize, value: &[u64], log: &[u64]) -> (Verdict, Reason) {
     let (values, numbers) = (value.len(), log.len());
     // SAFETY: pointer and count are those of slices
-    let said = unsafe {
-        besklaun_judge_with_reason(n, w, value.as_ptr(), values, log.as_ptr(), numbers)
-    };
+    let said =
+        unsafe { besklaun_judge_with_reason(n, w, value.as_ptr(), values, log.as_ptr(), numbers) };
     // an LL is told by its kind, the second number of its call
-    let kind = log.get(said.call.saturating_mul(w.saturating_add(6)).saturating_add(1));
+    let kind = log.get(
+        said.call
+            .saturating_mul(w.saturating_add(6))
+            .saturating_add(1),
+    );
     (
         verdict(said.number, said.yes),
         reason(&said, kind == Some(&1)),

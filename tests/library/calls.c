@@ -52,6 +52,36 @@ static void logs(void)
     expect(judged(besklaun_judge(2, 1, NULL, 0, NULL, 0), 8, false), "no value is 8");
 }
 
+static bool told(struct besklaun_reasoned said, unsigned condition, size_t call, size_t other, bool given, bool truth)
+{
+    return said.condition == condition && said.call == call && said.other == other && said.given == given
+           && said.truth == truth && (condition == 0 || (said.number == 0 && !said.yes));
+}
+
+static void reasons(void)
+{
+    uint64_t log[28];
+    struct besklaun_reasoned said = besklaun_judge_with_reason(2, 1, value, 1, shown, 28);
+    expect(told(said, 0, 0, 0, false, false) && said.yes && said.number == 0, "a yes has no reason");
+    memcpy(log, shown, sizeof log);
+    log[20] = 5;
+    said = besklaun_judge_with_reason(2, 1, value, 1, log, 28);
+    expect(told(said, 5, 2, 1, false, false), "call 2 should have shown the words of call 1");
+    log[6] = 6;
+    said = besklaun_judge_with_reason(2, 1, value, 1, log, 28);
+    expect(told(said, 5, 0, 0, true, false), "call 0 comes first and should have shown the value");
+    log[12] = log[9];
+    log[19] = log[9];
+    said = besklaun_judge_with_reason(2, 1, value, 1, log, 28);
+    expect(told(said, 3, 1, 2, false, false), "calls 1 and 2 have one moment");
+    said = besklaun_judge_with_reason(1, 1, value, 1, shown, 28);
+    expect(told(said, 0, 2, 0, false, false) && said.number == 4, "the process of call 2 is unknown");
+    said = besklaun_judge_with_reason(2, 1, value, 1, shown, 27);
+    expect(told(said, 0, 3, 0, false, false) && said.number == 8, "call 3 is cut off");
+    said = besklaun_judge_with_reason(2, 1, NULL, 0, NULL, 0);
+    expect(told(said, 0, 0, 0, true, false) && said.number == 8, "the value is not there");
+}
+
 static bool ran(struct besklaun_text_run run, unsigned number, size_t entries, size_t written)
 {
     return run.number == number && run.entries == entries && run.written == written;
@@ -218,6 +248,7 @@ int main(int count, char **given)
         return run_given(given[1]);
     }
     logs();
+    reasons();
     texts();
     schedules();
     board_files();

@@ -41,9 +41,8 @@ fn process(call: usize, numbers: &[u64], text: &[u8]) {
 fn cut_off(reason: Reason, numbers: &[u64], text: &[u8]) {
     let w = calls::width(numbers);
     if reason.given {
-        say::say(b"the text ends within the value, of ");
+        say::say(b"the text ends within the value; W is ");
         say::number(w as u64);
-        say::say(b" words");
         return;
     }
     calls::line(numbers, reason.call, text);

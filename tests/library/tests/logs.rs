@@ -4,7 +4,7 @@
 use std::collections::BTreeSet;
 use std::thread;
 
-use besklaun::{judge, Verdict};
+use besklaun::{judge, judge_with_reason, Object, Reason, Verdict};
 use witness::judge::{self as separately, bench_log, sample};
 
 /// The log that docs/JUDGE.md shows, of two processes and one word that
@@ -76,6 +76,82 @@ fn as_the_separately_written_judge() {
     assert_eq!(seen.len(), 8, "verdicts seen: {seen:?}");
 }
 
+#[test]
+fn reasons() {
+    let why = |calls: &[[u64; 7]]| judge_with_reason(2, 1, &[5], calls.as_flattened());
+    assert_eq!(why(&SHOWN), (Verdict::Yes, Reason::None));
+    let mut old_value = SHOWN;
+    old_value[2][6] = 5;
+    let object = Object::WordsOf(1);
+    let expected = Reason::Answer { call: 2, object };
+    assert_eq!(why(&old_value), (Verdict::No, expected));
+    let said = "condition 5: call 2: Figure 1's object answers the words of call 1";
+    assert_eq!(expected.to_string(), said);
+    let mut first = SHOWN;
+    first[0][6] = 6;
+    let object = Object::Value;
+    let expected = Reason::Answer { call: 0, object };
+    assert_eq!(why(&first), (Verdict::No, expected));
+    let mut linked = SHOWN;
+    linked[3][4] = 1;
+    let object = Object::Truth(false);
+    let expected = Reason::Answer { call: 3, object };
+    assert_eq!(why(&linked), (Verdict::No, expected));
+    let none = (Verdict::Refused(8), Reason::Value);
+    assert_eq!(judge_with_reason(2, 1, &[], &[]), none);
+    let huge = judge_with_reason(2, usize::MAX, &[5], SHOWN.as_flattened());
+    assert_eq!(huge, (Verdict::Refused(2), Reason::None));
+}
+
+/// Condition, calls, and what the object answers, on thousands of logs.
+#[test]
+fn reasons_as_the_separately_written_judge() {
+    let mut seen = BTreeSet::new();
+    for index in 0..4000 {
+        let sample = sample(8, index);
+        let log = &sample.log;
+        let (verdict, reason) =
+            judge_with_reason(log.n as usize, log.w as usize, &log.value, &log.numbers);
+        let expected = separately::reason(log);
+        let what = format!("log {index}: {}: {reason}", sample.what);
+        assert_eq!(shown(verdict), separately::judge(log).to_string(), "{what}");
+        assert_eq!(reason.condition(), expected.condition, "{what}");
+        assert_eq!(reason.condition() != 0, verdict == Verdict::No, "{what}");
+        // the 513th call is told by the number alone
+        if verdict != Verdict::Refused(16) {
+            assert_eq!(calls_of(reason), expected.calls, "{what}");
+        }
+        assert_eq!(object_of(reason, log), expected.object, "{what}");
+        seen.insert(reason.condition());
+    }
+    assert_eq!(seen.len(), 7, "conditions seen: {seen:?}");
+}
+
+fn calls_of(reason: Reason) -> Vec<usize> {
+    match reason {
+        Reason::None | Reason::Value => vec![],
+        Reason::Overlap(a, b) | Reason::Moment(a, b) => vec![a, b],
+        Reason::Call(call) | Reason::Kind(call) | Reason::Outside(call) | Reason::NoLl(call) => {
+            vec![call]
+        }
+        Reason::Answer { call, .. } => vec![call],
+    }
+}
+
+fn object_of(reason: Reason, log: &separately::Log) -> Vec<u64> {
+    let Reason::Answer { object, .. } = reason else {
+        return vec![];
+    };
+    match object {
+        Object::Value => log.value.clone(),
+        Object::WordsOf(call) => {
+            let width = 6 + log.w as usize;
+            log.numbers[call * width + 6..(call + 1) * width].to_vec()
+        }
+        Object::Truth(truth) => vec![u64::from(truth)],
+    }
+}
+
 /// The stack that besklaun.h names.
 #[test]
 fn stack() {
@@ -83,6 +159,11 @@ fn stack() {
     let small = thread::Builder::new().stack_size(64 * 1024);
     let judged = small.spawn(move || judge(16, 64, &log.value, &log.numbers));
     assert_eq!(judged.unwrap().join().unwrap(), Verdict::Yes);
+    let log = bench_log(512, 64);
+    let small = thread::Builder::new().stack_size(64 * 1024);
+    let judged = small.spawn(move || judge_with_reason(16, 64, &log.value, &log.numbers));
+    let expected = (Verdict::Yes, Reason::None);
+    assert_eq!(judged.unwrap().join().unwrap(), expected);
 }
 
 fn shown(verdict: Verdict) -> String {

@@ -95,7 +95,10 @@ pub fn compare(program: &str, seed: u64, count: u64, file: &str) -> Result<u8, S
         return Ok(1);
     }
     let conditions = &conditions[1..];
-    print(format!("judged {count} logs alike: {verdicts:?}, by condition {conditions:?}\n").as_bytes())
+    print(
+        format!("judged {count} logs alike: {verdicts:?}, by condition {conditions:?}\n")
+            .as_bytes(),
+    )
 }
 
 /// A history with its own moments earns a yes, whatever either judge says.

@@ -65,9 +65,8 @@ fn reason_of_no(log: &Log) -> Reason {
         return found;
     }
     let unled = one(&|call| {
-        let leads = |ll: &Call| {
-            ll.kind == 1 && ll.process == call.process && ll.moment < call.moment
-        };
+        let leads =
+            |ll: &Call| ll.kind == 1 && ll.process == call.process && ll.moment < call.moment;
         call.kind != 1 && !calls.iter().any(leads)
     });
     Reason {
