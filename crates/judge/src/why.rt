@@ -114,9 +114,7 @@ fn held(reason: Reason, numbers: &[u64], text: &[u8]) {
         return;
     }
     calls::words(numbers, calls::first_of(numbers, reason.other) + 6);
-    say::say(b", written by ");
-    calls::name(numbers, reason.other);
-    say::say(b" of ");
+    say::say(b", written by the SC of ");
     calls::line(numbers, reason.other, text);
 }
 
