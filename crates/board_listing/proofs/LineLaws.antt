@@ -1,18 +1,17 @@
 -- The last line of a board's run: seven digits of commands done, two of a refusal.
-use mathlib.Core.Path.{_≡_, ap, _∙_}
 use mathlib.Core.List.{List, _∷_, [], _++_}
 use Prim.Native.Nat.{ℕ, _+_, _≤_}
 use native.Mathlib.Omega.{arith}
 use lib.ListN.{length}
-use lib.Seq.{sets}
-use borrow.Author.Tests.{eq-eqb, ne-eqb}
 use Rattle.listing.specs.Decimal.{decimal, tens}
 use Rattle.listing.specs.Lines.{space, lineFeed, endLine, refusedLine}
-use Rattle.listing.specs.Writing.{Room, Wrote}
+use Rattle.listing.specs.Writing.{Room}
 use Rattle.listing.proofs.DecimalLaws.{at-most}
 use Rattle.listing.proofs.Lengths.{joined}
 use Rattle.entry.specs.declared.state.Run.{Run}
-use Rattle.board_listing.specs.ListedRun.{Closable, lastOf, withWritten, closed}
+use Rattle.run.specs.Finished.{lastOf}
+use Rattle.run.proofs.LastLaws.{last-room}
+use Rattle.board_listing.specs.ListedRun.{Closable}
 
 done-digits : (e : ℕ) → e ≤ 9999999 → length (decimal e) ≤ 7
 unfolding tens
@@ -33,23 +32,7 @@ refused-length : (c e : ℕ) → c ≤ 99 → e ≤ 9999999 → length (refusedL
 unfolding refusedLine
 refused-length c e k h = omega (arith, joined (decimal c) (space ∷ (decimal e ++ lineFeed ∷ [])) 2 9 (cause-digits c k) (omega (arith, with-feed e h)))
 
-module _ {r : Run} {l : List ℕ} (x : Closable r l) where
-  pub end-room : Room l (r .written) (endLine (r .entries))
-  end-room = record { fits = omega (arith, x .room, end-length (r .entries) (x .entries)) }
-
-  pub refused-room : Room l (r .written) (refusedLine (r .stop) (r .entries))
-  refused-room = record { fits = omega (arith, x .room, refused-length (r .stop) (r .entries) (x .stop) (x .entries)) }
-
-module _ (r : Run) (l l′ : List ℕ) {next : ℕ} {out : Run} where
-  with-last : (z : List ℕ) → z ≡ lastOf r → Wrote l (r .written) z l′ next → out ≡ withWritten r next → _≡_ {A = Run × List ℕ} (out, l′) (closed r l)
-  with-last z e w o =
-      let p : next ≡ r .written + length (lastOf r) = w .place ∙ ap (λ (y : List ℕ). r .written + length y) e in
-      let q : l′ ≡ sets l (r .written) (lastOf r) = w .list ∙ ap (λ (y : List ℕ). sets l (r .written) y) e in
-      ap (λ (y : Run). (y, l′)) (o ∙ ap (withWritten r) p) ∙ ap (λ (y : List ℕ). (withWritten r (r .written + length (lastOf r)), y)) q
-
-  pub end-closed : r .stop ≡ 0 → Wrote l (r .written) (endLine (r .entries)) l′ next → out ≡ withWritten r next → _≡_ {A = Run × List ℕ} (out, l′) (closed r l)
-  end-closed z w o = with-last (endLine (r .entries)) (simp (eq-eqb (r .stop) 0 z)) w o
-
-  pub refused-closed : (r .stop ≡ 0 → ⊥) → Wrote l (r .written) (refusedLine (r .stop) (r .entries)) l′ next
-      → out ≡ withWritten r next → _≡_ {A = Run × List ℕ} (out, l′) (closed r l)
-  refused-closed n w o = with-last (refusedLine (r .stop) (r .entries)) (simp (ne-eqb (r .stop) 0 n)) w o
+pub closable-room : {r : Run} {l : List ℕ} → Closable r l → Room l (r .written) (lastOf r)
+closable-room {r} x =
+    let short = last-room r 19 (omega (arith, end-length (r .entries) (x .entries))) (refused-length (r .stop) (r .entries) (x .stop) (x .entries)) in
+    record { fits = omega (arith, x .room, short) }

@@ -4,15 +4,13 @@
 use mathlib.Core.Path.{_≡_}
 use Prim.Native.Nat.{ℕ, _+_, _≤_}
 use mathlib.Core.List.{List}
-use mathlib.Core.Bool.{Bool, false, cond}
-use lib.Dec.{eqb}
+use mathlib.Core.Bool.{false}
 use lib.ListN.{length, replicate}
 use lib.Seq.{sets}
 use Rattle.boards.specs.Files.{BoardRecord}
-use Rattle.listing.specs.Lines.{endLine, refusedLine}
 use Rattle.entry.specs.declared.state.Run.{Run}
 use Rattle.entry.specs.RunState.{RunState, stateOf, progress, Sound}
-use Rattle.run.specs.Finished.{memoryOf}
+use Rattle.run.specs.Finished.{memoryOf, lastOf}
 use Rattle.semantics.specs.TextRun.{Progress, Ended}
 use Rattle.model.specs.Machine.{Memory}
 use Rattle.model.specs.SetUp.{setUp}
@@ -51,9 +49,6 @@ pub record Closable (r : Run) (list : List ℕ) : Type 0 where
   pub entries : r .entries ≤ 9999999
   pub stop : r .stop ≤ 99
   pub room : r .written + lastRoom ≤ length list
-
-abbrev pub lastOf : Run → List ℕ
-lastOf r = cond (eqb (r .stop) 0) (endLine (r .entries)) (refusedLine (r .stop) (r .entries))
 
 abbrev pub withWritten : Run → ℕ → Run
 withWritten r k = record { bench = r .bench; all = r .all; written = k; entries = r .entries; stop = r .stop; traced = r .traced }

@@ -2,6 +2,7 @@
 ghost use mathlib.Core.Path.{_≡_};
 ghost use Rattle.board_listing.specs.ListedRun.{Closable, withWritten, closed};
 use entry::state::Run;
+use run::last_line;
 
 fn with_written(run: Run, written: usize) -> Run
     ensures { λ r. ⌜ r ≡ withWritten run written ⌝ }
@@ -16,12 +17,6 @@ pub fn close(run: Run, list: &mut [u8]) -> Run
     requires { ⌜ Closable run (now list) ⌝ }
     ensures { λ r. ⌜ (r, now (list .exit)) ≡ closed run (now (list .entry)) ⌝ }
 {
-    let entries = run.entries as u64;
-    let stop = run.stop as u64;
-    if stop == 0 {
-        let next = listing::end_line(list, run.written, entries);
-        return with_written(run, next);
-    }
-    let next = listing::refused_line(list, run.written, stop, entries);
+    let next = last_line::write(run, list);
     with_written(run, next)
 }

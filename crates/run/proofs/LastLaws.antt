@@ -1,38 +1,48 @@
 -- The last line of a text run.
-use mathlib.Core.Path.{_≡_, ap, _∙_}
+use mathlib.Core.Path.{_≡_, sym, ap, subst, _∙_}
 use mathlib.Core.List.{List}
-use Prim.Native.Nat.{ℕ, _+_}
+use mathlib.Core.Bool.{Bool, true, false, cond}
+use Prim.Native.Nat.{ℕ, _+_, _≤_}
 use native.Mathlib.Omega.{arith}
+use lib.Dec.{eqb}
 use lib.ListN.{length}
 use lib.Seq.{sets}
 use borrow.Author.Tests.{eq-eqb, ne-eqb}
 use Rattle.listing.specs.Lines.{endLine, refusedLine}
 use Rattle.listing.specs.Writing.{Room, Wrote}
 use Rattle.listing.proofs.Lengths.{end-length, refused-length}
-use Rattle.positions.specs.declared.StopReport.{StopReport}
 use Rattle.entry.specs.declared.state.Run.{Run}
-use Rattle.run.specs.declared.last_line.Finished.{Finished}
-use Rattle.run.specs.Finished.{finishedOf, lastOf, closed, Closable}
+use Rattle.run.specs.Finished.{lastOf, Closable}
 
-module _ {r : Run} {l : List ℕ} (x : Closable r l) where
-  pub end-room : Room l (r .written) (endLine (r .entries))
-  end-room = record { fits = omega (arith, x .room, end-length (r .entries) (x .entries)) }
+-- the last line by whether the run is stopped
+pub last-end : (r : Run) → r .stop ≡ 0 → endLine (r .entries) ≡ lastOf r
+last-end r z = simp (eq-eqb (r .stop) 0 z)
 
-  pub refused-room : Room l (r .written) (refusedLine (r .stop) (r .entries))
-  refused-room = record { fits = omega (arith, x .room, refused-length (r .stop) (r .entries) (x .stop) (x .entries)) }
+pub last-refused : (r : Run) → (r .stop ≡ 0 → ⊥) → refusedLine (r .stop) (r .entries) ≡ lastOf r
+last-refused r n = simp (ne-eqb (r .stop) 0 n)
 
-module _ (r : Run) (l l′ : List ℕ) {stored next : ℕ} {report : StopReport} {out : Finished} where
-  with-last : (z : List ℕ) → z ≡ lastOf r → Wrote l (r .written) z l′ next → out ≡ finishedOf r stored report next
-      → _≡_ {A = Finished × List ℕ} (out, l′) (closed r stored report l)
-  with-last z e w o =
-      let p : next ≡ r .written + length (lastOf r) = w .place ∙ ap (λ (y : List ℕ). r .written + length y) e in
-      let q : l′ ≡ sets l (r .written) (lastOf r) = w .list ∙ ap (λ (y : List ℕ). sets l (r .written) y) e in
-      ap (λ (y : Finished). (y, l′)) (o ∙ ap (finishedOf r stored report) p) ∙ ap (λ (y : List ℕ). (finishedOf r stored report (r .written + length (lastOf r)), y)) q
+-- the same bytes by another name
+pub room-as : {l bs cs : List ℕ} {at : ℕ} → cs ≡ bs → Room l at bs → Room l at cs
+room-as {l} {at = at} e = subst (Room l at) (sym e)
 
-  pub end-closed : r .stop ≡ 0 → Wrote l (r .written) (endLine (r .entries)) l′ next → out ≡ finishedOf r stored report next
-      → _≡_ {A = Finished × List ℕ} (out, l′) (closed r stored report l)
-  end-closed z w o = with-last (endLine (r .entries)) (simp (eq-eqb (r .stop) 0 z)) w o
+pub wrote-as : {l l′ bs cs : List ℕ} {at next : ℕ} → bs ≡ cs → Wrote l at bs l′ next → Wrote l at cs l′ next
+wrote-as {l} {l′} {at = at} {next = next} e = subst (λ (y : List ℕ). Wrote l at y l′ next) e
 
-  pub refused-closed : (r .stop ≡ 0 → ⊥) → Wrote l (r .written) (refusedLine (r .stop) (r .entries)) l′ next
-      → out ≡ finishedOf r stored report next → _≡_ {A = Finished × List ℕ} (out, l′) (closed r stored report l)
-  refused-closed n w o = with-last (refusedLine (r .stop) (r .entries)) (simp (ne-eqb (r .stop) 0 n)) w o
+-- there is room for it where there is room for either
+pub last-room : (r : Run) (most : ℕ) → length (endLine (r .entries)) ≤ most → length (refusedLine (r .stop) (r .entries)) ≤ most → length (lastOf r) ≤ most
+last-room r most e f = pick (eqb (r .stop) 0)
+  where
+    pick : (t : Bool) → length (cond t (endLine (r .entries)) (refusedLine (r .stop) (r .entries))) ≤ most
+    pick true = e
+    pick false = f
+
+pub closable-room : {r : Run} {l : List ℕ} → Closable r l → Room l (r .written) (lastOf r)
+closable-room {r} x =
+    let short = last-room r 17 (omega (arith, end-length (r .entries) (x .entries))) (refused-length (r .stop) (r .entries) (x .stop) (x .entries)) in
+    record { fits = omega (arith, x .room, short) }
+
+-- what is made of the place after some bytes that were written, and the list with them
+pub with-written : {A : Type 0} (f : ℕ → A) {l l′ bs : List ℕ} {at next : ℕ} {out : A} → Wrote l at bs l′ next → out ≡ f next
+    → _≡_ {A = A × List ℕ} (out, l′) (f (at + length bs), sets l at bs)
+with-written f {l} {l′} {bs} {at} w o =
+    ap (λ y. (y, l′)) (o ∙ ap f (w .place)) ∙ ap (λ (y : List ℕ). (f (at + length bs), y)) (w .list)

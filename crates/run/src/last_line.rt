@@ -1,7 +1,8 @@
 // The end of a text run: its last line and what it returns.
 ghost use mathlib.Core.Path.{_≡_};
 ghost use Rattle.semantics.specs.StopPlaces.{atNoEntry};
-ghost use Rattle.run.specs.Finished.{freshRun, finishedOf, closed, Closable};
+ghost use Rattle.listing.specs.Writing.{Room, Wrote};
+ghost use Rattle.run.specs.Finished.{freshRun, finishedOf, lastOf, closed, Closable};
 use entry::state::Run;
 use model::Bench;
 use positions::StopReport;
@@ -62,17 +63,24 @@ pub fn returned(run: Run, stored: usize, report: StopReport, written: usize) -> 
     }
 }
 
-// "The last line is `end E` or `refused C E`".
-pub fn ended(run: Run, stored: usize, report: StopReport, list: &mut [u8]) -> Finished
-    requires { ⌜ Closable run (now list) ⌝ }
-    ensures { λ r. ⌜ (r, now (list .exit)) ≡ closed run stored report (now (list .entry)) ⌝ }
+// "The last line is `end E` or `refused C E`", and the place after it.
+pub fn write(run: Run, list: &mut [u8]) -> usize
+    requires { ⌜ Room (now list) (run .written) (lastOf run) ⌝ }
+    ensures { λ r. ⌜ Wrote (now (list .entry)) (run .written) (lastOf run) (now (list .exit)) r ⌝ }
 {
     let entries = run.entries as u64;
     let stop = run.stop as u64;
     if stop == 0 {
-        let next = listing::end_line(list, run.written, entries);
-        return returned(run, stored, report, next);
+        return listing::end_line(list, run.written, entries);
     }
-    let next = listing::refused_line(list, run.written, stop, entries);
+    listing::refused_line(list, run.written, stop, entries)
+}
+
+// A run with its last line.
+pub fn ended(run: Run, stored: usize, report: StopReport, list: &mut [u8]) -> Finished
+    requires { ⌜ Closable run (now list) ⌝ }
+    ensures { λ r. ⌜ (r, now (list .exit)) ≡ closed run stored report (now (list .entry)) ⌝ }
+{
+    let next = write(run, list);
     returned(run, stored, report, next)
 }

@@ -1,14 +1,12 @@
--- `run::last_line::ended`: "The last line is `end E` or `refused C E`".
+-- `run::last_line::ended`: the last line, and what the run returns.
 use borrow.Author.Needs.{needs}
-use Rattle.run.proofs.LastLaws.{end-room, refused-room, end-closed, refused-closed}
+use Rattle.run.specs.Finished.{finishedOf}
+use Rattle.run.proofs.LastLaws.{closable-room, with-written}
 use Rattle.run.proofs.last_line.ended.Statement.{statement}
 use Rattle.run.proofs.last_line.ended.Tie as tie
 
-cast-stop : tie.Need-cast-stop
-cast-stop c = search needs
-
-end-line-requires : tie.Need-end-line-requires
-end-line-requires c κs = end-room (c .before .before .before .before .pre)
+write-requires : tie.Need-write-requires
+write-requires c κs = closable-room (c .before .before .pre)
 
 returned-requires : tie.Need-returned-requires
 returned-requires c κs = search needs
@@ -18,33 +16,8 @@ same-length c = search needs
 
 returns : tie.Need-returns
 returns c =
-    let c3 = c .before .before .before in let c5 = c3 .before .before in let c8 = c5 .before .before .before in
-    end-closed (c8 .args .run) _ _ (c5 .if1 .taken) (c3 .end-line .ensures) (c .returned .ensures)
-
-refused-line-requires : tie.Need-refused-line-requires
-refused-line-requires c κs = refused-room (c .before .before .before .before .pre)
-
-returned-requires-2 : tie.Need-returned-requires-2
-returned-requires-2 c κs = search needs
-
-same-length-2 : tie.Need-same-length-2
-same-length-2 c = search needs
-
-returns-2 : tie.Need-returns-2
-returns-2 c =
-    let c3 = c .before .before .before in let c5 = c3 .before .before in let c8 = c5 .before .before .before in
-    refused-closed (c8 .args .run) _ _ (c5 .if1 .left) (c3 .refused-line .ensures) (c .returned2 .ensures)
+    let c3 = c .before .before .before in let a = c3 .before .before .before .args in
+    with-written (finishedOf (a .run) (a .stored) (a .report)) (c3 .write .ensures) (c .returned .ensures)
 
 pub ended-spec : {M : Type 1} → statement M
-ended-spec =
-    tie.close
-    (tie.spec
-    cast-stop
-    end-line-requires
-    returned-requires
-    same-length
-    returns
-    refused-line-requires
-    returned-requires-2
-    same-length-2
-    returns-2)
+ended-spec = tie.close (tie.spec write-requires returned-requires same-length returns)
