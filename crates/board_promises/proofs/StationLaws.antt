@@ -7,7 +7,7 @@ use native.Mathlib.Omega.{arith}
 use lib.Dec.{eqb, ltb}
 use lib.ListN.{length, replicate}
 use borrow.Author.Tests.{eqb-true, eqb-false, eq-eqb, ne-eqb}
-use Rattle.llsc.specs.declared.Order.{Order}
+use Rattle.llsc.specs.declared.Order.the-variants as orders
 use Rattle.llsc.specs.History.{Command}
 use Rattle.model.specs.declared.Reply.{Reply}
 use Rattle.model.specs.Machine.{Memory, obey}
@@ -35,7 +35,7 @@ unfolding command refusal obey
 same-command m r = go (eqb (r .order) 0) (eqb (r .order) 1) (eqb (r .order) 2)
   where
     go : (a b c : Bool) → let e = cond a (Step (r .process)) (cond b (StartLl (r .process)) (cond c (StartSc (r .process) (r .value)) (StartVl (r .process)))) in
-        let o = cond a Rattle.llsc.specs.declared.Order.the-variants.Step (cond b Rattle.llsc.specs.declared.Order.the-variants.StartLl (cond c Rattle.llsc.specs.declared.Order.the-variants.StartSc Rattle.llsc.specs.declared.Order.the-variants.StartVl)) in
+        let o = cond a orders.Step (cond b orders.StartLl (cond c orders.StartSc orders.StartVl)) in
         command m (processOf e) (text.orderOf e) (valueOf (m .bench .w) e) ≡ command m (r .process) o (replicate (m .bench .w) (r .value))
     go true b c = refl
     go false true c = refl
