@@ -1,2 +1,3 @@
 pub mod FailingLaws
 pub mod RefusedLaws
+pub mod ToldAnswers

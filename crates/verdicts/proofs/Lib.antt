@@ -1,4 +1,4 @@
 pub mod Needed
 pub mod RefusalOrder
-pub mod ReasonLaws
 pub mod ReasonExamples
+pub mod ReasonLaws

@@ -4,6 +4,7 @@ use mathlib.Core.List.{List, [], _∷_}
 use mathlib.Core.Bool.{Bool, true, false, not, _&&_, cond}
 use lib.Dec.{eqb, leb}
 use lib.ListN.{length}
+use Rattle.llsc.specs.Answers.{Answer, llWords, scTruth, vlTruth}
 use Rattle.llsc.specs.Object.{Object, fresh, tell, feed}
 use Rattle.llsc.specs.Rows.{some}
 use Rattle.verdicts.specs.declared.Reason.{Reason}
@@ -78,6 +79,16 @@ abbrev pub objectAnswers : Numbered → Object → Standing → Reason
 objectAnswers c o s = cond (eqb (c .entry .kind) 1)
     (record { condition = 5; call = c .index; other = s .call; given = s .given; truth = false })
     (record { condition = 5; call = c .index; other = 0; given = false; truth = o .link (c .entry .process) })
+
+-- what that says of the entry's call: the answer that the object gives
+abbrev pub wordsAt : ℕ → List Entry → List ℕ
+wordsAt k [] = []
+wordsAt zero (e ∷ es) = e .words
+wordsAt (suc k) (e ∷ es) = wordsAt k es
+
+abbrev pub answerTold : List ℕ → List Entry → Entry → Reason → Answer
+answerTold value es e r =
+    cond (eqb (e .kind) 1) (llWords (cond (r .given) value (wordsAt (r .other) es))) (cond (eqb (e .kind) 2) (scTruth (r .truth)) (vlTruth (r .truth)))
 
 -- "Figure 1's object .. answers each call alike in moment order": the first call, in the order of the list, that it does
 -- not, and what it answers there
