@@ -161,4 +161,5 @@ module _ (ns : List ℕ) where
   pub judged-short : length part < w → (r : Judgement) → r ≡ judgedWithReason (getD ns 0 0) w part (take (length part - length part) (drop (length part) part)) → r ≡ judgedNumbers ns
   judged-short h r e =
       let none : drop (length part) part ≡ drop w part = drop-of-length-le part {i = length part} (omega arith) ∙ sym (drop-of-length-le part {i = w} (omega arith)) in
-      e ∙ ap₂ (judgedWithReason (getD ns 0 0) w) (sym (take-all w part (omega arith))) (from (length part) part ∙ none) ∙ ap (λ ms. judgedWithReason (getD ns 0 0) w (take w ms) (drop w ms)) (from 2 ns)
+      e ∙ ap₂ (judgedWithReason (getD ns 0 0) w) (sym (take-all w part (omega arith))) (from (length part) part ∙ none)
+      ∙ ap (λ ms. judgedWithReason (getD ns 0 0) w (take w ms) (drop w ms)) (from 2 ns)

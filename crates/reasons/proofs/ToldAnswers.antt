@@ -149,7 +149,9 @@ module _ (value : List ℕ) (all : List Entry) where
 
   numbered-in : (k : ℕ) (es : List Entry) → ((j : ℕ) → wordsAt (j + k) all ≡ wordsAt j es) → All In (numbered k es)
   numbered-in k [] h = tt
-  numbered-in k (e ∷ es) h = (ap (λ i. wordsAt i all) (let z : k ≡ 0 + k = omega arith in z) ∙ h 0, numbered-in (suc k) es (λ j. ap (λ i. wordsAt i all) (let z : j + suc k ≡ suc j + k = omega arith in z) ∙ h (suc j)))
+  numbered-in k (e ∷ es) h =
+      let first = ap (λ i. wordsAt i all) (let z : k ≡ 0 + k = omega arith in z) ∙ h 0 in
+      (first, numbered-in (suc k) es (λ j. ap (λ i. wordsAt i all) (let z : j + suc k ≡ suc j + k = omega arith in z) ∙ h (suc j)))
 
 pub unlike-shown : (value : List ℕ) (es : List Entry) → none (notAlike (fresh value) inValue (numberedInOrder es)) ≡ false
     → Unlike value es (fresh value) (numberedInOrder es) (notAlike (fresh value) inValue (numberedInOrder es))

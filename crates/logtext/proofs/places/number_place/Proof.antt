@@ -30,7 +30,9 @@ is-last-requires : tie.Need-is-last-requires Inv-loop μ-loop
 is-last-requires c κs = tt
 
 returns : tie.Need-returns Inv-loop μ-loop
-returns c = place-stop _ _ _ _ _ (c .before .before .before .before .before .before .loop .inv) (c .before .before .before .before .before .loop-test .taken) _ (c .before .before .before .is-digit .ensures) _ (c .before .before .begins .ensures) _ (c .before .is-last .ensures) (c .if1 .taken)
+returns c =
+    place-stop _ _ _ _ _ (c .before .before .before .before .before .before .loop .inv) (c .before .before .before .before .before .loop-test .taken) _ (c .before .before .before .is-digit .ensures)
+    _ (c .before .before .begins .ensures) _ (c .before .is-last .ensures) (c .if1 .taken)
 
 passed-requires : tie.Need-passed-requires Inv-loop μ-loop
 passed-requires c κs = tt
@@ -42,7 +44,9 @@ loop-less : tie.Need-loop-less Inv-loop μ-loop
 loop-less c = omega arith
 
 loop-again : tie.Need-loop-again Inv-loop μ-loop
-loop-again c = place-go _ _ _ _ _ (c .before .before .before .before .before .before .before .loop .inv) (c .before .before .before .before .before .before .loop-test .taken) _ (c .before .before .before .before .is-digit .ensures) _ (c .before .before .before .begins .ensures) _ (c .before .before .is-last .ensures) (c .before .if1 .left) _ (c .passed .ensures)
+loop-again c =
+    place-go _ _ _ _ _ (c .before .before .before .before .before .before .before .loop .inv) (c .before .before .before .before .before .before .loop-test .taken) _ (c .before .before .before .before .is-digit .ensures)
+    _ (c .before .before .before .begins .ensures) _ (c .before .before .is-last .ensures) (c .before .if1 .left) _ (c .passed .ensures)
 
 returns-2 : tie.Need-returns-2 Inv-loop μ-loop
 returns-2 c = place-end _ _ _ _ _ (c .before .loop .inv) (search needs)
