@@ -1,16 +1,16 @@
 -- The items that Figure 2 names, by computation, at N = 2 and W = 1: process 0 steps, with x = (5, 3) and mybuf 4.
 use mathlib.Core.Path.{_≡_, refl}
-use mathlib.Core.Bool.{true}
-use mathlib.Core.List.{List, [], _∷_}
+use mathlib.Core.Bool.{true, false}
+use mathlib.Core.List.{List, [], _∷_, map}
 use Prim.Native.Nat.{ℕ}
 use Rattle.llsc.specs.declared.ProcessNumber.{ProcessNumber}
 use Rattle.model.specs.declared.Process.{Process}
 use Rattle.model.specs.Words.{oneRecord}
-use Rattle.model.specs.Points.{Point, line1, line3, line7, line7copy, line11, line12, line12valid, line13, line14, line15, line17, line18, line19}
+use Rattle.model.specs.Points.{Point, busyPoints, line1, line3, line7, line7copy, line11, line12, line12valid, line13, line14, line15, line17, line18, line19}
 use Rattle.doings.specs.declared.Item.{Item}
 use Rattle.doings.specs.declared.Item.the-variants.{X, Bank, Help, Half}
 use Rattle.doings.specs.Own.{ownIn}
-use Rattle.doings.specs.Doings.{Act, write, Touching, nothing, one, Touches, doingAt}
+use Rattle.doings.specs.Doings.{Act, read, ll, vl, sc, write, looks, Touching, nothing, one, Touches, doingAt}
 
 abbrev p : ProcessNumber
 p = record { 0 = 0 }
@@ -99,3 +99,25 @@ line-11-brings = refl
 line-17-brings : brings (write 8 0) (does line17)
 unfolding doingAt
 line-17-brings = refl
+
+-- the kind of an act, by a number: 1 a read, 2 an LL, 3 a VL, 4 an SC, 5 a write; 0 where nothing is touched
+abbrev kindOf : Act → ℕ
+kindOf read = 1
+kindOf ll = 2
+kindOf vl = 3
+kindOf (sc v u) = 4
+kindOf (write v u) = 5
+
+abbrev kindIn : Touching Item Process → ℕ
+kindIn (nothing out) = 0
+kindIn (one d) = kindOf (d .act)
+
+-- Figure 2's own words for lines 1 to 15, 17, 18, 19 and 23, then the copy of line 7 and the VL(X) of lines 12 and 14
+acts : map (λ (y : Point). kindIn (does y)) busyPoints
+    ≡ 5 ∷ 2 ∷ 1 ∷ 2 ∷ 2 ∷ 1 ∷ 3 ∷ 2 ∷ 4 ∷ 1 ∷ 5 ∷ 2 ∷ 4 ∷ 2 ∷ 4 ∷ 5 ∷ 1 ∷ 4 ∷ 3 ∷ 1 ∷ 3 ∷ 3 ∷ []
+unfolding doingAt
+acts = refl
+
+-- "LL (its own link apart), VL and plain reads only look"
+who-looks : map looks (read ∷ ll ∷ vl ∷ sc 0 0 ∷ write 0 0 ∷ []) ≡ true ∷ true ∷ true ∷ false ∷ false ∷ []
+who-looks = refl

@@ -1,3 +1,4 @@
+pub mod Compares
 pub mod Schedules
 pub mod Runs
 pub mod SecondRead

@@ -3,11 +3,13 @@
 use mathlib.Core.Path.{_≡_, refl}
 use Prim.Native.Nat.{ℕ}
 use mathlib.Core.List.{[], _∷_, _++_}
-use lib.ListN.{set}
+use lib.ListN.{getD, set, replicate}
 use Rattle.llsc.specs.declared.Order.the-variants.{StartLl, StartSc, Step}
+use Rattle.model.specs.declared.XPlace.{XPlace}
 use Rattle.model.specs.Points.{Point, lineNumber, idle, line2}
+use Rattle.station.specs.declared.Tables.{Tables}
 use Rattle.station.specs.declared.StationProcess.{StationProcess}
-use Rattle.station.specs.Station.{StationMemory, processAt}
+use Rattle.station.specs.Station.{StationMemory, noTables, processAt}
 use Rattle.station.specs.StationRefusals.{StationOrder, stationInRange}
 use Rattle.station.specs.StationCommand.{stationRefusal, stationCommand}
 use Rattle.station.specs.StationSetUp.{stationSetUp, stationSetUpRefusal}
@@ -33,19 +35,20 @@ then = stationAfter (stationSetUp dirty 2 1 2 (5 ∷ []) .1) (l 0 0 ++ steps 10 
 abbrev number : StationOrder → ℕ
 number c = stationRefusal then c
 
--- 4 before 24; 24 before 8; 8 before 5; one open call, on whichever record; 7 looks at that record; accepted, also a
+-- 4 before 24; 24 before 8; 8 before 5; 5 before 7; one open call, on whichever record; 7 looks at that record; accepted, also a
 -- step that names a record
 command-rows :
     (number (record { process = 2; order = StartLl; called = 2; value = [] }) ≡ 4)
     × (number (record { process = 0; order = StartSc; called = 2; value = [] }) ≡ 24)
     × (number (record { process = 1; order = StartSc; called = 1; value = [] }) ≡ 8)
+    × (number (record { process = 1; order = StartSc; called = 0; value = 6 ∷ [] }) ≡ 5)
     × (number (record { process = 1; order = StartLl; called = 1; value = [] }) ≡ 5)
     × (number (record { process = 0; order = Step; called = 9; value = [] }) ≡ 6)
     × (number (record { process = 0; order = StartSc; called = 1; value = 6 ∷ [] }) ≡ 7)
     × (number (record { process = 0; order = StartSc; called = 0; value = 6 ∷ [] }) ≡ 0)
     × (number (record { process = 1; order = Step; called = 9; value = [] }) ≡ 0)
 unfolding stationSetUp stationSetUpRefusal stationInRange stationRefusal stationCommand stationAfter
-command-rows = (refl, refl, refl, refl, refl, refl, refl, refl)
+command-rows = (refl, refl, refl, refl, refl, refl, refl, refl, refl)
 
 -- then, with another record number and line in process 0
 abbrev called : ℕ → Point → StationProcess → StationProcess
@@ -61,3 +64,28 @@ asked m = stationRefusal m (record { process = 5; order = Step; called = 0; valu
 record-numbers : (asked (with 2 line2) ≡ 9) × (asked (with 1 idle) ≡ 9) × (asked (with 1 line2) ≡ 4) × (asked (with 0 idle) ≡ 4)
 unfolding stationSetUp stationSetUpRefusal stationInRange stationRefusal stationCommand stationAfter
 record-numbers = (refl, refl, refl, refl)
+
+-- "The words lent become (3R + 2) × N × W": 16 for N = 2, W = 1 and R = 2 are enough, and 15 are not
+abbrev lending : ℕ → StationMemory
+lending k = record { n = 0; w = 0; r = 0; tables = dirty .tables; processes = dirty .processes; words = replicate k 4 }
+
+words-lent : (stationSetUp (lending 16) 2 1 2 (5 ∷ []) .0 ≡ 0) × (stationSetUp (lending 15) 2 1 2 (5 ∷ []) .0 ≡ 3)
+unfolding stationSetUp stationSetUpRefusal
+words-lent = (refl, refl)
+
+-- a set-up takes the mark of an answered LL back
+marked-anew : stationRefusal (stationSetUp then 2 1 2 (5 ∷ []) .1) (record { process = 0; order = StartSc; called = 0; value = 6 ∷ [] }) ≡ 7
+unfolding stationSetUp stationSetUpRefusal stationInRange stationRefusal stationCommand stationAfter
+marked-anew = refl
+
+-- row 9 looks at each record's tables below R, and at none from R on: X of record j names buffer 6, and 3N is 6
+abbrev astray : ℕ → StationMemory
+astray j =
+    let t = getD (then .tables) j noTables in
+    let x : XPlace = record { content = record { buf = record { 0 = 6 }; seq = t .x .content .seq }; links = t .x .links } in
+    let spoilt : Tables = record { x = x; bank = t .bank; help = t .help } in
+    record { n = 2; w = 1; r = 2; tables = set (then .tables) j spoilt; processes = then .processes; words = then .words }
+
+tables-looked-at : (asked (astray 0) ≡ 9) × (asked (astray 1) ≡ 9) × (asked (astray 2) ≡ 4)
+unfolding stationSetUp stationSetUpRefusal stationInRange stationRefusal stationCommand stationAfter
+tables-looked-at = (refl, refl, refl)

@@ -57,3 +57,13 @@ of-record-1 : calls (seenAll (record { 0 = 1 }) begun run) ≡
     ∷ record { process = 0; kind = vl; start = 43; end = 44; steps = 1; answer = vlTruth false; count = 1 } ∷ []
 unfolding stationSetUp stationSetUpRefusal stationInRange stationRefusal stationCommand seenAll callsFrom
 of-record-1 = refl
+
+-- where the words lie, once process 0 has loaded record 1, process 1 record 0, and process 1 offers 7 there: BUF of record
+-- 0 and of record 1, with the copies in buffers 5 and 4, the return areas, the offer areas, and the words beyond
+abbrev offered : List StationOrder
+offered = l 0 1 ++ steps 10 0 ++ l 1 0 ++ steps 10 1 ++ s 1 0 (7 ∷ [])
+
+words-in-use : stationAfter begun offered .words ≡
+    5 ∷ 0 ∷ 0 ∷ 0 ∷ 0 ∷ 5 ∷ 5 ∷ 0 ∷ 0 ∷ 0 ∷ 5 ∷ 0 ∷ 5 ∷ 5 ∷ 0 ∷ 7 ∷ replicate 24 4
+unfolding stationSetUp stationSetUpRefusal stationInRange stationRefusal stationCommand stationAfter
+words-in-use = refl

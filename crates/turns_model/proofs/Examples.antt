@@ -2,7 +2,9 @@
 use mathlib.Core.Path.{_≡_, refl}
 use Prim.Native.Nat.{ℕ}
 use mathlib.Core.List.{List, [], _∷_}
-use lib.ListN.{replicate}
+use lib.ListN.{getD, replicate}
+use Rattle.llsc.specs.Answers.{refused, accepted, answered, llWords}
+use Rattle.model.specs.Machine.{stepAt}
 use Rattle.model.specs.declared.Reply.the-variants.{Refused, Accepted, VlAnswered}
 use Rattle.station.specs.declared.StationProcess.{StationProcess}
 use Rattle.station.specs.Station.{StationMemory, noHolding}
@@ -12,6 +14,7 @@ use Rattle.station.specs.StationSetUp.{emptyProcess, emptyTables, stationSetUp,
 use Rattle.turns_model.specs.declared.CallKind.the-variants.{Ll, Sc}
 use Rattle.turns_model.specs.declared.TurnReply.{TurnReply}
 use Rattle.turns_model.specs.declared.TurnReply.the-variants.{Replied, Passed}
+use Rattle.turns_model.specs.TurnReplies.{turnNumber, TurnSaid, passed, told, turnSays}
 use Rattle.turns_model.specs.Turns.{ListedCall, AfterTurn, turn, lentRefusal}
 
 -- a process in the middle of a call on record 5
@@ -88,3 +91,31 @@ alone-passes = refl
 alone-refused : turn alone 1 (anLl ∷ []) ≡ record { reply = Replied (Refused 4); left = []; memory = alone }
 unfolding turn lentRefusal stationInRange stationSetUp stationSetUpRefusal stationRefusal stationCommand
 alone-refused = refl
+
+-- a start is on the record that its call names
+starts-its-record : getD (turn begun 0 (anLl ∷ []) .memory .processes) 0 emptyProcess .called ≡ record { 0 = 1 }
+unfolding turn lentRefusal stationInRange stationSetUp stationSetUpRefusal stationRefusal stationCommand
+starts-its-record = refl
+
+-- what turns say: 22, a pass, an accepted start, and the words of record 1 once its LL is answered
+abbrev turned : ℕ → List ListedCall → StationMemory → StationMemory
+turned p calls m = turn m p calls .memory
+
+saysOf : ℕ → List ListedCall → StationMemory → ℕ × TurnSaid
+saysOf p calls m = let a = turn m p calls in (turnNumber (a .reply), turnSays (a .memory) p (a .reply))
+
+-- process 0's LL on record 1 after nine of its ten steps
+almost : StationMemory
+almost =
+    let steps = turned 0 [] in
+    steps (steps (steps (steps (steps (steps (steps (steps (steps (turned 0 (anLl ∷ []) begun)))))))))
+
+record TurnsSay : Type 0 where
+  third : saysOf 2 [] begun ≡ (22, told (refused 22))
+  pass-says : saysOf 1 [] begun ≡ (0, passed)
+  start-says : saysOf 0 (anLl ∷ []) begun ≡ (0, told accepted)
+  answer-says : saysOf 0 [] almost ≡ (0, told (answered (llWords (5 ∷ [])) 10))
+
+turns-say : TurnsSay
+unfolding saysOf almost turn lentRefusal stationInRange stationSetUp stationSetUpRefusal stationRefusal stationCommand stepAt
+turns-say = record { third = refl; pass-says = refl; start-says = refl; answer-says = refl }

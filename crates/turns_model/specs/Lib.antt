@@ -1,1 +1,2 @@
+pub mod TurnReplies
 pub mod Turns

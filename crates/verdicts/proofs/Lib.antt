@@ -2,3 +2,4 @@ pub mod Needed
 pub mod RefusalOrder
 pub mod ReasonExamples
 pub mod ReasonLaws
+pub mod WideLogs

@@ -39,6 +39,11 @@ pub kind : OnlyFails (false ∷ true ∷ true ∷ true ∷ true ∷ true ∷ [])
 unfolding judged logRefusal earnsYes
 kind = (refl, refl)
 
+-- and one of 0
+pub kind-0 : OnlyFails (false ∷ true ∷ true ∷ true ∷ true ∷ true ∷ []) (call 0 1 10 20 0 20 5 ++ call 0 0 30 40 1 40 0)
+unfolding judged logRefusal earnsYes
+kind-0 = (refl, refl)
+
 -- an answer place that is the next start place, "before" being strict
 pub turn : OnlyFails (true ∷ false ∷ true ∷ true ∷ true ∷ true ∷ []) (call 0 1 10 20 0 20 5 ++ call 0 1 20 30 0 30 5)
 unfolding judged logRefusal earnsYes
