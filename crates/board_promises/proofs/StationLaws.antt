@@ -24,7 +24,8 @@ use Rattle.boards.specs.Files.{BoardRecord}
 use Rattle.board_commands.specs.declared.FileRun.{FileRun}
 use Rattle.board_commands.specs.BoardRun.{orderOf, runRecords}
 use Rattle.semantics.specs.TextRun as text
-use Rattle.semantics.specs.TextRun.{Progress, stopped, roomNeeded, processOf, valueOf, linesOf, counted}
+use Rattle.text_runs.specs.TextRun.{roomNeeded, processOf, valueOf}
+use Rattle.semantics.specs.TextRun.{Progress, stopped, linesOf, counted}
 use Rattle.semantics.proofs.SingleEntries.{outcome}
 use Rattle.board_listing.specs.BoardListing.{entryOf, obeyAll}
 

@@ -12,7 +12,10 @@ use Rattle.model.specs.Records.{recordAt}
 use Rattle.model.specs.Refusals.{isIdle}
 use Rattle.notation.specs.declared.Entry.{Entry}
 use Rattle.notation.specs.declared.Entry.the-variants.{StartLl, StartVl, StartSc, Step, Finish}
-use Rattle.semantics.specs.TextRun.{Progress, single, unanswered, finish, carry, carryAll, processOf}
+use Rattle.text_runs.specs.TextRun.{processOf}
+use Rattle.text_runs.specs.TextRun as TR
+use Rattle.text_runs.specs.StopPlaces as SP
+use Rattle.semantics.specs.TextRun.{Progress, single, unanswered, finish, carry, carryAll}
 use Rattle.semantics.specs.StopPlaces.{stopIndex}
 use Rattle.entry.specs.RunState.{RunState, progress, Sound, Kept, Becomes}
 use Rattle.entry.specs.Turned.{staysAt}
@@ -45,7 +48,7 @@ goesOn (Finish p) s = unanswered p s
 
 -- one step of an entry, and where `!` goes on, the rest of it
 one-step : (e : Entry) (s s′ : Progress) → s .stop ≡ 0 → s′ ≡ single e s → carry e s ≡ cond (goesOn e s′) (carry e s′) s′
-unfolding carry single goesOn
+unfolding TR.carry TR.single goesOn
 one-step (StartLl p) s s′ z q = sym q
 one-step (StartVl p) s s′ z q = sym q
 one-step (StartSc p k) s s′ z q = sym q
@@ -97,7 +100,7 @@ carrying-none es s z = record { same = refl; index = omega arith; kept = stays s
 
 -- behind the last
 pub carrying-all : {len at : ℕ} {es : List Entry} {h h′ : RunState} → Carrying len es h at h′ → OthersKept h h′ → length es ≤ at → Carries len es h h′ at
-unfolding carryAll stopIndex
+unfolding TR.carryAll SP.stopIndex
 carrying-all {len} {at} {es} {h} {h′} c o l = record {
   becomes = record { same = sym (ap (λ (x : List Entry). carryAll x (progress len h′)) (drop-all es at l)) ∙ c .same; kept = c .kept };
   index = omega (arith, c .index, ap (λ (x : List Entry). stopIndex x (progress len h′)) (drop-all es at l));
@@ -120,11 +123,11 @@ module _ {len at : ℕ} {es : List Entry} {h h₁ h′ : RunState} (c : Carrying
   stepped = one-step e (progress len h₁) (progress len h′) (c .goes) (b .same)
 
   opened : carryAll rest (ahead (goesOn e (progress len h′))) ≡ carryAll es (progress len h)
-  unfolding carryAll
+  unfolding TR.carryAll
   opened = ap (carryAll rest) (sym stepped) ∙ sym (ap (λ (x : List Entry). carryAll x (progress len h₁)) (drop-at es at d l)) ∙ c .same
 
   opened-index : at + indexAfter rest (ahead (goesOn e (progress len h′))) ≡ stopIndex es (progress len h)
-  unfolding stopIndex
+  unfolding SP.stopIndex
   opened-index =
       ap (λ (x : Progress). at + indexAfter rest x) (sym stepped)
       ∙ sym (ap (λ (x : List Entry). at + stopIndex x (progress len h₁)) (drop-at es at d l)) ∙ c .index
@@ -163,7 +166,7 @@ module _ {len at : ℕ} {es : List Entry} {h h₁ h′ : RunState} (c : Carrying
 
     -- it stays, and the rest of it is the same entry again
     pub goes-further : staysAt e line ≡ true → Carrying len es h at h′
-    unfolding carryAll stopIndex
+    unfolding TR.carryAll SP.stopIndex
     goes-further q = record {
       same = ap (λ (x : List Entry). carryAll x (progress len h′)) (drop-at es at d l) ∙ open-with true (by-line true q);
       index = ap (λ (x : List Entry). at + stopIndex x (progress len h′)) (drop-at es at d l) ∙ index-with true (by-line true q);

@@ -27,7 +27,8 @@ use Rattle.notation.specs.Grammar.{largest}
 use Rattle.notation.specs.EntryWords.{entryIn, entryOfKind, kindIn, processIn, numberIn}
 use Rattle.entry.specs.declared.state.Run.{Run}
 use Rattle.entry.specs.declared.turn.Turn.{Turn}
-use Rattle.semantics.specs.TextRun.{roomNeeded, processOf, orderOf, single}
+use Rattle.text_runs.specs.TextRun.{roomNeeded, processOf, orderOf}
+use Rattle.semantics.specs.TextRun.{single}
 use Rattle.entry.specs.RunState.{RunState, stateOf, stoppedRun, Sound, Becomes, Small}
 use Rattle.entry.specs.Turned.{refusalOf, placeOf, Turnable, Turns, staysAt}
 use Rattle.carrying.specs.Carried.{entriesIn, Carrying, OthersKept, Carries}

@@ -28,7 +28,9 @@ use Rattle.notation.proofs.ListedLaws.{kept-entries}
 use Rattle.entry.specs.declared.state.Run.{Run}
 use Rattle.run.specs.declared.last_line.Finished.{Finished}
 use Rattle.run.specs.declared.text_run.First.{First}
-use Rattle.semantics.specs.TextRun.{Progress, Ended, ended, begun, carryAll, carriedOut, roomNeeded, longestText, runWith}
+use Rattle.text_runs.specs.TextRun.{roomNeeded, longestText}
+use Rattle.text_runs.specs.TextRun as TR
+use Rattle.semantics.specs.TextRun.{Progress, Ended, ended, begun, carryAll, carriedOut, runWith}
 use Rattle.positions.specs.declared.StopReport.{StopReport}
 use Rattle.semantics.specs.StopPlaces.{StopsAt}
 use Rattle.entry.specs.RunState.{RunState, stateOf, progress, Filled, Sound, Kept, Becomes}
@@ -145,16 +147,16 @@ lending-sixteen {all = all} t len e g l = rw e (record { few = sixteen-most len;
 
 module _ (t : Bool) (m : Memory) (text list : List ℕ) where
   pub run-14 : length list < roomNeeded t → record { number = 14; entries = 0; written = 0; memory = m; listing = list } ≡ runWith t m text list
-  unfolding runWith
+  unfolding TR.runWith
   run-14 l = simp (lt-ltb (length list) (roomNeeded t) l)
 
   module _ (l : roomNeeded t ≤ length list) where
     pub run-12 : longestText < length text → refusedWith 12 m list ≡ runWith t m text list
-    unfolding runWith
+    unfolding TR.runWith
     run-12 h = simp (le-ltb (length list) (roomNeeded t) l, lt-ltb longestText (length text) h)
 
     run-read : length text ≤ longestText → carriedOut t m list (read text) ≡ runWith t m text list
-    unfolding runWith
+    unfolding TR.runWith
     run-read h = simp (le-ltb (length list) (roomNeeded t) l, le-ltb longestText (length text) h)
 
     pub run-not-headed : length text ≤ longestText → {place : ℕ} → NotHeaded text place → refusedWith 10 m list ≡ runWith t m text list

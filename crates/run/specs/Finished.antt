@@ -24,8 +24,10 @@ use Rattle.entry.specs.declared.state.Run.{Run}
 use Rattle.run.specs.declared.last_line.Finished.{Finished}
 use Rattle.run.specs.declared.text_run.First.{First}
 use Rattle.positions.specs.declared.StopReport.{StopReport}
-use Rattle.semantics.specs.TextRun.{processOf, Ended, ended, begun, started, carriedOut, mostEntries, roomNeeded, runWith}
-use Rattle.semantics.specs.StopPlaces.{reportedProcess, startedReport, StopsAt}
+use Rattle.text_runs.specs.TextRun.{processOf, mostEntries, roomNeeded}
+use Rattle.semantics.specs.TextRun.{Ended, ended, begun, started, carriedOut, runWith}
+use Rattle.text_runs.specs.StopPlaces.{reportedProcess}
+use Rattle.semantics.specs.StopPlaces.{startedReport, StopsAt}
 use Rattle.entry.specs.RunState.{Filled, lastRoom}
 
 abbrev pub freshRun : Bench → Records → ℕ → Bool → Run

@@ -1,6 +1,6 @@
 // The end of a text run: its last line and what it returns.
 ghost use mathlib.Core.Path.{_≡_};
-ghost use Rattle.semantics.specs.StopPlaces.{atNoEntry};
+ghost use Rattle.text_runs.specs.StopPlaces.{atNoEntry};
 ghost use Rattle.listing.specs.Writing.{Room, Wrote};
 ghost use Rattle.run.specs.Finished.{freshRun, finishedOf, lastOf, closed, Closable};
 use entry::state::Run;

@@ -13,7 +13,9 @@ use Rattle.model.specs.Refusals.{isIdle}
 use Rattle.model.specs.Linearizable.{largest, OpenCounted}
 use Rattle.notation.specs.declared.Entry.the-variants.{Step}
 use Rattle.semantics.specs.Reached.{Reached}
-use Rattle.semantics.specs.TextRun.{Progress, mostEntries, linesOf, counted, single, unanswered, steps, finish, carry}
+use Rattle.text_runs.specs.TextRun.{mostEntries}
+use Rattle.text_runs.specs.TextRun as TR
+use Rattle.semantics.specs.TextRun.{Progress, linesOf, counted, single, unanswered, steps, finish, carry}
 use Rattle.semantics.specs.Finishing.{UntilAnswered, FinishBounded}
 use Rattle.semantics.proofs.ReachedLaws.{reached-command}
 use Rattle.semantics.proofs.AcceptedSteps.{unrefused, stepped-busy}
@@ -51,7 +53,7 @@ module _ (p : ℕ) (s : Progress) (r : Reached (s .memory)) (z : s .stop ≡ 0) 
 
 -- a step, and where it did not answer, the same again
 pub until-answered : UntilAnswered
-unfolding steps
+unfolding TR.steps
 until-answered p s = by (unanswered p (single (Step p) s)) refl
   where
     by : (a : Bool) → unanswered p (single (Step p) s) ≡ a
@@ -68,7 +70,7 @@ open-counts r p o = subst (OpenCounted (r .w)) (o .is) (open-fewer r p)
 
 -- so many steps, by induction
 steps-bounded : (left p : ℕ) (s : Progress) (r : Reached (s .memory)) → s .stop ≡ 0 → (o : Open (openIn r p)) → steps left p s .entries + o .steps ≤ s .entries + largest (r .w) (o .kind)
-unfolding steps reached-command
+unfolding TR.steps reached-command
 steps-bounded zero p s r z o = omega (arith, open-counts r p o)
 steps-bounded (suc left) p s r z o = by (steps-bounded left p (next p s) (reached-command r p order.Step []) refl) (unanswered p (single (Step p) s)) refl
   where
@@ -84,7 +86,7 @@ steps-bounded (suc left) p s r z o = by (steps-bounded left p (next p s) (reache
         omega (arith, most, same)
 
 pub finish-bounded : FinishBounded
-unfolding carry
+unfolding TR.carry
 finish-bounded m shaped n w value cs e s is p kind start count slot = by (s .stop) refl
   where
     r : Reached (s .memory)

@@ -18,7 +18,10 @@ use Rattle.notation.specs.declared.Entry.{Entry}
 use Rattle.notation.specs.declared.Entry.the-variants.{StartLl, StartVl, StartSc, Step, Finish}
 use Rattle.notation.specs.EntryWords.{keptProcess, keptEntry}
 use Rattle.rows.proofs.RowLaws.{n-in}
-use Rattle.semantics.specs.TextRun.{Progress, stopped, mostEntries, roomNeeded, processOf, orderOf, valueOf, replied, commanded, single, unanswered, steps, finish, carry, carryAll}
+use Rattle.text_runs.specs.TextRun.{mostEntries, roomNeeded, processOf, orderOf, valueOf}
+use Rattle.text_runs.specs.TextRun as TR
+use Rattle.text_runs.specs.StopPlaces as SP
+use Rattle.semantics.specs.TextRun.{Progress, stopped, replied, commanded, single, unanswered, steps, finish, carry, carryAll}
 use Rattle.semantics.specs.StopPlaces.{stopIndex}
 
 -- what holds of both arms of a test, each where it is taken
@@ -51,7 +54,7 @@ far-commanded e s h = simp (far-refusal (s .memory) (processOf e) (orderOf e) (v
 -- what holds of a run that goes on after an entry that is one command: it went on before, fewer than 60,000 entries were done, and the command left it so
 single-goes : (e : Entry) (s : Progress) (P : Progress → Type 0)
     → (s .stop ≡ 0 → s .entries < mostEntries → commanded e s .stop ≡ 0 → P (commanded e s)) → single e s .stop ≡ 0 → P (single e s)
-unfolding single
+unfolding TR.single
 single-goes e s P f =
     let Q : Progress → Type 0 = λ x. x .stop ≡ 0 → P x in
     either Q (eqb (s .stop) 0) (λ q. either Q (leb mostEntries (s .entries)) (λ l z. absurd (omega (arith, z))) (λ l.
@@ -60,7 +63,7 @@ single-goes e s P f =
 
 -- so an entry of such a process stops the run, in one way for all of them
 far-single : (e e′ : Entry) (s : Progress) → 16 ≤ processOf e → 16 ≤ processOf e′ → single e s ≡ single e′ s
-unfolding single
+unfolding TR.single
 far-single e e′ s h h′ = rw (far-commanded e s h, far-commanded e′ s h′)
 
 far-stops : (e : Entry) (s : Progress) → 16 ≤ processOf e → eqb (single e s .stop) 0 ≡ false
@@ -69,7 +72,7 @@ far-stops e s h =
     ne-eqb (single e s .stop) 0 (single-goes e s (λ x. ⊥) (λ b l z. early-some (s .memory) (k ∙ z)))
 
 far-steps : (left p : ℕ) (s : Progress) → 16 ≤ p → steps left 16 s ≡ steps left p s
-unfolding steps
+unfolding TR.steps
 far-steps zero p s h = refl
 far-steps (suc left) p s h =
     simp (far-stops (Step 16) s (omega arith), far-stops (Step p) s h) (far-single (Step 16) (Step p) s (omega arith) h)
@@ -78,7 +81,7 @@ kept-process : (f : ℕ → Progress) (p : ℕ) → (16 ≤ p → f 16 ≡ f p) 
 kept-process f p far = either (λ x. f x ≡ f p) (leb p 15) (λ e. refl) (λ e. far (leb-false p 15 e))
 
 kept-carry : (e : Entry) (s : Progress) → carry (keptEntry e) s ≡ carry e s
-unfolding carry
+unfolding TR.carry
 kept-carry (StartLl p) s = kept-process (λ x. single (StartLl x) s) p (far-single (StartLl 16) (StartLl p) s (omega arith))
 kept-carry (StartVl p) s = kept-process (λ x. single (StartVl x) s) p (far-single (StartVl 16) (StartVl p) s (omega arith))
 kept-carry (StartSc p k) s = kept-process (λ x. single (StartSc x k) s) p (far-single (StartSc 16 k) (StartSc p k) s (omega arith))
@@ -109,7 +112,7 @@ record Least (s after : Progress) : Type 0 where
   few : s .entries ≤ mostEntries → after .entries ≤ mostEntries
 
 steps-least : (left p : ℕ) (s : Progress) → steps left p s .stop ≡ 0 → Least s (steps left p s)
-unfolding steps
+unfolding TR.steps
 steps-least zero p s = λ z. record { before = z; least = omega arith; few = λ l. l }
 steps-least (suc left) p s =
     let one = single-more (Step p) s in
@@ -119,7 +122,7 @@ steps-least (suc left) p s =
     (λ q z. let a = one z in record { before = a .before; least = omega (arith, a .more); few = λ l. a .few })
 
 finish-more : (p : ℕ) (s : Progress) → Goes s (finish p s)
-unfolding steps
+unfolding TR.steps
 finish-more p s =
     let one = single-more (Step p) s in
     either (Goes s) (unanswered p (single (Step p) s)) (λ q z.
@@ -128,7 +131,7 @@ finish-more p s =
     (λ q. one)
 
 carry-more : (e : Entry) (s : Progress) → Goes s (carry e s)
-unfolding carry
+unfolding TR.carry
 carry-more (StartLl p) s = single-more (StartLl p) s
 carry-more (StartVl p) s = single-more (StartVl p) s
 carry-more (StartSc p k) s = single-more (StartSc p k) s
@@ -137,7 +140,7 @@ carry-more (Finish p) s = either (Goes s) (eqb (s .stop) 0) (λ q. finish-more p
 
 -- "After a refused entry nothing more runs."
 carry-stays : (e : Entry) (s : Progress) → (s .stop ≡ 0 → ⊥) → carry e s ≡ s
-unfolding carry single
+unfolding TR.carry TR.single
 carry-stays (StartLl p) s n = simp (ne-eqb (s .stop) 0 n)
 carry-stays (StartVl p) s n = simp (ne-eqb (s .stop) 0 n)
 carry-stays (StartSc p k) s n = simp (ne-eqb (s .stop) 0 n)
@@ -145,19 +148,19 @@ carry-stays (Step p) s n = simp (ne-eqb (s .stop) 0 n)
 carry-stays (Finish p) s n = simp (ne-eqb (s .stop) 0 n)
 
 pub all-stay : (es : List Entry) (s : Progress) → (s .stop ≡ 0 → ⊥) → carryAll es s ≡ s
-unfolding carryAll
+unfolding TR.carryAll
 all-stay [] s n = refl
 all-stay (e ∷ es) s n = ap (carryAll es) (carry-stays e s n) ∙ all-stay es s n
 
 index-stays : (es : List Entry) (s : Progress) → (s .stop ≡ 0 → ⊥) → stopIndex es s ≡ 0
-unfolding stopIndex
+unfolding SP.stopIndex
 index-stays [] s n = refl
 index-stays (e ∷ es) s n = let still : eqb (carry e s .stop) 0 ≡ false = ne-eqb (carry e s .stop) 0 (rw (carry-stays e s n) n) in simp still
 
 -- so what is kept of the first k entries is enough where k and those done are more than 60,000
 kept-first : (k : ℕ) (es : List Entry) (s : Progress) → (s .stop ≡ 0 → (s .entries ≤ mostEntries) × (mostEntries < k + s .entries))
     → carryAll (map keptEntry (take k es)) s ≡ carryAll es s
-unfolding carryAll
+unfolding TR.carryAll
 kept-first zero es s h = sym (all-stay es s (λ z. omega (arith, h z)))
 kept-first (suc k) [] s h = refl
 kept-first (suc k) (e ∷ es) s h =
@@ -167,7 +170,7 @@ kept-first (suc k) (e ∷ es) s h =
 -- and the run stops at the same entry
 kept-first-index : (k : ℕ) (es : List Entry) (s : Progress) → (s .stop ≡ 0 → (s .entries ≤ mostEntries) × (mostEntries < k + s .entries))
     → stopIndex (map keptEntry (take k es)) s ≡ stopIndex es s
-unfolding stopIndex
+unfolding SP.stopIndex
 kept-first-index zero es s h = sym (index-stays es s (λ z. omega (arith, h z)))
 kept-first-index (suc k) [] s h = refl
 kept-first-index (suc k) (e ∷ es) s h =

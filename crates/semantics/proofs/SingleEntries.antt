@@ -11,7 +11,9 @@ use Rattle.model.specs.Machine.{Memory}
 use Rattle.model.specs.Command.{command}
 use Rattle.model.specs.Replies.{numberOf}
 use Rattle.notation.specs.declared.Entry.{Entry}
-use Rattle.semantics.specs.TextRun.{Progress, stopped, mostEntries, roomNeeded, processOf, orderOf, valueOf, linesOf, counted, commanded, single}
+use Rattle.text_runs.specs.TextRun.{mostEntries, roomNeeded, processOf, orderOf, valueOf}
+use Rattle.text_runs.specs.TextRun as TR
+use Rattle.semantics.specs.TextRun.{Progress, stopped, linesOf, counted, commanded, single}
 
 -- the command of an entry, on a run in progress: its reply and the memory after it
 abbrev pub outcome : Entry → Progress → Reply × Memory
@@ -39,7 +41,7 @@ command-accepted e s g = by (numberOf (outcome e s .0)) refl
 
 -- a run that goes on after it went on before it
 pub single-stays : (e : Entry) (s : Progress) → single e s .stop ≡ 0 → s .stop ≡ 0
-unfolding single
+unfolding TR.single
 single-stays e s g = by (s .stop) refl g
   where
     by : (k : ℕ) → s .stop ≡ k → single e s .stop ≡ 0 → k ≡ 0
@@ -48,7 +50,7 @@ single-stays e s g = by (s .stop) refl g
 
 -- it makes one entry or none
 pub single-entries : (e : Entry) (s : Progress) → single e s .entries ≤ s .entries + 1
-unfolding single
+unfolding TR.single
 single-entries e s = by (eqb (s .stop) 0) (leb mostEntries (s .entries)) (ltb (length (s .listing) - s .written) (roomNeeded (s .traced))) (eqb (numberOf (outcome e s .0)) 0)
   where
     by : (a b c d : Bool)
@@ -68,7 +70,7 @@ module _ (e : Entry) (s : Progress) (z : s .stop ≡ 0) where
   short = ltb (length (s .listing) - s .written) (roomNeeded (s .traced))
 
   runs : single e s ≡ cond full (stopped 12 s) (cond short (stopped 14 s) (commanded e s))
-  unfolding single
+  unfolding TR.single
   runs = simp (eq-eqb (s .stop) 0 z)
 
   pub single-made : single e s .stop ≡ 0 → Made e s

@@ -29,7 +29,9 @@ use Rattle.doings.specs.Items.{InBench, halfHolding, itemAt}
 use Rattle.access.specs.Truth.{TellsTruth, DependsOn}
 use Rattle.access.proofs.Theorems.{trace-is-true, step-depends}
 use Rattle.semantics.specs.Reached.{Reached}
-use Rattle.semantics.specs.TextRun.{Progress, stopped, mostEntries, roomNeeded, processOf, orderOf, valueOf, lineOf, accessNow}
+use Rattle.text_runs.specs.TextRun.{mostEntries, roomNeeded, processOf, orderOf, valueOf}
+use Rattle.text_runs.specs.TextRun as TR
+use Rattle.semantics.specs.TextRun.{Progress, stopped, lineOf, accessNow}
 use Rattle.semantics.specs.TextRun.{traceLine, linesOf, counted, commanded, single, unanswered, steps, carry, carryAll, begun}
 use Rattle.semantics.proofs.ReachedLaws.{reached-set-up, reached-command}
 use Rattle.semantics.proofs.SingleEntries.{outcome, made-commanded}
@@ -169,7 +171,7 @@ module _ {s : Progress} where
           subst (Goes s) (sym halted) (halts (numberOf (outcome e t .0)) g)
 
   single-told : (e : Entry) {t : Progress} → Goes s t → Goes s (single e t)
-  unfolding single
+  unfolding TR.single
   single-told e {t} g = by (eqb (t .stop) 0) (leb mostEntries (t .entries)) (ltb (length (t .listing) - t .written) (roomNeeded (t .traced)))
     where
       by : (a b c : Bool) → Goes s (cond a (cond b (stopped 12 t) (cond c (stopped 14 t) (commanded e t))) t)
@@ -183,12 +185,12 @@ module _ {s : Progress} where
   either-told false g f = f
 
   steps-told : (left p : ℕ) {t : Progress} → Goes s t → Goes s (steps left p t)
-  unfolding steps
+  unfolding TR.steps
   steps-told zero p g = g
   steps-told (suc left) p {t} g = let next = single-told (Step p) g in either-told (unanswered p (single (Step p) t)) (steps-told left p next) next
 
   carry-told : (e : Entry) {t : Progress} → Goes s t → Goes s (carry e t)
-  unfolding carry
+  unfolding TR.carry
   carry-told (StartLl p) g = single-told (StartLl p) g
   carry-told (StartVl p) g = single-told (StartVl p) g
   carry-told (StartSc p k) g = single-told (StartSc p k) g
@@ -196,7 +198,7 @@ module _ {s : Progress} where
   carry-told (Finish p) {t} g = either-told (eqb (t .stop) 0) (steps-told _ p g) g
 
   all-told : (es : List Entry) {t : Progress} → Goes s t → Goes s (carryAll es t)
-  unfolding carryAll
+  unfolding TR.carryAll
   all-told [] g = g
   all-told (e ∷ es) g = all-told es (carry-told e g)
 

@@ -7,7 +7,7 @@ use denote.Ref.{now}
 use lib.ListN.{length}
 use Rattle.notation.specs.Readers.{HeaderSays}
 use Rattle.run.specs.declared.text_run.First.{First}
-use Rattle.semantics.specs.TextRun.{roomNeeded}
+use Rattle.text_runs.specs.TextRun.{roomNeeded}
 use Rattle.run.specs.Finished.{memoryOf, refusedWith, saysAfter}
 use Rattle.run.proofs.RunLaws.{lending-sixteen, run-14, run-12, run-not-headed, run-headed, answered, ended-as}
 use Rattle.run.proofs.StopLaws.{report-is, line-stops, report-sixteen, stops-14, stops-12, stops-looked}

@@ -1,9 +1,9 @@
--- `access::trace_lines::start_line`: its parts, one after another.
+-- `trace_parts::start_line`: its parts, one after another.
 use Rattle.listing.proofs.WritingLaws.{then, room-first, room-then}
-use Rattle.access.specs.TraceLines.{startLine}
+use Rattle.trace_parts.specs.TraceParts.{startLine}
 use borrow.Author.Needs.{needs}
-use Rattle.access.proofs.trace_lines.start_line.Statement.{statement}
-use Rattle.access.proofs.trace_lines.start_line.Tie as tie
+use Rattle.trace_parts.proofs.start_line.Statement.{statement}
+use Rattle.trace_parts.proofs.start_line.Tie as tie
 
 head-requires : tie.Need-head-requires
 unfolding startLine

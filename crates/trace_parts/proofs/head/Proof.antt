@@ -1,9 +1,9 @@
--- `access::texts::head`: one number after the other.
+-- `trace_parts::head`: one number after the other.
 use Rattle.listing.proofs.WritingLaws.{then, room-first, room-then}
-use Rattle.access.specs.TraceLines.{headText}
+use Rattle.trace_parts.specs.TraceParts.{headText}
 use borrow.Author.Needs.{needs}
-use Rattle.access.proofs.texts.head.Statement.{statement}
-use Rattle.access.proofs.texts.head.Tie as tie
+use Rattle.trace_parts.proofs.head.Statement.{statement}
+use Rattle.trace_parts.proofs.head.Tie as tie
 
 number-requires : tie.Need-number-requires
 unfolding headText

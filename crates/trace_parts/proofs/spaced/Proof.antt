@@ -1,9 +1,9 @@
--- `access::texts::spaced`: a space and the number.
+-- `trace_parts::spaced`: a space and the number.
 use Rattle.listing.proofs.WritingLaws.{then, room-first, room-then}
-use Rattle.access.specs.TraceLines.{spaced}
+use Rattle.trace_parts.specs.TraceParts.{spaced}
 use borrow.Author.Needs.{needs}
-use Rattle.access.proofs.texts.spaced.Statement.{statement}
-use Rattle.access.proofs.texts.spaced.Tie as tie
+use Rattle.trace_parts.proofs.spaced.Statement.{statement}
+use Rattle.trace_parts.proofs.spaced.Tie as tie
 
 put-requires : tie.Need-put-requires
 unfolding spaced

@@ -1,10 +1,10 @@
--- `access::texts::end`: the text of each truth.
+-- `trace_parts::end`: the text of each truth.
 use mathlib.Core.Path.{ap}
 use Rattle.listing.proofs.WritingLaws.{same, room-same}
-use Rattle.access.specs.TraceLines.{endText}
+use Rattle.trace_parts.specs.TraceParts.{endText}
 use borrow.Author.Needs.{needs}
-use Rattle.access.proofs.texts.end.Statement.{statement}
-use Rattle.access.proofs.texts.end.Tie as tie
+use Rattle.trace_parts.proofs.end.Statement.{statement}
+use Rattle.trace_parts.proofs.end.Tie as tie
 
 slice-aggregate-plain : tie.Need-slice-aggregate-plain
 slice-aggregate-plain c = search needs

@@ -1,13 +1,13 @@
--- `access::texts::brought`: only an SC brings a value.
+-- `trace_parts::brought`: only an SC brings a value.
 use mathlib.Core.Path.{ap}
 use mathlib.Core.List.{[]}
 use mathlib.Core.Bool.{Bool, cond}
 use borrow.Author.Tests.{eq-eqb, ne-eqb}
 use Rattle.listing.proofs.WritingLaws.{same, none, room-same}
-use Rattle.access.specs.TraceLines.{spaced, broughtText}
+use Rattle.trace_parts.specs.TraceParts.{spaced, broughtText}
 use borrow.Author.Needs.{needs}
-use Rattle.access.proofs.texts.brought.Statement.{statement}
-use Rattle.access.proofs.texts.brought.Tie as tie
+use Rattle.trace_parts.proofs.brought.Statement.{statement}
+use Rattle.trace_parts.proofs.brought.Tie as tie
 
 spaced-requires : tie.Need-spaced-requires
 unfolding broughtText

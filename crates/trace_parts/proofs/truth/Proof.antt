@@ -1,10 +1,10 @@
--- `access::texts::truth`: the text of each truth.
+-- `trace_parts::truth`: the text of each truth.
 use mathlib.Core.Path.{ap}
 use Rattle.listing.proofs.WritingLaws.{same, room-same}
-use Rattle.access.specs.TraceLines.{truthText}
+use Rattle.trace_parts.specs.TraceParts.{truthText}
 use borrow.Author.Needs.{needs}
-use Rattle.access.proofs.texts.truth.Statement.{statement}
-use Rattle.access.proofs.texts.truth.Tie as tie
+use Rattle.trace_parts.proofs.truth.Statement.{statement}
+use Rattle.trace_parts.proofs.truth.Tie as tie
 
 slice-aggregate-plain : tie.Need-slice-aggregate-plain
 slice-aggregate-plain c = search needs

@@ -1,9 +1,9 @@
--- `access::texts::bracketed`: the number between two brackets.
+-- `trace_parts::bracketed`: the number between two brackets.
 use Rattle.listing.proofs.WritingLaws.{then, room-first, room-then}
-use Rattle.access.specs.TraceLines.{bracketed}
+use Rattle.trace_parts.specs.TraceParts.{bracketed}
 use borrow.Author.Needs.{needs}
-use Rattle.access.proofs.texts.bracketed.Statement.{statement}
-use Rattle.access.proofs.texts.bracketed.Tie as tie
+use Rattle.trace_parts.proofs.bracketed.Statement.{statement}
+use Rattle.trace_parts.proofs.bracketed.Tie as tie
 
 put-requires : tie.Need-put-requires
 unfolding bracketed
