@@ -111,7 +111,7 @@ runs =
 
 pub runs-as-in-01 : map (runs-to false 800) runs ≡ map (should 800) runs
 unfolding dirtyX dirtyBank dirtyHelp dirtyProcess lent dirtyBytes runs-to lines should runs TR.runWith read readFrom
-    proceed step starting inside whole scan go move said more onDigit atEnd kindOf times carryAll carry steps single
+    proceed step starting inside whole scan go move said more onDigit atEnd kindOf times TR.carryAll TR.carry TR.steps TR.single
     command refusal obey stepAt inRange setUp setUpRefusal llLine truthLine endLine refusedLine answerHead wordsOf
     decimal digits
 runs-as-in-01 = refl
@@ -171,7 +171,7 @@ traces =
 
 pub traces-line-by-line : map (runs-to true 2000) traces ≡ map (should 2000) traces
 unfolding dirtyX dirtyBank dirtyHelp dirtyProcess lent dirtyBytes runs-to lines should traces TR.runWith read readFrom
-    proceed step starting inside whole scan go move said more onDigit atEnd kindOf times carryAll carry steps single
+    proceed step starting inside whole scan go move said more onDigit atEnd kindOf times TR.carryAll TR.carry TR.steps TR.single
     command refusal obey stepAt inRange setUp setUpRefusal llLine truthLine endLine refusedLine answerHead wordsOf
     decimal digits accessOf doingAt spaced bracketed headText halfText halfPlaceText itemText valuesText truthText
     storedText writtenText actText endText stepLine broughtText startLine

@@ -23,6 +23,7 @@ use Rattle.listing.specs.Lines.{answerHead, wordsOf, llLine, truthLine, endLine
 use Rattle.listing.specs.Quoted.{quoted}
 use Rattle.text_runs.specs.TextRun.{roomNeeded, longestText}
 use Rattle.text_runs.specs.TextRun as TR
+use Rattle.text_runs.specs.StopPlaces as SP
 use Rattle.semantics.specs.TextRun.{single, steps, carry, carryAll, runWith}
 use Rattle.positions.specs.declared.StopReport.{StopReport}
 use Rattle.text_runs.specs.StopPlaces.{atPlace}
@@ -92,7 +93,7 @@ stops =
 
 pub stop-places : map stopOf stops ≡ stops
 unfolding dirtyX dirtyBank dirtyHelp dirtyProcess lent dirtyBytes stopOf stops reportRead TR.runWith read readFrom proceed step starting inside whole scan
-    go move said more onDigit atEnd kindOf times locateText locate stride stopIndex carryAll carry steps single command refusal obey stepAt inRange
+    go move said more onDigit atEnd kindOf times locateText locate stride SP.stopIndex TR.carryAll TR.carry TR.steps TR.single command refusal obey stepAt inRange
     setUp setUpRefusal llLine truthLine endLine refusedLine answerHead wordsOf decimal digits
 stop-places = refl
 
@@ -100,6 +101,6 @@ stop-places = refl
 pub stops-at-13 : {report : StopReport} → StopsAt false lent (quoted "2 1 5\n0l 0.\n 0l") (dirtyBytes 800) report
     → report ≡ record { n = 2; w = 1; place = 13; process = 0 }
 unfolding dirtyX dirtyBank dirtyHelp dirtyProcess lent dirtyBytes reportRead read readFrom proceed step starting inside whole scan go move said more
-    onDigit atEnd kindOf times locateText locate stride stopIndex carryAll carry steps single command refusal obey stepAt inRange setUp setUpRefusal
+    onDigit atEnd kindOf times locateText locate stride SP.stopIndex TR.carryAll TR.carry TR.steps TR.single command refusal obey stepAt inRange setUp setUpRefusal
     llLine truthLine endLine refusedLine answerHead wordsOf decimal digits
 stops-at-13 x = stops-by-reading x (omega arith) (omega arith)
