@@ -1,0 +1,4 @@
+pub mod Items
+pub mod Accesses
+pub mod TraceParts
+pub mod Truth
