@@ -1,0 +1,3 @@
+pub mod SingleEntries
+pub mod UntilAnswered
+pub mod KeptLaws
