@@ -1,3 +1,4 @@
 pub mod SingleEntries
 pub mod UntilAnswered
 pub mod KeptLaws
+pub mod MiddleLaws
