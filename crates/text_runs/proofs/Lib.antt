@@ -2,3 +2,6 @@ pub mod SingleEntries
 pub mod UntilAnswered
 pub mod KeptLaws
 pub mod MiddleLaws
+pub mod TextLaws
+pub mod StopLaws
+pub mod FaultLaws
