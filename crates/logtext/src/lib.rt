@@ -1,5 +1,5 @@
 // The text of a log: its numbers, read into lent memory, where they stand, and what the judge says of them.
-pub mod places;
+pub mod number_places;
 
 ghost use mathlib.Core.Path.{_≡_};
 ghost use Prim.Native.Nat.{_≤_, _<_};
