@@ -14,7 +14,8 @@ use Rattle.model.specs.Replies.{numberOf}
 use Rattle.notation.specs.declared.Entry.{Entry}
 use Rattle.notation.specs.declared.Entry.the-variants.{StartLl, StartVl, StartSc, Step, Finish}
 use Rattle.notation.specs.Grammar.{Said}
-use Rattle.notation.specs.FirstLine.{Reading, right, wrong, read}
+use Rattle.notation.specs.Readings.{Reading, right, wrong}
+use Rattle.notation.specs.FirstLine.{read}
 use Rattle.listing.specs.Lines.{letterS, letterV, llLine, truthLine, endLine, refusedLine}
 use Rattle.semantics.specs.TextRun.{mostEntries, roomNeeded, longestText, processOf, orderOf, valueOf}
 use Rattle.station.specs.Station.{StationMemory, processAt, returnAreaOf}
