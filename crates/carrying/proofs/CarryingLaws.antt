@@ -16,7 +16,7 @@ use Rattle.semantics.specs.TextRun.{Progress, single, unanswered, finish, carry
 use Rattle.semantics.specs.StopPlaces.{stopIndex}
 use Rattle.entry.specs.RunState.{RunState, progress, Sound, Kept, Becomes}
 use Rattle.entry.specs.Turned.{staysAt}
-use Rattle.carrying.specs.Carried.{OthersKept, Carries, Carrying}
+use Rattle.carrying.specs.Carried.{Carries, Carrying}
 use Rattle.entry.proofs.SingleLaws.{stays}
 use Rattle.semantics.proofs.KeptLaws.{all-stay}
 use Rattle.semantics.proofs.FinishLaws.{until-answered}
@@ -96,12 +96,11 @@ pub carrying-none : {len : ℕ} {h : RunState} (es : List Entry) → Sound len h
 carrying-none es s z = record { same = refl; index = omega arith; kept = stays s; goes = z }
 
 -- behind the last
-pub carrying-all : {len at : ℕ} {es : List Entry} {h h′ : RunState} → Carrying len es h at h′ → OthersKept h h′ → length es ≤ at → Carries len es h h′ at
+pub carrying-all : {len at : ℕ} {es : List Entry} {h h′ : RunState} → Carrying len es h at h′ → length es ≤ at → Carries len es h h′ at
 unfolding carryAll stopIndex
-carrying-all {len} {at} {es} {h} {h′} c o l = record {
+carrying-all {len} {at} {es} {h} {h′} c l = record {
   becomes = record { same = sym (ap (λ (x : List Entry). carryAll x (progress len h′)) (drop-all es at l)) ∙ c .same; kept = c .kept };
   index = omega (arith, c .index, ap (λ (x : List Entry). stopIndex x (progress len h′)) (drop-all es at l));
-  others = o;
 }
 
 -- at an entry, which makes a step or is refused
@@ -139,13 +138,12 @@ module _ {len at : ℕ} {es : List Entry} {h h₁ h′ : RunState} (c : Carrying
   abbrev kept-both : Kept len h h′
   kept-both = kept-then (c .kept) (b .kept)
 
-  pub ends-refused : OthersKept h h′ → (h′ .run .stop ≡ 0 → ⊥) → Carries len es h h′ at
-  ends-refused o n =
+  pub ends-refused : (h′ .run .stop ≡ 0 → ⊥) → Carries len es h h′ at
+  ends-refused n =
       let over = goes-not e (progress len h′) n in
       record {
         becomes = record { same = sym (all-stay rest (progress len h′) n) ∙ open-with false over; kept = kept-both };
         index = omega (arith, index-with false over, index-stops rest (progress len h′) n);
-        others = o;
       }
 
   module _ (z : h′ .run .stop ≡ 0) {line : ℕ} (r : recordAt (progress len h′ .memory .records) (record { 0 = processOf e }) .line ≡ line) where
