@@ -17,7 +17,8 @@ use Rattle.notation.specs.declared.Entry.the-variants.{StartLl, StartVl, StartS
 use Rattle.notation.specs.Grammar.{largest}
 use Rattle.notation.specs.EntryWords.{entryIn, keptEntry}
 use Rattle.boards.specs.Files.{BoardRecord}
-use Rattle.carrying.specs.Carried.{entriesIn, Carries}
+use Rattle.text_runs.specs.KeptEntries.{entriesIn}
+use Rattle.carrying.specs.Carried.{Carries}
 use Rattle.text_runs.proofs.KeptLaws.{kept-run}
 use Rattle.semantics.proofs.FarLaws.{far-refused}
 use Rattle.text_runs.specs.TextRun.{mostEntries, roomNeeded, processOf, orderOf, valueOf}
