@@ -1,12 +1,10 @@
 -- The parts of a whole text run put together.
-use mathlib.Core.Path.{_≡_, refl, sym, ap, subst, _∙_}
-use mathlib.Core.Bool.{Bool, true, false, cond}
-use mathlib.Core.List.{List, map}
-use Prim.Native.Nat.{ℕ, _≤_, _<_}
+use mathlib.Core.Path.{_≡_, sym, ap, subst, _∙_}
+use mathlib.Core.Bool.{Bool, true, false}
+use mathlib.Core.List.{List}
+use Prim.Native.Nat.{ℕ, _≤_}
 use native.Mathlib.Omega.{arith}
-use lib.Dec.{eqb}
 use lib.ListN.{length, take, replicate}
-use borrow.Author.Tests.{eq-eqb, ne-eqb, lt-ltb, le-ltb}
 use Rattle.model.specs.declared.Bench.{Bench}
 use Rattle.model.specs.declared.Process.{Process}
 use Rattle.model.specs.Records.{noProcess}
@@ -17,20 +15,13 @@ use Rattle.tables.specs.Gathered.{gathered}
 use Rattle.setup.specs.SetUpByValue.{setUpNumber}
 use Rattle.notation.specs.declared.Entry.{Entry}
 use Rattle.notation.specs.Grammar.{largest, deepest}
-use Rattle.notation.specs.Readers.{Headed, NotHeaded}
-use Rattle.notation.specs.FirstLine.{whole, read}
-use Rattle.notation.specs.Groups.{ItemsEnded, ItemsClosed, ItemsBroken}
-use Rattle.notation.specs.EntryWords.{keptEntry}
+use Rattle.notation.specs.Groups.{ItemsEnded}
 use Rattle.notation.specs.Listed.{Keeps}
-use Rattle.notation.proofs.HeaderLaws.{headed-reads}
-use Rattle.notation.proofs.GroupLaws.{not-headed}
-use Rattle.notation.proofs.ListedLaws.{kept-entries}
 use Rattle.entry.specs.declared.state.Run.{Run}
 use Rattle.run.specs.declared.last_line.Finished.{Finished}
 use Rattle.run.specs.declared.text_run.First.{First}
-use Rattle.text_runs.specs.TextRun.{roomNeeded, longestText}
-use Rattle.text_runs.specs.TextRun as TR
-use Rattle.semantics.specs.TextRun.{Progress, Ended, ended, begun, carryAll, carriedOut, runWith}
+use Rattle.text_runs.specs.TextRun.{roomNeeded}
+use Rattle.semantics.specs.TextRun.{figure2, Ended, ended, begun, carryAll, runWith}
 use Rattle.positions.specs.declared.StopReport.{StopReport}
 use Rattle.semantics.specs.StopPlaces.{StopsAt}
 use Rattle.entry.specs.RunState.{RunState, stateOf, progress, Filled, Sound, Kept, Becomes}
@@ -38,7 +29,9 @@ use Rattle.text_runs.specs.KeptEntries.{entriesIn}
 use Rattle.run.specs.Finished.{closed, Closable, memoryOf, atMostSixteen, endOf, Answers, Lending, TextRan, refusedWith, startedWith, saysAfter}
 use Rattle.entry.proofs.FilledLaws.{gathered-filled, filled-gathered}
 use Rattle.run.proofs.RecordLaws.{sixteen-most, take-sixteen, filled-sixteen, sixteen-filled}
-use Rattle.semantics.proofs.KeptLaws.{kept-run}
+use Rattle.text_runs.proofs.TextLaws as T
+use Rattle.text_runs.proofs.TextLaws.{not-begun, is-begun}
+use Rattle.semantics.proofs.FarLaws.{far-refused}
 use Rattle.run.proofs.StartLaws.{set-up-same, first, begun-same}
 
 -- a sound run has room for its last line
@@ -63,38 +56,12 @@ closed-report r list e = ap (λ (x : Finished × List ℕ). x .0 .report) e
 pub answers-as : {len : ℕ} {out : Finished} {ws list : List ℕ} {a b : Ended} → Answers len out ws list a → a ≡ b → Answers len out ws list b
 answers-as x e = record { same = x .same ∙ e; filled = x .filled }
 
--- a set-up that is refused, and one that is not
-pub not-begun : {A : Type 0} (k : ℕ) (F : Memory → A) (x m : Memory) (e : A) → (k ≡ 0 → ⊥) → cond (eqb k 0) (F (cond (eqb k 0) x m)) e ≡ e
-not-begun k F x m e n = simp (ne-eqb k 0 n)
-
-pub is-begun : {A : Type 0} (k : ℕ) (F : Memory → A) (x m : Memory) (e : A) → k ≡ 0 → cond (eqb k 0) (F (cond (eqb k 0) x m)) e ≡ F x
-is-begun k F x m e z = simp (eq-eqb k 0 z)
-
--- a text with a fault
+-- a right text, by what its list keeps
 module _ (t : Bool) (s : List ℕ) (f : First) (m : Memory) (list : List ℕ) where
-  pub broken-says : {k place : ℕ} → ItemsBroken s (f .items) deepest k place → refusedWith k m list ≡ saysAfter t s f m list
-  unfolding whole
-  broken-says i = sym (ap (λ v. carriedOut t m list (whole (f .n) (f .w) (f .initial) v)) (i .same))
-
-  pub closed-says : {next : ℕ} {es : List Entry} → ItemsClosed s (f .items) deepest next es → refusedWith 10 m list ≡ saysAfter t s f m list
-  unfolding whole
-  closed-says i = sym (ap (λ v. carriedOut t m list (whole (f .n) (f .w) (f .initial) v)) (i .same))
-
-  -- a right text, by what its list keeps
   pub kept-says : {list₀ entries : List ℕ} {to : ℕ} {Q : List ℕ → Type 0} → length list₀ ≡ 60001
       → Keeps s list₀ entries 0 to (λ es. ItemsEnded s (f .items) deepest es) Q
       → startedWith t f (entriesIn to entries) m list ≡ saysAfter t s f m list
-  unfolding whole
-  kept-says {list₀} {entries} {to} l k =
-      let es = k .says in
-      let kept : entriesIn to entries ≡ map keptEntry (take 60001 es) = kept-entries (k .lists) ∙ ap (λ (j : ℕ). map keptEntry (take j es)) l in
-      ap (λ (x : List Entry). startedWith t f x m list) kept ∙ same-started es ∙ sym (ap (λ v. carriedOut t m list (whole (f .n) (f .w) (f .initial) v)) (k .read .same))
-    where
-      prepared : ℕ × Memory
-      prepared = setUp m (f .n) (f .w) (replicate (f .w) (f .initial))
-
-      same-started : (es : List Entry) → startedWith t f (map keptEntry (take 60001 es)) m list ≡ startedWith t f es m list
-      same-started es = ap (λ (x : Progress). cond (eqb (prepared .0) 0) (ended x) (ended (begun t m list (prepared .0)))) (kept-run es (begun t (prepared .1) list 0) refl)
+  kept-says l k = T.kept-says figure2 t s (f .n) (f .w) (f .initial) (f .items) m list far-refused l k
 
 -- what the entries leave
 pub record Carried (len : ℕ) (h h′ : RunState) (e : Ended) : Type 0 where
@@ -142,27 +109,6 @@ room-most false l = l
 pub lending-sixteen : {k : ℕ} {all : Records} {list : List ℕ} (t : Bool) (len : ℕ) → k ≡ atMostSixteen len
     → all ≡ gathered (take len (all .list)) noProcess 16 → roomNeeded t ≤ length list → Lending k all list
 lending-sixteen {all = all} t len e g l = rw e (record { few = sixteen-most len; filled = filled-sixteen (gathered-filled len all g); room = room-most t l })
-
-module _ (t : Bool) (m : Memory) (text list : List ℕ) where
-  pub run-14 : length list < roomNeeded t → record { number = 14; entries = 0; written = 0; memory = m; listing = list } ≡ runWith t m text list
-  unfolding TR.runWith
-  run-14 l = simp (lt-ltb (length list) (roomNeeded t) l)
-
-  module _ (l : roomNeeded t ≤ length list) where
-    pub run-12 : longestText < length text → refusedWith 12 m list ≡ runWith t m text list
-    unfolding TR.runWith
-    run-12 h = simp (le-ltb (length list) (roomNeeded t) l, lt-ltb longestText (length text) h)
-
-    run-read : length text ≤ longestText → carriedOut t m list (read text) ≡ runWith t m text list
-    unfolding TR.runWith
-    run-read h = simp (le-ltb (length list) (roomNeeded t) l, le-ltb longestText (length text) h)
-
-    pub run-not-headed : length text ≤ longestText → {place : ℕ} → NotHeaded text place → refusedWith 10 m list ≡ runWith t m text list
-    run-not-headed h n = sym (ap (carriedOut t m list) (not-headed n)) ∙ run-read h
-
-    pub run-headed : (f : First) → length text ≤ longestText → Headed text (f .n) (f .w) (f .initial) (f .items) → saysAfter t text f m list ≡ runWith t m text list
-    unfolding read
-    run-headed f h x = sym (ap (carriedOut t m list) (headed-reads x deepest)) ∙ run-read h
 
 -- over all lent records
 pub answered : {k : ℕ} {out : Finished} {ws′ list′ : List ℕ} (len : ℕ) (b : Bench) (all : Records) (ws : List ℕ)

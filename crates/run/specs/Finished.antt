@@ -3,20 +3,17 @@
 use mathlib.Core.Path.{_≡_}
 use mathlib.Core.Bool.{Bool, false, cond}
 use Prim.Native.Nat.{ℕ, _+_, _≤_}
-use mathlib.Core.List.{List, []}
+use mathlib.Core.List.{List}
 use lib.Dec.{eqb, ltb}
-use lib.ListN.{length, take, drop, replicate}
+use lib.ListN.{length, take}
 use lib.Seq.{sets}
 use Rattle.model.specs.declared.Bench.{Bench}
 use Rattle.model.specs.Records.{noProcess}
 use Rattle.model.specs.Machine.{Memory}
-use Rattle.model.specs.SetUp.{setUp}
 use Rattle.tables.specs.declared.records.Records.{Records}
 use Rattle.tables.specs.Gathered.{gathered}
 use Rattle.notation.specs.declared.Entry.{Entry}
-use Rattle.notation.specs.Grammar.{Said, deepest}
-use Rattle.notation.specs.EntryWords.{largestPlace, entryIn, placeIn}
-use Rattle.notation.specs.Scan.{scan, between}
+use Rattle.notation.specs.EntryWords.{largestPlace}
 use Rattle.notation.specs.FirstLine.{whole}
 use Rattle.notation.specs.Readers as R
 use Rattle.listing.specs.Lines.{endLine, refusedLine}
@@ -24,10 +21,10 @@ use Rattle.entry.specs.declared.state.Run.{Run}
 use Rattle.run.specs.declared.last_line.Finished.{Finished}
 use Rattle.run.specs.declared.text_run.First.{First}
 use Rattle.positions.specs.declared.StopReport.{StopReport}
-use Rattle.text_runs.specs.TextRun.{processOf, mostEntries, roomNeeded}
-use Rattle.semantics.specs.TextRun.{Ended, ended, begun, started, carriedOut, runWith}
-use Rattle.text_runs.specs.StopPlaces.{reportedProcess}
-use Rattle.semantics.specs.StopPlaces.{startedReport, StopsAt}
+use Rattle.text_runs.specs.TextRun.{mostEntries, roomNeeded}
+use Rattle.text_runs.specs.KeptEntries as K
+use Rattle.semantics.specs.TextRun.{figure2, Ended, runWith}
+use Rattle.semantics.specs.StopPlaces.{StopsAt}
 use Rattle.entry.specs.RunState.{Filled, lastRoom}
 
 abbrev pub freshRun : Bench → Records → ℕ → Bool → Run
@@ -88,24 +85,16 @@ pub record Headed (s : List ℕ) (f : First) : Type 0 where
 
 -- a run that is refused before its set-up: it comes to the same in both styles
 abbrev pub refusedWith : ℕ → Memory → List ℕ → Ended
-refusedWith k m list = ended (begun false m list k)
-
--- what is said of a text with these entries
-abbrev pub saidWith : First → List Entry → Said
-saidWith f es = record { n = f .n; w = f .w; initial = f .initial; entries = es }
+refusedWith k m list = K.refusedWith figure2 k m list
 
 -- what is left once the items are read: the set-up and the entries
 abbrev pub startedWith : Bool → First → List Entry → Memory → List ℕ → Ended
-startedWith t f es m list = started t m list (saidWith f es) (setUp m (f .n) (f .w) (replicate (f .w) (f .initial)))
-
--- what a number of the list reports of the item that it keeps
-abbrev pub wordReport : ℕ → ℕ → ℕ → StopReport
-wordReport n w word = record { n = n; w = w; place = placeIn word; process = reportedProcess (processOf (entryIn word)) }
+startedWith t f es m list = K.startedWith figure2 t (f .n) (f .w) (f .initial) es m list
 
 -- where the run stops, where `ps` are the places of the entries
 abbrev pub reportWith : Bool → First → List Entry → List ℕ → Memory → List ℕ → StopReport
-reportWith t f es ps m list = startedReport t list (saidWith f es) ps (setUp m (f .n) (f .w) (replicate (f .w) (f .initial)))
+reportWith t f es ps m list = K.reportWith figure2 t (f .n) (f .w) (f .initial) es ps m list
 
 -- what is left of a text run once the first line is read
 abbrev pub saysAfter : Bool → List ℕ → First → Memory → List ℕ → Ended
-saysAfter t s f m list = carriedOut t m list (whole (f .n) (f .w) (f .initial) (scan (drop (f .items) s) (between false) [] [] deepest))
+saysAfter t s f m list = K.saysAfter figure2 t s (f .n) (f .w) (f .initial) (f .items) m list

@@ -7,8 +7,11 @@ use Rattle.notation.proofs.HeaderLaws.{headed-within, headed-small}
 use Rattle.notation.proofs.ListedLaws.{kept-within}
 use Rattle.run.specs.Finished.{memoryOf}
 use Rattle.text_runs.proofs.FaultLaws.{broken-small}
-use Rattle.run.proofs.RunLaws.{answers-as, broken-says, closed-says, kept-says}
-use Rattle.run.proofs.StopLaws.{report-is, broken-stops, closed-stops, kept-stops}
+use Rattle.text_runs.proofs.TextLaws.{broken-says, closed-says}
+use Rattle.text_runs.proofs.StopLaws.{report-is, broken-stops, closed-stops, kept-stops}
+use Rattle.semantics.specs.TextRun.{figure2}
+use Rattle.semantics.proofs.FarLaws.{far-refused}
+use Rattle.run.proofs.RunLaws.{answers-as, kept-says}
 use borrow.Author.Needs.{needs}
 use Rattle.run.proofs.text_run.checked.Statement.{statement}
 use Rattle.run.proofs.text_run.checked.Tie as tie
@@ -74,7 +77,7 @@ returns c =
     let m = memoryOf (a .bench) (a .all) (a .len) (now (a .words)) in
     let read = subst (ItemsSay _ _ _ _ _ _) (c8 .read .given .1) (c11 .read-items .ensures) .are in
     let x = c4 .refused .ensures in
-    (answers-as (x .0) (broken-says (a .traced) (now (a .text)) (a .first) m (now (a .list)) (read .is)), report-is (x .1) (broken-stops (c17 .pre .1 .line) (read .is)))
+    (answers-as (x .0) (broken-says figure2 (a .traced) (now (a .text)) _ _ _ _ m (now (a .list)) (read .is)), report-is figure2 (x .1) (broken-stops figure2 (c17 .pre .1 .line) (read .is)))
 
 same-length-3 : tie.Need-same-length-3
 same-length-3 c = search needs
@@ -90,7 +93,7 @@ returns-2 c =
     let m = memoryOf (a .bench) (a .all) (a .len) (now (a .words)) in
     let read = subst (ItemsSay _ _ _ _ _ _) (c8 .read2 .given .1) (c11 .read-items .ensures) .are in
     let x = c4 .refused2 .ensures in
-    (answers-as (x .0) (closed-says (a .traced) (now (a .text)) (a .first) m (now (a .list)) (read .read)), report-is (x .1) (closed-stops (c17 .pre .1 .line) (read .read)))
+    (answers-as (x .0) (closed-says figure2 (a .traced) (now (a .text)) _ _ _ _ m (now (a .list)) (read .read)), report-is figure2 (x .1) (closed-stops figure2 (c17 .pre .1 .line) (read .read)))
 
 same-length-5 : tie.Need-same-length-5
 same-length-5 c = search needs
@@ -107,7 +110,7 @@ returns-3 c =
     let read = subst (ItemsSay _ _ _ _ _ _) (c9 .read3 .given .1) (c12 .read-items .ensures) .are in
     let x = c4 .started .ensures in (
       answers-as (x .0) (kept-says (a .traced) (now (a .text)) (a .first) m (now (a .list)) (c14 .empty-list .ensures) read),
-      kept-stops (a .traced) m (now (a .list)) {f = a .first} (c14 .empty-list .ensures) (c18 .pre .1 .line) read (x .1),
+      kept-stops figure2 far-refused (a .traced) m (now (a .list)) (c14 .empty-list .ensures) (c18 .pre .1 .line) read (x .1),
     )
 
 pub checked-spec : {M : Type 1} → statement M

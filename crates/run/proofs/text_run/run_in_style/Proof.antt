@@ -9,8 +9,11 @@ use Rattle.notation.specs.Readers.{HeaderSays}
 use Rattle.run.specs.declared.text_run.First.{First}
 use Rattle.text_runs.specs.TextRun.{roomNeeded}
 use Rattle.run.specs.Finished.{memoryOf, refusedWith, saysAfter}
-use Rattle.run.proofs.RunLaws.{lending-sixteen, run-14, run-12, run-not-headed, run-headed, answered, ended-as}
-use Rattle.run.proofs.StopLaws.{report-is, line-stops, report-sixteen, stops-14, stops-12, stops-looked}
+use Rattle.text_runs.proofs.TextLaws.{run-14, run-12, run-not-headed, run-headed}
+use Rattle.text_runs.proofs.StopLaws.{report-is, line-stops, stops-14, stops-12, stops-looked}
+use Rattle.semantics.specs.TextRun.{figure2}
+use Rattle.run.proofs.RunLaws.{lending-sixteen, answered, ended-as}
+use Rattle.run.proofs.StopLaws.{report-sixteen}
 use Rattle.run.proofs.text_run.run_in_style.Statement.{statement}
 use Rattle.run.proofs.text_run.run_in_style.Tie as tie
 
@@ -36,7 +39,7 @@ returns c =
     let m = memoryOf (a .bench) (a .all) (a .len) (now (a .words)) in
     let short : length (now (a .list)) < roomNeeded (a .traced) = omega (arith, c .before .before .before .if1 .taken, c4 .room-needed .ensures) in
     rw (c .returned .ensures, c .before .at-no-entry .ensures, c .before .before .fresh .ensures)
-    (record { same = run-14 (a .traced) m (now (a .text)) (now (a .list)) short; again = c9 .pre; stops = stops-14 short })
+    (record { same = run-14 figure2 (a .traced) m (now (a .text)) (now (a .list)) short; again = c9 .pre; stops = stops-14 figure2 short })
 
 refused-requires : tie.Need-refused-requires
 refused-requires c κs =
@@ -59,7 +62,7 @@ returns-2 c =
     let m = memoryOf (a .bench) (a .all) (a .len) (now (a .words)) in
     let all = answered (a .len) (a .bench) (a .all) (now (a .words)) (λ m. refusedWith 12 m (now (a .list))) (c10 .records-seen .ensures) (c14 .pre) (c4 .refused .ensures .0) in
     let room : roomNeeded (a .traced) ≤ length (now (a .list)) = omega (arith, c8 .if1 .left, c9 .room-needed .ensures) in
-    ended-as all (run-12 (a .traced) m (now (a .text)) (now (a .list)) room (c7 .if2 .taken)) (stops-12 (c7 .if2 .taken) (c4 .refused .ensures .1))
+    ended-as all (run-12 figure2 (a .traced) m (now (a .text)) (now (a .list)) room (c7 .if2 .taken)) (stops-12 figure2 (c7 .if2 .taken) (c4 .refused .ensures .1))
 
 first-line-requires : tie.Need-first-line-requires
 first-line-requires c κs = search needs
@@ -103,8 +106,8 @@ returns-3 c =
     let all = answered (a .len) (a .bench) (a .all) (now (a .words)) (λ m. refusedWith 10 m (now (a .list))) (c14 .records-seen .ensures) (c18 .pre) (c4 .refused2 .ensures .0) in
     let first = subst (HeaderSays _) (c8 .header .given .1) (c10 .first-line .ensures) in
     let room : roomNeeded (a .traced) ≤ length (now (a .list)) = omega (arith, c12 .if1 .left, c13 .room-needed .ensures) in
-    let report = report-is (c4 .refused2 .ensures .1) (line-stops first) in
-    ended-as all (run-not-headed (a .traced) m (now (a .text)) (now (a .list)) room (c11 .if2 .left) first) (stops-looked room (c11 .if2 .left) report)
+    let report = report-is figure2 (c4 .refused2 .ensures .1) (line-stops figure2 first) in
+    ended-as all (run-not-headed figure2 (a .traced) m (now (a .text)) (now (a .list)) room (c11 .if2 .left) first) (stops-looked figure2 room (c11 .if2 .left) report)
 
 same-length-5 : tie.Need-same-length-5
 same-length-5 c = search needs
@@ -127,7 +130,7 @@ returns-4 c =
     let first = subst (HeaderSays _) (c8 .header2 .given .1) (c10 .first-line .ensures) in
     let room : roomNeeded (a .traced) ≤ length (now (a .list)) = omega (arith, c12 .if1 .left, c13 .room-needed .ensures) in
     let report = report-sixteen (a .len) (a .bench) (a .all) (now (a .words)) (c14 .records-seen .ensures) (c18 .pre) (c4 .checked .ensures .1) in
-    ended-as all (run-headed (a .traced) m (now (a .text)) (now (a .list)) room f (c11 .if2 .left) first) (stops-looked room (c11 .if2 .left) report)
+    ended-as all (run-headed figure2 (a .traced) m (now (a .text)) (now (a .list)) room (c11 .if2 .left) first) (stops-looked figure2 room (c11 .if2 .left) report)
 
 pub run-in-style-spec : {M : Type 1} → statement M
 run-in-style-spec =
