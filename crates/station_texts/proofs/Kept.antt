@@ -1,15 +1,13 @@
 -- A station on whose record 0 a text runs: what differs from the memory that was lent is record 0's, and the bench of record
 -- 0, put back, is the station.
 use mathlib.Core.Path.{_≡_, refl, sym, ap, ap₂, subst, _∙_}
-use mathlib.Core.Bool.{Bool, true, false, not, _&&_, cond}
-use mathlib.Core.List.{List, [], _∷_, map}
+use mathlib.Core.Bool.{Bool, true, false, cond}
+use mathlib.Core.List.{List}
 use Prim.Native.Nat.{ℕ, _+_, _≤_, _<_}
 use native.Mathlib.Decide.{ℕ-discrete, decLt}
 use native.Mathlib.Omega.{arith}
-use lib.Dec.{eqb}
 use lib.ListN.{length, getD, set, length-set}
 use lib.Seq.{getD-set-same, set-set, ext-getD}
-use borrow.Author.Tests.{eq-eqb}
 use Rattle.llsc.specs.Rows.{isStart}
 use Rattle.laws.proofs.Updates.{Split, same, other, split}
 use Rattle.model.specs.declared.Process.{Process}
@@ -22,8 +20,8 @@ use Rattle.station.specs.declared.Tables.{Tables}
 use Rattle.station.specs.declared.Holding.{Holding}
 use Rattle.station.specs.declared.StationProcess.{StationProcess}
 use Rattle.station.specs.Station.{StationMemory, noTables, noStationProcess, tablesAt, processAt}
-use Rattle.station.specs.Projection.{processOf, atRest, elsewhere, putTables, putProcess, embed}
-use Rattle.station.specs.StationRefusals.{StationOrder, StationShaped, recordFor}
+use Rattle.station.specs.Projection.{processOf, putTables, putProcess, embed}
+use Rattle.station.specs.StationRefusals.{StationOrder, StationShaped}
 use Rattle.station.specs.StationCommand.{stationRefusal, stationCommand, obeyedOn}
 use Rattle.station.specs.StationSetUp.{firsts}
 use Rattle.station_facts.proofs.Firsts.{firsts-at, firsts-later, firsts-length}

@@ -1,5 +1,5 @@
 -- The sums of right listings are totals over their answers.
-use Prim.Native.Nat.{ℕ, zero, suc, _+_, _≤_, _<_}
+use Prim.Native.Nat.{ℕ, _+_, _≤_, _<_}
 use mathlib.Core.Path.{_≡_, refl, sym, ap, subst, _∙_}
 use mathlib.Core.List.{List, [], _∷_, _++_}
 use mathlib.Core.Bool.{Bool, true, false, cond}
@@ -12,7 +12,7 @@ use Rattle.answers.specs.declared.Sum.{Sum}
 use Rattle.answers.specs.Shape.{Answer}
 use Rattle.answers.specs.Gains.{noSum, plus, gainOf, processOf, tally, gained}
 use Rattle.sums.specs.declared.Sums.{Sums}
-use Rattle.sums.specs.Season.{mostListings, taking, added, addAll}
+use Rattle.sums.specs.Season.{mostListings, taking, addAll}
 use Rattle.sums.specs.SeasonTable.{Listing, bytesOf, answersOf, total}
 use Rattle.sums.proofs.Order.{of-right, Fine, takes, gains, taking-fine}
 

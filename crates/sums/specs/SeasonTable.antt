@@ -7,7 +7,6 @@ use lib.Dec.{eqb}
 use lib.ListN.{length, getD}
 use Rattle.answers.specs.Shape.{Answer, ll, sc, vl, Right}
 use Rattle.answers.specs.Gains.{bit, processOf}
-use Rattle.sums.specs.declared.Sums.{Sums}
 use Rattle.sums.specs.declared.Table.{Table}
 use Rattle.sums.specs.Season.{emptySums, mostListings, addAll}
 use Rattle.sums.specs.Fractions.{Exact, noRow, table}
