@@ -1,7 +1,6 @@
--- A listing read part by part. Each part says whether it is there, and the bytes after it, or from the first wrong
--- byte on.
--- Inner: that what is read to its end is exactly a `Shaped` listing, and gains what its answers add, is proved in
--- proofs/Theorems.
+-- A listing read part by part (CR 2, row 18: "answer lines and a last line in 01's shape"). Each part says whether it is
+-- there, and the bytes after it, or from the first wrong byte on: that byte's place is a part of the reply. What is read
+-- to its end is exactly a `Shaped` listing, and gains what its answers add: proofs/Theorems.
 use Prim.Native.Nat.{ℕ, zero, suc, _+_, _-_, _*_, _≤_}
 use mathlib.Core.Path.{_≡_}
 use mathlib.Core.List.{List, [], _∷_}

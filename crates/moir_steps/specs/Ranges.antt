@@ -1,5 +1,6 @@
--- The ranges that a step relies on. Rows 1, 2, 3, 9 and 4 of the refusal table ask for them.
--- Inner: `moir_machine`'s `ObeyLaws` proves them of every command that no row refuses.
+-- The ranges that a step relies on: what rows 1, 2, 3, 9 and 4 of the refusal table ask of an accepted one.
+-- `moir_access`'s `Truth` has them as premise; `moir_machine`'s `ObeyLaws` proves them of every command that no row
+-- refuses.
 use mathlib.Core.Path.{_≡_}
 use mathlib.Core.Bool.{true}
 use Prim.Native.Nat.{ℕ, _<_, _≤_}

@@ -1,6 +1,6 @@
--- The ranges that a step relies on, n for N and w for W. Rows 1, 2, 3, 9 and 4 of the refusal table ask for them.
--- Inner: `machine`'s `ObeyLaws` proves them of every command that no row refuses. `access`'s `Truth` has them as
--- premise.
+-- The ranges that a step relies on, n for N and w for W: what rows 1, 2, 3, 9 and 4 of the refusal table ask of an
+-- accepted one. `access`'s `Truth` has them as premise; `machine`'s `ObeyLaws` proves them of every command that no row
+-- refuses.
 use mathlib.Core.Path.{_≡_}
 use mathlib.Core.Bool.{true}
 use Prim.Native.Nat.{ℕ, _<_, _≤_}
