@@ -3,3 +3,4 @@ pub mod PlaceLaws
 pub mod Theorems
 pub mod TextLaws
 pub mod Lengths
+pub mod SmallLaws
