@@ -1,5 +1,5 @@
 -- The theorems about the trace of Moir's bench: the access shown for a step is what `moir_model`'s step does, the step
--- does nothing else to a shared item, and its process gets what is shown.
+-- does nothing else to a shared item, its process gets what is shown, and the line is its own.
 use mathlib.Core.Path.{_≡_, refl, sym, ap, ap₂, subst}
 use mathlib.Core.Logic.{_≢_}
 use mathlib.Core.List.{List}
@@ -32,7 +32,7 @@ use Rattle.moir_access.specs.declared.Content.{Content}
 use Rattle.moir_access.specs.declared.Access.{Access}
 use Rattle.moir_access.specs.Items.{headerContent, segmentContent, wordContent, itemAt, InBench}
 use Rattle.moir_access.specs.Accesses.{noContent, headerRead, accessOf}
-use Rattle.moir_access.specs.Truth.{TellsTruth, casReply, Gets, Stepped}
+use Rattle.moir_access.specs.Truth.{TellsTruth, casReply, Gets, figureLine, Stepped}
 use Rattle.moir_access.proofs.PlaceLaws.{own-put, word-there, word-elsewhere, segment-there, segment-elsewhere}
 
 -- two pairs of numbers are compared one number after the other
@@ -48,9 +48,9 @@ pair-differs {t} {v} {t′} {v′} e z =
     contra (and-both (eq-eqb t t′ (ap (λ (c : Content). c .first) z)) (eq-eqb v v′ (ap (λ (c : Content). c .second) z))) e
 
 -- a read leaves every item as it was
-read-tells : (line : ℕ) (i : Item) {v : Content} (b : Bench) (ws : List ℕ) → InBench b i → itemAt i b ws ≡ v
-    → TellsTruth (record { line = line; item = i; act = Read; values = v; new = noContent }) b ws b ws
-read-tells line i b ws there e = record { there = there; item = (e, refl); others = λ j inside ne. refl }
+read-tells : (line : ℕ) (i : Item) (b : Bench) (ws : List ℕ) → InBench b i
+    → TellsTruth (record { line = line; item = i; act = Read; values = itemAt i b ws; new = noContent }) b ws b ws
+read-tells line i b ws there = record { there = there; item = (refl, refl); others = λ j inside ne. refl }
 
 -- the header is put
 header-elsewhere : (b : Bench) (h : Header) (ws : List ℕ) (i : Item) → InBench b i → i ≢ Hdr
@@ -74,18 +74,15 @@ module _ {b : Bench} {q : Process} {p : ProcessNumber} {ws : List ℕ} (s : Step
     item = (refl, refl);
     others = λ i inside ne. own-put b ws (b .n + 1 + p .0) (q .word) (q .y .val) k-in (omega arith) i inside;
   }
-  saved false = read-tells 7 Hdr b ws tt refl
+  saved false = read-tells 7 Hdr b ws tt
 
-  -- line 5, shown as done or not done
+  -- line 5, by whether it is done
   abbrev g : Segment
   g = segmentAt b ws (q .word)
 
-  abbrev SegmentCas : Bool → Bool → Type 0
-  SegmentCas told done =
-      TellsTruth (record { line = 5; item = Data (q .word); act = Cas told; values = segmentContent (q .y); new = segmentContent (q .z) })
-      b ws (putTag b (q .word) (cond done (q .z) g .tag)) (putValue b ws (q .word) (cond done (q .z) g .val))
-
-  segment-cas : (t : Bool) → sameSegment g (q .y) ≡ t → SegmentCas t t
+  segment-cas : (t : Bool) → sameSegment g (q .y) ≡ t
+      → TellsTruth (record { line = 5; item = Data (q .word); act = Cas t; values = segmentContent (q .y); new = segmentContent (q .z) })
+      b ws (putTag b (q .word) (cond t (q .z) g .tag)) (putValue b ws (q .word) (cond t (q .z) g .val))
   segment-cas true e = record {
     there = k-in;
     item = (pair-same e, segment-there b ws (q .word) (q .z .tag) (q .z .val) k-in tags-in (s .ready .standing .words));
@@ -97,22 +94,12 @@ module _ {b : Bench} {q : Process} {p : ProcessNumber} {ws : List ℕ} (s : Step
     others = segment-elsewhere b ws (q .word) (g .tag) (g .val) k-in;
   }
 
-  segment-tells : {told : Bool} → sameSegment g (q .y) ≡ told → SegmentCas told (sameSegment g (q .y))
-  segment-tells {told} e = subst (SegmentCas told) (sym e) (segment-cas told e)
-
   -- line 19, likewise
-  abbrev HeaderCas : Bool → Bool → Type 0
-  HeaderCas told done =
-      TellsTruth (record { line = 19; item = Hdr; act = Cas told; values = headerContent (q .oldhdr); new = headerContent (q .newhdr) })
-      b ws (putHeader b (cond done (q .newhdr) (b .header))) ws
-
-  header-cas : (t : Bool) → sameHeader (b .header) (q .oldhdr) ≡ t → HeaderCas t t
+  header-cas : (t : Bool) → sameHeader (b .header) (q .oldhdr) ≡ t
+      → TellsTruth (record { line = 19; item = Hdr; act = Cas t; values = headerContent (q .oldhdr); new = headerContent (q .newhdr) })
+      b ws (putHeader b (cond t (q .newhdr) (b .header))) ws
   header-cas true e = record { there = tt; item = (pair-same e, refl); others = header-elsewhere b (q .newhdr) ws }
   header-cas false e = record { there = tt; item = (pair-differs e, refl); others = header-elsewhere b (b .header) ws }
-
-  header-tells : {told : Bool} → sameHeader (b .header) (q .oldhdr) ≡ told
-      → HeaderCas told (sameHeader (b .header) (q .oldhdr))
-  header-tells {told} e = subst (HeaderCas told) (sym e) (header-cas told e)
 
   -- lines 4 and 17
   x-in : InBench b (Announced (q .x .pid) (q .word))
@@ -130,26 +117,31 @@ module _ {b : Bench} {q : Process} {p : ProcessNumber} {ws : List ℕ} (s : Step
     others = word-elsewhere b ws p (q .word) v (s .ready .process) k-in;
   }
 
+  -- the access shown at the point y is one that is true
+  shown-as : (y : Point) {a : Access} {b′ : Bench} {ws′ : List ℕ} → TellsTruth a b ws b′ ws′ → accessOf y p b q ws ≡ a
+      → TellsTruth (accessOf y p b q ws) b ws b′ ws′
+  shown-as y {b′ = b′} {ws′ = ws′} t e = subst (λ (x : Access). TellsTruth x b ws b′ ws′) (sym e) t
+
   -- what a trace says of a step of p is true, at every point but idle, where no step is made
   pub trace-is-true : (y : Point) → y ≢ idle
       → TellsTruth (accessOf y p b q ws) b ws (stepAt y p b q ws .0 .bench) (stepAt y p b q ws .1)
   unfolding accessOf stepAt
   trace-is-true idle ne = absurd (ne refl)
-  trace-is-true ll10 ne = read-tells 10 Hdr b ws tt refl
-  trace-is-true ll2 ne = read-tells 2 (Data (q .word)) b ws k-in refl
-  trace-is-true ll4 ne = read-tells 4 (Announced (q .x .pid) (q .word)) b ws x-in refl
-  trace-is-true ll5 ne = segment-tells refl
-  trace-is-true ll6 ne = read-tells 6 (Data (q .word)) b ws k-in refl
-  trace-is-true ll7 ne = saved (saves (b .header) q)
-  trace-is-true sc14 ne = read-tells 14 Hdr b ws tt refl
-  trace-is-true sc17 ne = word-written (getD ws (offerWord (b .n) (b .w) p (q .word)) 0)
-  trace-is-true sc19 ne = header-tells refl
-  trace-is-true sc2 ne = read-tells 2 (Data (q .word)) b ws k-in refl
-  trace-is-true sc4 ne = read-tells 4 (Announced (q .newhdr .pid) (q .word)) b ws new-in refl
-  trace-is-true sc5 ne = segment-tells refl
-  trace-is-true sc6 ne = read-tells 6 (Data (q .word)) b ws k-in refl
-  trace-is-true sc7 ne = read-tells 7 Hdr b ws tt refl
-  trace-is-true vl13 ne = read-tells 13 Hdr b ws tt refl
+  trace-is-true ll10 ne = shown-as ll10 (read-tells 10 Hdr b ws tt) refl
+  trace-is-true ll2 ne = shown-as ll2 (read-tells 2 (Data (q .word)) b ws k-in) refl
+  trace-is-true ll4 ne = shown-as ll4 (read-tells 4 (Announced (q .x .pid) (q .word)) b ws x-in) refl
+  trace-is-true ll5 ne = shown-as ll5 (segment-cas (sameSegment g (q .y)) refl) refl
+  trace-is-true ll6 ne = shown-as ll6 (read-tells 6 (Data (q .word)) b ws k-in) refl
+  trace-is-true ll7 ne = shown-as ll7 (saved (saves (b .header) q)) refl
+  trace-is-true sc14 ne = shown-as sc14 (read-tells 14 Hdr b ws tt) refl
+  trace-is-true sc17 ne = shown-as sc17 (word-written (getD ws (offerWord (b .n) (b .w) p (q .word)) 0)) refl
+  trace-is-true sc19 ne = shown-as sc19 (header-cas (sameHeader (b .header) (q .oldhdr)) refl) refl
+  trace-is-true sc2 ne = shown-as sc2 (read-tells 2 (Data (q .word)) b ws k-in) refl
+  trace-is-true sc4 ne = shown-as sc4 (read-tells 4 (Announced (q .newhdr .pid) (q .word)) b ws new-in) refl
+  trace-is-true sc5 ne = shown-as sc5 (segment-cas (sameSegment g (q .y)) refl) refl
+  trace-is-true sc6 ne = shown-as sc6 (read-tells 6 (Data (q .word)) b ws k-in) refl
+  trace-is-true sc7 ne = shown-as sc7 (read-tells 7 Hdr b ws tt) refl
+  trace-is-true vl13 ne = shown-as vl13 (read-tells 13 Hdr b ws tt) refl
 
 -- lines 2, 7, 14 and 19 go on by what they read; what they set is the same either way
 y-set : (k j : ℕ) (hdr : Header) (g : Segment) (q : Process) → segmentContent (doLine2 k j hdr g q .y) ≡ segmentContent g
@@ -200,3 +192,23 @@ process-gets sc5 p b q ws = tt
 process-gets sc6 p b q ws = refl
 process-gets sc7 p b q ws = h-set-copy (b .header) q (b .w)
 process-gets vl13 p b q ws = refl
+
+-- the line shown is that of Figure 6
+pub line-shown : (y : Point) (p : ProcessNumber) (b : Bench) (q : Process) (ws : List ℕ) → accessOf y p b q ws .line ≡ figureLine y
+unfolding accessOf
+line-shown idle p b q ws = refl
+line-shown ll10 p b q ws = refl
+line-shown ll2 p b q ws = refl
+line-shown ll4 p b q ws = refl
+line-shown ll5 p b q ws = refl
+line-shown ll6 p b q ws = refl
+line-shown ll7 p b q ws = refl
+line-shown sc14 p b q ws = refl
+line-shown sc17 p b q ws = refl
+line-shown sc19 p b q ws = refl
+line-shown sc2 p b q ws = refl
+line-shown sc4 p b q ws = refl
+line-shown sc5 p b q ws = refl
+line-shown sc6 p b q ws = refl
+line-shown sc7 p b q ws = refl
+line-shown vl13 p b q ws = refl

@@ -2,9 +2,9 @@
 use mathlib.Core.Path.{_≡_}
 use mathlib.Core.Logic.{_≢_}
 use mathlib.Core.List.{List}
-use mathlib.Core.Bool.{true, false}
-use Prim.Native.Nat.{ℕ, _+_}
-use lib.Dec.{eqb}
+use mathlib.Core.Bool.{true, false, cond}
+use Prim.Native.Nat.{ℕ, _+_, _-_}
+use lib.Dec.{eqb, ltb}
 use lib.ListN.{length}
 use Rattle.llsc.specs.declared.ProcessNumber.{ProcessNumber}
 use Rattle.moir_model.specs.declared.Bench.{Bench}
@@ -12,7 +12,7 @@ use Rattle.moir_model.specs.declared.Process.{Process}
 use Rattle.moir_model.specs.declared.Moved.{Moved}
 use Rattle.moir_model.specs.declared.Reply.{Reply}
 use Rattle.moir_model.specs.declared.Reply.the-variants.{Accepted, ScAnswered, VlAnswered}
-use Rattle.moir_model.specs.Points.{Point, idle, ll10, ll2, ll4, ll5, ll6, ll7, sc14, sc17, sc19, sc2, sc4, sc5, sc6, sc7, vl13}
+use Rattle.moir_model.specs.Points.{Point, lineNumber, idle, ll10, ll2, ll4, ll5, ll6, ll7, sc14, sc17, sc19, sc2, sc4, sc5, sc6, sc7, vl13}
 use Rattle.moir_steps.specs.Ranges.{Ready}
 use Rattle.moir_access.specs.declared.Item.{Item}
 use Rattle.moir_access.specs.declared.Act.{Act}
@@ -72,6 +72,10 @@ Gets sc6 a q m = segmentContent (m .process .y) ≡ a .values
 Gets sc7 a q m = headerContent (m .process .h) ≡ a .values
 -- return (addr->hdr).tag = keep
 Gets vl13 a q m = m .reply ≡ VlAnswered (eqb (a .values .first) (q .keep)) (q .count + 1)
+
+-- "The line is Figure 6's", by the number of the point in a process record, which has 20 more in the Copy of an SC
+abbrev pub figureLine : Point → ℕ
+figureLine y = cond (ltb 20 (lineNumber y)) (lineNumber y - 20) (lineNumber y)
 
 -- The ranges of a step, and the table of tags in its declared length.
 pub record Stepped (b : Bench) (q : Process) (p : ProcessNumber) (ws : List ℕ) : Type 0 where
