@@ -2,9 +2,9 @@
 use mathlib.Core.Path.{_≡_}
 use mathlib.Core.Logic.{_≢_}
 use mathlib.Core.List.{List}
-use mathlib.Core.Bool.{true, false}
-use Prim.Native.Nat.{ℕ, _+_}
-use lib.Dec.{eqb}
+use mathlib.Core.Bool.{true, false, cond}
+use Prim.Native.Nat.{ℕ, _+_, _-_}
+use lib.Dec.{eqb, ltb}
 use lib.ListN.{length}
 use Rattle.llsc.specs.declared.ProcessNumber.{ProcessNumber}
 use Rattle.moir_model.specs.declared.Bench.{Bench}
@@ -12,7 +12,7 @@ use Rattle.moir_model.specs.declared.Process.{Process}
 use Rattle.moir_model.specs.declared.Moved.{Moved}
 use Rattle.moir_model.specs.declared.Reply.{Reply}
 use Rattle.moir_model.specs.declared.Reply.the-variants.{Accepted, ScAnswered, VlAnswered}
-use Rattle.moir_model.specs.Points.{Point, idle, ll10, ll2, ll4, ll5, ll6, ll7, sc14, sc17, sc19, sc2, sc4, sc5, sc6, sc7, vl13}
+use Rattle.moir_model.specs.Points.{Point, lineNumber, idle, ll10, ll2, ll4, ll5, ll6, ll7, sc14, sc17, sc19, sc2, sc4, sc5, sc6, sc7, vl13}
 use Rattle.moir_steps.specs.Ranges.{Ready}
 use Rattle.moir_access.specs.declared.Item.{Item}
 use Rattle.moir_access.specs.declared.Act.{Act}
@@ -21,8 +21,8 @@ use Rattle.moir_access.specs.declared.Content.{Content}
 use Rattle.moir_access.specs.declared.Access.{Access}
 use Rattle.moir_access.specs.Items.{headerContent, segmentContent, wordContent, itemAt, InBench}
 
--- What an act with the values v and the new values u says of its item, which held `old` before the step and holds `left`
--- after it (docs/TRACE.md's table).
+-- What an act with the values v and the new values u says of its item, which held `old` before the step and holds
+-- `left` after it (docs/TRACE.md's table).
 abbrev pub Says : Act → Content → Content → Content → Content → Type 0
 -- "what was read": the item held it, and stays as it was
 Says Read v u old left = (old ≡ v) × (left ≡ old)
@@ -38,6 +38,10 @@ pub record TellsTruth (a : Access) (b : Bench) (ws : List ℕ) (b′ : Bench) (w
   pub there : InBench b (a .item)
   pub item : Says (a .act) (a .values) (a .new) (itemAt (a .item) b ws) (itemAt (a .item) b′ ws′)
   pub others : (i : Item) → InBench b i → i ≢ a .item → itemAt i b′ ws′ ≡ itemAt i b ws
+
+-- docs/TRACE.md: "a start touches nothing shared"
+abbrev pub Untouched : Bench → List ℕ → Bench → List ℕ → Type 0
+Untouched b ws b′ ws′ = (i : Item) → InBench b i → itemAt i b′ ws′ ≡ itemAt i b ws
 
 -- line 19: if not CAS(addr, oldhdr, newhdr) then return false; a read or a write has no truth
 abbrev pub casReply : Act → ℕ → Reply
@@ -72,6 +76,10 @@ Gets sc6 a q m = segmentContent (m .process .y) ≡ a .values
 Gets sc7 a q m = headerContent (m .process .h) ≡ a .values
 -- return (addr->hdr).tag = keep
 Gets vl13 a q m = m .reply ≡ VlAnswered (eqb (a .values .first) (q .keep)) (q .count + 1)
+
+-- "The line is Figure 6's", by the number of the point in a process record, which has 20 more in the Copy of an SC
+abbrev pub figureLine : Point → ℕ
+figureLine y = cond (ltb 20 (lineNumber y)) (lineNumber y - 20) (lineNumber y)
 
 -- The ranges of a step, and the table of tags in its declared length.
 pub record Stepped (b : Bench) (q : Process) (p : ProcessNumber) (ws : List ℕ) : Type 0 where
