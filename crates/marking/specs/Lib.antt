@@ -1,2 +1,3 @@
 pub mod Marks
 pub mod Reading
+pub mod Marked

@@ -2,6 +2,7 @@
 ghost use mathlib.Core.Path.{_≡_};
 ghost use Rattle.marking.specs.Marks.{sameItem, apart, maySwap};
 
+pub mod output;
 pub mod reading;
 
 // What a line of a trace tells of its command: its process, the shared item that it touched, by its kind and its

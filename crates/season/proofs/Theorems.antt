@@ -40,7 +40,7 @@ every-append a b p q = record { at = all a (p .at) }
     all (x ∷ a) h (suc i) = all a (λ j. h (suc j)) i
 
 -- every word of the 5N rows is the value's or 0
-words-small : (ws : List ℕ) (n w k : ℕ) → Accepted n w (length ws) w → k ≤ largest → Below (5 * n * w) (wordsAtSetUp ws n w (replicate w k))
+pub words-small : (ws : List ℕ) (n w k : ℕ) → Accepted n w (length ws) w → k ≤ largest → Below (5 * n * w) (wordsAtSetUp ws n w (replicate w k))
 words-small ws n w k a h = record {
   at = λ i l.
       let rest : List ℕ = replicate (5 * n * w - w) 0 in
@@ -51,13 +51,13 @@ words-small ws n w k a h = record {
       rw (sets-eq u ws 0 (omega (arith, a .words-lent)), List·getD-append u (drop (0 + length u) ws) 0 i (omega arith)) (all .at i);
 }
 
-fits : (m : Memory) (n w k : ℕ) → setUpRefusal m n w (replicate w k) ≡ 0 → Accepted n w (length (m .words)) w
+pub fits : (m : Memory) (n w k : ℕ) → setUpRefusal m n w (replicate w k) ≡ 0 → Accepted n w (length (m .words)) w
 fits m n w k e =
     let records : ℕ = length (m .records) in
     let words : ℕ = length (m .words) in
     set-up-fits n w records words w (ap (setUpNumber n w records words) (sym (length-replicate w k)) ∙ set-up-number m n w (replicate w k) ∙ e)
 
-why-small : {s : List ℕ} {at k : ℕ} → Why s at k → k ≤ 15
+pub why-small : {s : List ℕ} {at k : ℕ} → Why s at k → k ≤ 15
 why-small (ended e f) = omega arith
 why-small (broken e f) = omega arith
 why-small (deep e f g h) = omega arith

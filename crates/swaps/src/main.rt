@@ -2,9 +2,9 @@
 // bytes, to standard output, with a mark at each line whose command could change places with the one before it. Where
 // and why it was refused, and its open calls, go to standard error.
 ghost use mathlib.Core.Path.{_≡_};
-ghost use Prim.Native.Nat.{_≤_, _<_};
+ghost use Prim.Native.Nat.{_≤_};
 ghost use lib.ListN.{length};
-use marking::reading;
+use marking::output;
 
 fn main() {
     let mut text = [0; 16385];
@@ -30,47 +30,28 @@ fn room() -> [u8; 3145728]
     [0; 3145728]
 }
 
-// The place after the line that begins at a place.
-fn line_end(list: &[u8], at: usize, written: usize) -> usize
-    requires { ⌜ (at < written) × (written ≤ length (now list)) ⌝ }
-    ensures { λ r. ⌜ (at < r) × (r ≤ written) ⌝ }
+// Room for it with two columns before each line.
+fn marked_room() -> [u8; 3265730]
+    ensures { λ r. ⌜ 3265730 ≡ length r ⌝ }
 {
-    let mut next = at;
-    while next < written {
-        let byte = list[next];
-        next += 1;
-        if byte == b'\n' {
-            return next;
-        }
-    }
-    next
+    [0; 3265730]
 }
 
-// The mark of a line, in two columns before it.
-fn print_mark(marked: bool) -> bool {
-    if marked {
-        return io::write_all(1, b"~ ");
+// The trace with its marks, into lent bytes and out; whether all was written.
+fn print_marked(trace: &[u8], out: &mut [u8]) -> bool
+    requires { ⌜ length (now trace) ≤ 4294967295 ⌝ }
+{
+    let count = output::mark_lines(trace, out);
+    if out.len() < count {
+        return false;
     }
-    io::write_all(1, b"  ")
+    io::write_all(1, &out[0..count])
 }
 
-// The lines of the trace, each with its mark; whether all was written.
+// The first bytes of the trace, as many as the run wrote.
 fn print(list: &[u8], written: usize) -> bool
-    requires { ⌜ written ≤ length (now list) ⌝ }
+    requires { ⌜ (written ≤ length (now list)) × (length (now list) ≤ 3145728) ⌝ }
 {
-    let mut before = reading::no_line();
-    let mut at = 0;
-    while at < written {
-        let line = reading::line(list, at);
-        if !print_mark(marking::may_swap(before, line)) {
-            return false;
-        }
-        let next = line_end(list, at, written);
-        if !io::write_all(1, &list[at..next]) {
-            return false;
-        }
-        before = line;
-        at = next;
-    }
-    true
+    let mut out = marked_room();
+    print_marked(&list[0..written], &mut out)
 }

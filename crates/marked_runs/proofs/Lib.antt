@@ -1,0 +1,3 @@
+pub mod LineEnds
+pub mod EntryLines
+pub mod Theorems
