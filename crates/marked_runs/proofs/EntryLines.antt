@@ -26,12 +26,14 @@ use Rattle.notation.specs.declared.Entry.the-variants.{StartLl, StartVl, StartS
 use Rattle.notation.specs.Stretches.{Small}
 use Rattle.listing.specs.Lines.{letterL, letterS, letterV}
 use Rattle.answers.specs.Shape.{largest}
-use Rattle.access.specs.TraceLines.{stepLine, startLine}
+use Rattle.trace_parts.specs.TraceParts.{startLine}
+use Rattle.access.specs.TraceLines.{stepLine}
 use Rattle.access.proofs.Lengths.{SmallAccess, step-length, start-length}
 use Rattle.access.proofs.SmallLaws.{row-9-parts, access-small}
 use Rattle.commuting.specs.OnTheBench.{Admitted, benchDoes, BenchSwapped}
 use Rattle.semantics.specs.Reached.{Reached}
-use Rattle.semantics.specs.TextRun.{processOf, orderOf, valueOf, answers, accessNow, traceLine, lineOf}
+use Rattle.text_runs.specs.TextRun.{processOf, orderOf, valueOf}
+use Rattle.semantics.specs.TextRun.{answers, accessNow, traceLine, lineOf}
 use Rattle.semantics.proofs.AcceptedSteps.{unrefused, stepped, at-work}
 use Rattle.semantics.proofs.ReachedLaws.{unhindered}
 use Rattle.entry.proofs.WordLaws.{Below}

@@ -20,7 +20,8 @@ use Rattle.listing.specs.Lines.{lineFeed, letterL, letterS, letterV, answerHead
 use Rattle.access.specs.declared.Act.{Act}
 use Rattle.access.specs.declared.Act.the-variants.{Read, Write, Ll, Sc, Vl}
 use Rattle.access.specs.declared.Access.{Access}
-use Rattle.access.specs.TraceLines.{spaced, bracketed, headText, halfText, halfPlaceText, itemText, valuesText, truthText, storedText, writtenText, actText, endText, stepLine, broughtText, startLine}
+use Rattle.trace_parts.specs.TraceParts.{spaced, bracketed, headText, truthText, endText, broughtText, startLine}
+use Rattle.access.specs.TraceLines.{halfText, halfPlaceText, itemText, valuesText, storedText, writtenText, actText, stepLine}
 use Rattle.semantics.specs.TextRun.{answers}
 use Rattle.semantics.specs.TextRun as T
 use Rattle.marking.specs.declared.Line.{Line}

@@ -19,7 +19,8 @@ use Rattle.notation.specs.declared.Entry.{Entry}
 use Rattle.notation.specs.declared.Entry.the-variants.{StartLl, StartVl, StartSc, Step, Finish}
 use Rattle.notation.specs.Stretches.{Small}
 use Rattle.notation.specs.Grammar.{Said}
-use Rattle.notation.specs.FirstLine.{Reading, right, wrong, read}
+use Rattle.notation.specs.Readings.{Reading, right, wrong}
+use Rattle.notation.specs.FirstLine.{read}
 use Rattle.notation.proofs.Theorems.{read-is-right, wrong-has-fault}
 use Rattle.listing.specs.Quoted.{quoted}
 use Rattle.listing.specs.Lines.{endLine, refusedLine}
@@ -30,8 +31,10 @@ use Rattle.answers.specs.Shape.{largest}
 use Rattle.answers.specs.Shape as G
 use Rattle.answers.proofs.PlaceLaws.{either}
 use Rattle.commuting.specs.OnTheBench.{Admitted}
+use Rattle.text_runs.specs.TextRun as TR
 use Rattle.semantics.specs.Reached.{Reached}
-use Rattle.semantics.specs.TextRun.{Progress, stopped, mostEntries, roomNeeded, longestText, lineOf, processOf, orderOf, valueOf, traceLine, linesOf, counted, commanded, single, unanswered, steps, carry, carryAll, Ended, lastLine, ended, begun, started, carriedOut, runWith, traceText}
+use Rattle.text_runs.specs.TextRun.{mostEntries, roomNeeded, longestText, processOf, orderOf, valueOf}
+use Rattle.semantics.specs.TextRun.{Progress, stopped, lineOf, traceLine, linesOf, counted, commanded, single, unanswered, steps, carry, carryAll, Ended, lastLine, ended, begun, started, carriedOut, runWith, traceText}
 use Rattle.semantics.proofs.ReachedLaws.{reached-set-up, reached-command}
 use Rattle.semantics.proofs.AcceptedSteps.{unrefused}
 use Rattle.entry.proofs.WordLaws.{Below}
@@ -180,7 +183,7 @@ module _ {n w : ℕ} {m₀ : Memory} {s : Progress} (e : Entry) (small : Small e
       omega (arith, ltb-false (length (s .listing) - s .written) 872 c, l .room)
 
   single-shown : Shown n w m₀ (single e s)
-  unfolding single
+  unfolding TR.single
   single-shown = either (Shown n w m₀) (eqb (s .stop) 0) _ _
       (λ _. either (Shown n w m₀) (leb mostEntries (s .entries)) _ _ (λ _. stop-shown 12 (omega arith) l)
       (λ a. either (Shown n w m₀) (ltb (length (s .listing) - s .written) (roomNeeded (s .traced))) _ _ (λ _. stop-shown 14 (omega arith) l)
@@ -188,13 +191,13 @@ module _ {n w : ℕ} {m₀ : Memory} {s : Progress} (e : Entry) (small : Small e
       (λ _. l)
 
 steps-shown : {n w : ℕ} {m₀ : Memory} (left p : ℕ) {s : Progress} → p ≤ largest → Shown n w m₀ s → Shown n w m₀ (steps left p s)
-unfolding steps
+unfolding TR.steps
 steps-shown zero p h l = l
 steps-shown {n} {w} {m₀} (suc left) p {s} h l =
     let k = single-shown (Step p) h l in either (Shown n w m₀) (unanswered p (single (Step p) s)) _ _ (λ _. steps-shown left p h k) (λ _. k)
 
 carry-shown : {n w : ℕ} {m₀ : Memory} {s : Progress} (e : Entry) → Small e → Shown n w m₀ s → Shown n w m₀ (carry e s)
-unfolding carry
+unfolding TR.carry
 carry-shown (StartLl p) h l = single-shown (StartLl p) h l
 carry-shown (StartVl p) h l = single-shown (StartVl p) h l
 carry-shown (StartSc p k) h l = single-shown (StartSc p k) h l
@@ -202,7 +205,7 @@ carry-shown (Step p) h l = single-shown (Step p) h l
 carry-shown {n} {w} {m₀} {s} (Finish p) h l = either (Shown n w m₀) (eqb (s .stop) 0) _ _ (λ _. steps-shown _ p h l) (λ _. l)
 
 all-shown : {n w : ℕ} {m₀ : Memory} {s : Progress} (es : List Entry) → AllSmall es → Shown n w m₀ s → Shown n w m₀ (carryAll es s)
-unfolding carryAll
+unfolding TR.carryAll
 all-shown [] none l = l
 all-shown (e ∷ es) (entry h k) l = all-shown es k (carry-shown e h l)
 
@@ -303,7 +306,7 @@ module _ (m : Memory) (shaped : Shaped m) (listing : List ℕ) (room : 872 ≤ l
 
 -- of every text
 pub every-text-is-marked : EveryTextIsMarked
-unfolding runWith
+unfolding TR.runWith
 every-text-is-marked m shaped text listing room =
     either (MarkedOutput m text listing) (ltb (length listing) (roomNeeded true)) _ _ (λ e. absurd (omega (arith, room, ltb-true (length listing) 872 e)))
     (λ _. either (MarkedOutput m text listing) (ltb longestText (length text)) _ _ (λ _. refused (only-last m listing 12 (omega arith) room))

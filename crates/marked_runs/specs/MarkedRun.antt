@@ -15,9 +15,11 @@ use Rattle.doings.specs.Doings.{Apart}
 use Rattle.commuting.specs.OnTheBench.{Admitted, benchDoes, BenchSwapped}
 use Rattle.notation.specs.declared.Entry.{Entry}
 use Rattle.notation.specs.Grammar.{Said}
-use Rattle.notation.specs.FirstLine.{right, read}
+use Rattle.notation.specs.Readings.{right}
+use Rattle.notation.specs.FirstLine.{read}
 use Rattle.listing.specs.Quoted.{quoted}
-use Rattle.semantics.specs.TextRun.{Progress, lineOf, processOf, orderOf, valueOf, traceLine, carryAll, Ended, lastLine, begun, ended, traceText}
+use Rattle.text_runs.specs.TextRun.{processOf, orderOf, valueOf}
+use Rattle.semantics.specs.TextRun.{Progress, lineOf, traceLine, carryAll, Ended, lastLine, begun, ended, traceText}
 use Rattle.marking.specs.Marked.{marked}
 
 -- the command of an entry that finds the memory m; `!` is an entry for each of its steps
