@@ -25,8 +25,10 @@ use Rattle.doings.specs.Doings.{doingAt}
 use Rattle.access.specs.AccessOn.{bankAccess, vlOfX}
 use Rattle.access.specs.Accesses.{accessOf}
 use Rattle.listing.specs.Quoted.{quoted}
-use Rattle.access.specs.TraceLines.{spaced, bracketed, headText, halfText, halfPlaceText, itemText, valuesText, truthText, storedText}
-use Rattle.access.specs.TraceLines.{writtenText, actText, endText, stepLine, broughtText, startLine}
+use Rattle.access.specs.TraceLines.{halfText, halfPlaceText, itemText, valuesText, storedText}
+use Rattle.trace_parts.specs.TraceParts.{spaced, bracketed, headText, truthText}
+use Rattle.access.specs.TraceLines.{writtenText, actText, stepLine}
+use Rattle.trace_parts.specs.TraceParts.{endText, broughtText, startLine}
 
 -- the line of a step of p, with its answer; ws are the words after it
 stepped : ℕ → ℕ → Access → ℕ → ℕ → List ℕ → Reply → List ℕ

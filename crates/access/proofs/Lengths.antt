@@ -16,8 +16,10 @@ use Rattle.access.specs.declared.Act.the-variants.{Read, Write, Ll, Sc, 
 use Rattle.access.specs.declared.Access.{Access}
 use Rattle.doings.specs.Items.{index, wordPlace}
 use Rattle.listing.specs.Quoted.{quoted}
-use Rattle.access.specs.TraceLines.{spaced, bracketed, headText, halfText, halfPlaceText, itemText, valuesText, truthText, storedText}
-use Rattle.access.specs.TraceLines.{writtenText, actText, endText, stepLine, broughtText, startLine}
+use Rattle.access.specs.TraceLines.{halfText, halfPlaceText, itemText, valuesText, storedText}
+use Rattle.trace_parts.specs.TraceParts.{spaced, bracketed, headText, truthText}
+use Rattle.access.specs.TraceLines.{writtenText, actText, stepLine}
+use Rattle.trace_parts.specs.TraceParts.{endText, broughtText, startLine}
 
 -- no number of an access has more than ten digits, nor its line more than three
 pub record SmallAccess (a : Access) : Type 0 where

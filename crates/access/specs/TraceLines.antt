@@ -5,25 +5,12 @@ use mathlib.Core.Bool.{Bool, true, false, cond}
 use lib.Dec.{eqb}
 use Rattle.model.specs.Words.{wordOf}
 use Rattle.listing.specs.Quoted.{quoted}
-use Rattle.listing.specs.Decimal.{decimal}
-use Rattle.listing.specs.Lines.{letterS}
+use Rattle.trace_parts.specs.TraceParts.{spaced, bracketed, headText, truthText, endText}
 use Rattle.doings.specs.declared.Item.{Item}
 use Rattle.doings.specs.declared.Item.the-variants.{X, Bank, Help, Half}
 use Rattle.access.specs.declared.Act.{Act}
 use Rattle.access.specs.declared.Act.the-variants.{Read, Write, Ll, Sc, Vl}
 use Rattle.access.specs.declared.Access.{Access}
-
--- a number, after a space
-unfoldable pub spaced : ℕ → List ℕ
-spaced n = quoted " " ++ decimal n
-
--- a number in brackets
-unfoldable pub bracketed : ℕ → List ℕ
-bracketed n = quoted "[" ++ (decimal n ++ quoted "]")
-
--- the entry number and the process
-unfoldable pub headText : ℕ → ℕ → List ℕ
-headText entry p = decimal entry ++ spaced p
 
 -- which half of its word a place is
 unfoldable pub halfText : ℕ → List ℕ
@@ -48,10 +35,6 @@ valuesText (Bank i) first second = spaced first
 valuesText (Help i) first second = spaced first ++ spaced second
 valuesText (Half f k) first second = spaced first
 
-unfoldable pub truthText : Bool → List ℕ
-truthText true = quoted " true"
-truthText false = quoted " false"
-
 -- an SC that wrote, and one that did nothing
 unfoldable pub storedText : Bool → List ℕ
 storedText true = quoted " true links cleared"
@@ -72,20 +55,7 @@ actText Ll item first second = quoted " LL" ++ (valuesText item first second ++ 
 actText (Sc t) item first second = quoted " SC" ++ (valuesText item first second ++ storedText t)
 actText (Vl t) item first second = quoted " VL" ++ truthText t
 
--- the listing's own line follows where the step answers its call
-unfoldable pub endText : Bool → List ℕ
-endText true = quoted " answers "
-endText false = quoted "\n"
-
 -- the line of a step
 unfoldable pub stepLine : ℕ → ℕ → Access → Bool → List ℕ
 stepLine entry p a answered =
     headText entry p ++ (spaced (a .line) ++ (itemText (a .item) ++ (actText (a .act) (a .item) (a .first) (a .second) ++ endText answered)))
-
--- only an SC brings a value
-unfoldable pub broughtText : ℕ → ℕ → List ℕ
-broughtText letter value = cond (eqb letter letterS) (spaced value) []
-
--- the line of a start
-unfoldable pub startLine : ℕ → ℕ → ℕ → ℕ → List ℕ
-startLine entry p letter value = headText entry p ++ (quoted " start " ++ ((letter ∷ []) ++ (broughtText letter value ++ quoted "\n")))

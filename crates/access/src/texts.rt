@@ -1,36 +1,10 @@
 // The parts of a trace line, each with the space before it.
 ghost use mathlib.Core.List.{_++_};
 ghost use Rattle.listing.specs.Writing.{Room, Wrote};
-ghost use Rattle.access.specs.TraceLines.{spaced, bracketed, headText, halfText, halfPlaceText, itemText, valuesText, truthText, storedText, writtenText, actText, endText, broughtText};
+ghost use Rattle.trace_parts.specs.TraceParts.{spaced};
+ghost use Rattle.access.specs.TraceLines.{halfText, halfPlaceText, itemText, valuesText, storedText, writtenText, actText};
 use crate::Act;
 use doings::Item;
-
-pub fn spaced(list: &mut [u8], at: usize, n: u64) -> usize
-    requires { ⌜ Room (now list) at (spaced n) ⌝ }
-    ensures { λ r. ⌜ Wrote (now (list .entry)) at (spaced n) (now (list .exit)) r ⌝ }
-{
-    let a = listing::put(list, at, b' ');
-    listing::number(list, a, n)
-}
-
-// A number in brackets.
-fn bracketed(list: &mut [u8], at: usize, n: u64) -> usize
-    requires { ⌜ Room (now list) at (bracketed n) ⌝ }
-    ensures { λ r. ⌜ Wrote (now (list .entry)) at (bracketed n) (now (list .exit)) r ⌝ }
-{
-    let a = listing::put(list, at, b'[');
-    let b = listing::number(list, a, n);
-    listing::put(list, b, b']')
-}
-
-// The entry number and the process.
-pub fn head(list: &mut [u8], at: usize, entry: u64, p: u64) -> usize
-    requires { ⌜ Room (now list) at (headText entry p) ⌝ }
-    ensures { λ r. ⌜ Wrote (now (list .entry)) at (headText entry p) (now (list .exit)) r ⌝ }
-{
-    let a = listing::number(list, at, entry);
-    spaced(list, a, p)
-}
 
 // Which half of its word a place is.
 fn half_name(list: &mut [u8], at: usize, k: usize) -> usize
@@ -48,7 +22,7 @@ fn half_place(list: &mut [u8], at: usize, k: usize) -> usize
     requires { ⌜ Room (now list) at (halfPlaceText k) ⌝ }
     ensures { λ r. ⌜ Wrote (now (list .entry)) at (halfPlaceText k) (now (list .exit)) r ⌝ }
 {
-    let a = bracketed(list, at, (k / 2) as u64);
+    let a = trace_parts::bracketed(list, at, (k / 2) as u64);
     half_name(list, a, k)
 }
 
@@ -60,15 +34,15 @@ pub fn item(list: &mut [u8], at: usize, item: Item) -> usize
         Item::X => listing::plain(list, at, b" X"),
         Item::Bank(i) => {
             let a = listing::plain(list, at, b" Bank");
-            bracketed(list, a, i.0 as u64)
+            trace_parts::bracketed(list, a, i.0 as u64)
         }
         Item::Help(i) => {
             let a = listing::plain(list, at, b" Help");
-            bracketed(list, a, i.0 as u64)
+            trace_parts::bracketed(list, a, i.0 as u64)
         }
         Item::Half(f, k) => {
             let a = listing::plain(list, at, b" BUF");
-            let b = bracketed(list, a, f.0 as u64);
+            let b = trace_parts::bracketed(list, a, f.0 as u64);
             half_place(list, b, k)
         }
     }
@@ -78,8 +52,8 @@ fn pair(list: &mut [u8], at: usize, first: u64, second: u64) -> usize
     requires { ⌜ Room (now list) at (spaced first ++ spaced second) ⌝ }
     ensures { λ r. ⌜ Wrote (now (list .entry)) at (spaced first ++ spaced second) (now (list .exit)) r ⌝ }
 {
-    let a = spaced(list, at, first);
-    spaced(list, a, second)
+    let a = trace_parts::spaced(list, at, first);
+    trace_parts::spaced(list, a, second)
 }
 
 // One value or two, as many as the item has.
@@ -89,20 +63,10 @@ fn values(list: &mut [u8], at: usize, item: Item, first: u64, second: u64) -> us
 {
     match item {
         Item::X => pair(list, at, first, second),
-        Item::Bank(_) => spaced(list, at, first),
+        Item::Bank(_) => trace_parts::spaced(list, at, first),
         Item::Help(_) => pair(list, at, first, second),
-        Item::Half(_, _) => spaced(list, at, first),
+        Item::Half(_, _) => trace_parts::spaced(list, at, first),
     }
-}
-
-fn truth(list: &mut [u8], at: usize, t: bool) -> usize
-    requires { ⌜ Room (now list) at (truthText t) ⌝ }
-    ensures { λ r. ⌜ Wrote (now (list .entry)) at (truthText t) (now (list .exit)) r ⌝ }
-{
-    if t {
-        return listing::plain(list, at, b" true");
-    }
-    listing::plain(list, at, b" false")
 }
 
 // Of an SC: whether it wrote, and so cleared all links.
@@ -156,29 +120,7 @@ pub fn act(list: &mut [u8], at: usize, act: Act, item: Item, first: u64, second:
         }
         Act::Vl(t) => {
             let a = listing::plain(list, at, b" VL");
-            truth(list, a, t)
+            trace_parts::truth(list, a, t)
         }
     }
-}
-
-// Where the step answers, the listing's line follows on the same line.
-pub fn end(list: &mut [u8], at: usize, answered: bool) -> usize
-    requires { ⌜ Room (now list) at (endText answered) ⌝ }
-    ensures { λ r. ⌜ Wrote (now (list .entry)) at (endText answered) (now (list .exit)) r ⌝ }
-{
-    if answered {
-        return listing::plain(list, at, b" answers ");
-    }
-    listing::put(list, at, b'\n')
-}
-
-// The value of a start: only an SC's.
-pub fn brought(list: &mut [u8], at: usize, letter: u8, value: u64) -> usize
-    requires { ⌜ Room (now list) at (broughtText letter value) ⌝ }
-    ensures { λ r. ⌜ Wrote (now (list .entry)) at (broughtText letter value) (now (list .exit)) r ⌝ }
-{
-    if letter == b'S' {
-        return spaced(list, at, value);
-    }
-    at
 }

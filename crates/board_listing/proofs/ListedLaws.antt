@@ -20,7 +20,8 @@ use Rattle.boards.specs.Files.{decode, goodTrailer, goodRecords, fileNumber}
 use Rattle.boards.specs.Places.{leftOf, There}
 use Rattle.boards.proofs.RefusalLaws.{itsRecords, as-left, they-are-there, they-are-few}
 use Rattle.board_rows.proofs.FileRows.{has-trailer}
-use Rattle.semantics.specs.TextRun.{Progress, Ended, ended, begun, roomNeeded}
+use Rattle.text_runs.specs.TextRun.{roomNeeded}
+use Rattle.semantics.specs.TextRun.{Progress, Ended, ended, begun}
 use Rattle.entry.specs.declared.state.Run.{Run}
 use Rattle.entry.specs.RunState.{RunState, stateOf, progress}
 use Rattle.entry.proofs.FilledLaws.{gathered-filled}

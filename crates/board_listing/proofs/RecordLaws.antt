@@ -17,10 +17,14 @@ use Rattle.notation.specs.declared.Entry.the-variants.{StartLl, StartVl, StartS
 use Rattle.notation.specs.Grammar.{largest}
 use Rattle.notation.specs.EntryWords.{entryIn, keptEntry}
 use Rattle.boards.specs.Files.{BoardRecord}
-use Rattle.carrying.specs.Carried.{entriesIn, Carries}
-use Rattle.semantics.proofs.KeptLaws.{kept-run}
-use Rattle.semantics.specs.TextRun.{Progress, stopped, mostEntries, roomNeeded, processOf, orderOf, valueOf, lineOf, linesOf, traceLine, counted, commanded, single, carry, carryAll}
-use Rattle.semantics.proofs.SingleEntries.{outcome}
+use Rattle.text_runs.specs.KeptEntries.{entriesIn}
+use Rattle.carrying.specs.Carried.{Carries}
+use Rattle.text_runs.proofs.KeptLaws.{kept-run}
+use Rattle.semantics.proofs.FarLaws.{far-refused}
+use Rattle.text_runs.specs.TextRun.{mostEntries, roomNeeded, processOf, orderOf, valueOf}
+use Rattle.text_runs.specs.TextRun as TR
+use Rattle.semantics.specs.TextRun.{figure2, Progress, stopped, lineOf, linesOf, traceLine, counted, commanded, single, carry, carryAll}
+use Rattle.text_runs.proofs.SingleEntries.{outcome}
 use Rattle.entry.specs.RunState.{RunState, stateOf, progress, Ready, Small, Becomes, answerLine}
 use Rattle.entry.proofs.WordLaws.{Below}
 use Rattle.entry.proofs.CommandLaws.{Decides, decides}
@@ -35,7 +39,7 @@ either P true x y = x
 either P false x y = y
 
 pub one-command : (r : BoardRecord) (s : Progress) → carry (entryOf r) s ≡ single (entryOf r) s
-unfolding carry
+unfolding TR.carry
 one-command r s =
     let P : Entry → Type 0 = λ e. carry e s ≡ single e s in
     either P (eqb (r .order) 0) {a = Step (r .process)} refl
@@ -46,7 +50,7 @@ module _ (e : Entry) (s : Progress) (z : s .stop ≡ 0) (none : s .entries ≡ 0
   tight = ltb (length (s .listing) - s .written) (roomNeeded false)
 
   abbrev out : Reply × Memory
-  out = outcome e s
+  out = outcome figure2 e s
 
   abbrev accepted : Bool
   accepted = eqb (numberOf (out .0)) 0
@@ -56,7 +60,7 @@ module _ (e : Entry) (s : Progress) (z : s .stop ≡ 0) (none : s .entries ≡ 0
 
   -- 12 doesn't hold where no entry was done
   single-is : single e s ≡ came tight accepted s
-  unfolding single
+  unfolding TR.single
   single-is =
       let few : leb mostEntries (s .entries) ≡ false = lt-leb mostEntries (s .entries) (omega (arith, none)) in
       simp (eq-eqb (s .stop) 0 z, few) (ap (λ (t : Bool). cond (ltb (length (s .listing) - s .written) (roomNeeded t)) (stopped 14 s) (commanded e s)) listed)
@@ -151,9 +155,9 @@ module _ {h : RunState} (b : Between h) (e : Entry) (small : Small e) where
 -- a list of one entry, as the code keeps it
 pub only-entry : {h h′ : RunState} {at : ℕ} (word : ℕ) (e : Entry) → Between h → entryIn word ≡ keptEntry e
     → Carries 16 (entriesIn 1 (word ∷ [])) h h′ at → Becomes 16 (carry e) h h′
-unfolding carryAll
+unfolding TR.carryAll
 only-entry {h} word e b w x = record {
-  same = x .becomes .same ∙ ap (λ (y : Entry). carryAll (y ∷ []) (progress 16 h)) w ∙ kept-run (e ∷ []) (progress 16 h) (b .none);
+  same = x .becomes .same ∙ ap (λ (y : Entry). carryAll (y ∷ []) (progress 16 h)) w ∙ kept-run figure2 far-refused (e ∷ []) (progress 16 h) (b .none);
   kept = x .becomes .kept;
 }
 

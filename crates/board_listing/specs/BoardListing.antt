@@ -11,7 +11,8 @@ use Rattle.model.specs.SetUp.{setUp}
 use Rattle.notation.specs.declared.Entry.{Entry}
 use Rattle.notation.specs.declared.Entry.the-variants.{StartLl, StartVl, StartSc, Step}
 use Rattle.boards.specs.Files.{BoardRecord, decode, fileNumber}
-use Rattle.semantics.specs.TextRun.{Progress, stopped, roomNeeded, commanded, Ended, ended, begun}
+use Rattle.text_runs.specs.TextRun.{roomNeeded}
+use Rattle.semantics.specs.TextRun.{Progress, stopped, commanded, Ended, ended, begun}
 
 -- a record as the entry of a text: "order (1: 0 step, 1 LL, 2 SC, 3 VL)", "an SC's value in all W words"
 abbrev pub entryOf : BoardRecord → Entry

@@ -7,7 +7,7 @@ ghost use Rattle.model.specs.Records.{noProcess};
 ghost use Rattle.tables.specs.Gathered.{gathered};
 ghost use Rattle.entry.specs.RunState.{stateOf};
 ghost use Rattle.run.specs.Finished.{freshRun, memoryOf};
-ghost use Rattle.semantics.specs.TextRun.{roomNeeded};
+ghost use Rattle.text_runs.specs.TextRun.{roomNeeded};
 ghost use Rattle.board_listing.specs.BoardListing.{boardListed};
 ghost use Rattle.board_listing.specs.ListedRun.{Between, closed, endOf, RunsFile, SetsUp};
 use crate::ending;

@@ -17,7 +17,8 @@ use Rattle.station.specs.StationSetUp.{emptyTables, emptyProcess}
 use Rattle.station.specs.StationRefusals.{StationShaped}
 use Rattle.station_laws.specs.OneRecord.{asBench}
 use Rattle.station_laws.proofs.Theorems.{one-record-is-the-bench}
-use Rattle.semantics.specs.TextRun.{Progress, Ended, ended, begun, roomNeeded}
+use Rattle.text_runs.specs.TextRun.{roomNeeded}
+use Rattle.semantics.specs.TextRun.{Progress, Ended, ended, begun}
 use Rattle.board_commands.specs.declared.FileRun.{FileRun}
 use Rattle.board_commands.specs.BoardRun.{runRecords, runFile}
 use Rattle.board_listing.specs.BoardListing.{obeyAll, runListed, afterSetUp, boardListed}

@@ -36,7 +36,8 @@ use Rattle.notation.specs.declared.Entry.the-variants.{StartLl, StartVl, StartS
 use Rattle.listing.specs.Writing.{Wrote}
 use Rattle.listing.proofs.WritingLaws.{same}
 use Rattle.entry.specs.declared.turn.Turn.{Turn}
-use Rattle.semantics.specs.TextRun.{mostEntries, roomNeeded, traceLine, processOf, orderOf, valueOf, single}
+use Rattle.text_runs.specs.TextRun.{mostEntries, roomNeeded, processOf, orderOf, valueOf}
+use Rattle.semantics.specs.TextRun.{traceLine, single}
 use Rattle.entry.specs.RunState.{RunState, stateOf, progress, stoppedRun, Sound, Ready as Going, Becomes, Small, answerLine}
 use Rattle.entry.specs.Turned as carried
 use Rattle.entry.specs.Turned.{refusalOf, placeOf, turned, turnLines, Turnable, Turns}

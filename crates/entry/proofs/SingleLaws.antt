@@ -21,7 +21,9 @@ use Rattle.notation.specs.declared.Entry.the-variants.{StartLl, StartVl, StartS
 use Rattle.listing.specs.Writing.{Wrote}
 use Rattle.listing.proofs.WritingLaws.{kept}
 use Rattle.semantics.specs.Reached.{Reached}
-use Rattle.semantics.specs.TextRun.{Progress, mostEntries, roomNeeded, lineOf, traceLine, linesOf, counted, replied, processOf, orderOf, valueOf, commanded, single}
+use Rattle.text_runs.specs.TextRun.{mostEntries, roomNeeded, processOf, orderOf, valueOf}
+use Rattle.text_runs.specs.TextRun as TR
+use Rattle.semantics.specs.TextRun.{Progress, lineOf, traceLine, linesOf, counted, replied, commanded, single}
 use Rattle.entry.specs.RunState.{RunState, stateOf, progress, stoppedRun, Sound, Ready, Kept, Becomes, Small, answerLine}
 use Rattle.entry.proofs.WordLaws.{Below, Every, every-replicate, every-none}
 use Rattle.entry.proofs.FilledLaws.{filled-set}
@@ -157,12 +159,12 @@ module _ {len : ℕ} {h : RunState} (e : Entry) (out : Outcome) (ws : List ℕ) 
 -- "before each entry 12, then 14"
 module _ {len : ℕ} {h : RunState} (e : Entry) (s : Sound len h) where
   pub single-12 : h .run .stop ≡ 0 → mostEntries ≤ h .run .entries → Becomes len (single e) h (stateOf (stoppedRun (h .run) 12) (h .words) (h .listing))
-  unfolding single
+  unfolding TR.single
   single-12 z m = record { same = simp (eq-eqb (h .run .stop) 0 z, le-leb mostEntries (h .run .entries) m); kept = stops 12 (λ y. omega arith) (omega arith) s }
 
   module _ (z : h .run .stop ≡ 0) (m : h .run .entries < mostEntries) where
     pub single-14 : length (h .listing) - h .run .written < roomNeeded (h .run .traced) → Becomes len (single e) h (stateOf (stoppedRun (h .run) 14) (h .words) (h .listing))
-    unfolding single
+    unfolding TR.single
     single-14 l = record {
       same = simp (eq-eqb (h .run .stop) 0 z, lt-leb mostEntries (h .run .entries) m, lt-ltb (length (h .listing) - h .run .written) (roomNeeded (h .run .traced)) l);
       kept = stops 14 (λ y. omega arith) (omega arith) s;
@@ -172,7 +174,7 @@ module _ {len : ℕ} {h : RunState} (e : Entry) (s : Sound len h) where
     single-ready l = record { goes = z; entries = m; room = omega (arith, s .room) }
 
     pub single-commanded : {h′ : RunState} → roomNeeded (h .run .traced) ≤ length (h .listing) - h .run .written → Becomes len (commanded e) h h′ → Becomes len (single e) h h′
-    unfolding single
+    unfolding TR.single
     single-commanded l b = record {
       same = b .same ∙ simp (eq-eqb (h .run .stop) 0 z, lt-leb mostEntries (h .run .entries) m, le-ltb (length (h .listing) - h .run .written) (roomNeeded (h .run .traced)) l);
       kept = b .kept;

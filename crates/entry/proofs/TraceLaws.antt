@@ -35,7 +35,8 @@ use Rattle.access.specs.Accesses.{accessOf}
 use Rattle.access.proofs.AccessLaws.{access-seen}
 use Rattle.access.proofs.Lengths.{SmallAccess, step-length, start-length}
 use Rattle.access.proofs.SmallLaws.{row-9-parts, access-small}
-use Rattle.semantics.specs.TextRun.{mostEntries, processOf, answers, accessNow, entryLine, traceLine}
+use Rattle.text_runs.specs.TextRun.{mostEntries, processOf}
+use Rattle.semantics.specs.TextRun.{answers, accessNow, entryLine, traceLine}
 use Rattle.entry.specs.RunState.{RunState, progress, Sound, Small, shownLine}
 use Rattle.entry.specs.Turned.{numberOf, accessSeen}
 use Rattle.semantics.proofs.ReachedLaws.{unhindered}

@@ -16,7 +16,7 @@ use Rattle.notation.specs.declared.Entry.{Entry}
 use Rattle.listing.specs.Writing.{Room, Wrote}
 use Rattle.listing.proofs.WritingLaws.{then, same, room-same, room-first, room-then}
 use Rattle.access.specs.declared.Access.{Access}
-use Rattle.semantics.specs.TextRun.{processOf, orderOf, valueOf}
+use Rattle.text_runs.specs.TextRun.{processOf, orderOf, valueOf}
 use Rattle.entry.specs.RunState.{answerLine, Listable, shownLine}
 use Rattle.entry.specs.Turned.{numberOf, turned, accessSeen, turnLines, Turnable, Turns}
 

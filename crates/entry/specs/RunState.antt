@@ -19,7 +19,8 @@ use Rattle.listing.specs.Lines.{letterS, letterV, llLine, truthLine}
 use Rattle.listing.specs.Writing.{Room}
 use Rattle.access.specs.declared.Access.{Access}
 use Rattle.entry.specs.declared.state.Run.{Run}
-use Rattle.semantics.specs.TextRun.{Progress, mostEntries, roomNeeded, entryLine}
+use Rattle.text_runs.specs.TextRun.{mostEntries, roomNeeded}
+use Rattle.semantics.specs.TextRun.{Progress, entryLine}
 use Rattle.semantics.specs.Reached.{Reached}
 
 -- the run, the lent words and the listing

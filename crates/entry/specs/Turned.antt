@@ -22,7 +22,7 @@ use Rattle.listing.specs.Writing.{Wrote}
 use Rattle.access.specs.declared.Access.{Access}
 use Rattle.access.specs.AccessOn.{noAccess, accessOn}
 use Rattle.entry.specs.declared.turn.Turn.{Turn}
-use Rattle.semantics.specs.TextRun.{mostEntries, processOf, orderOf, valueOf}
+use Rattle.text_runs.specs.TextRun.{mostEntries, processOf, orderOf, valueOf}
 use Rattle.entry.specs.RunState.{answerLine, shownLine}
 
 -- what refuses an entry of a run that goes on, where no row that speaks of the lent memory holds: "before each entry

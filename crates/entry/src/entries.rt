@@ -1,7 +1,7 @@
 // What an entry orders: its process, its order and its value.
 ghost use mathlib.Core.Path.{_≡_};
 ghost use lib.ListN.{replicate};
-ghost use Rattle.semantics.specs.TextRun.{processOf, orderOf, valueOf};
+ghost use Rattle.text_runs.specs.TextRun.{processOf, orderOf, valueOf};
 ghost use Rattle.taken.specs.Ranges.{Lent};
 ghost use Rattle.steps.specs.Steps.{offered};
 ghost use Rattle.entry.specs.Turned.{placeOf, staysAt};

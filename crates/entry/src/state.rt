@@ -1,6 +1,6 @@
 // A run in progress, by value.
 ghost use mathlib.Core.Path.{_≡_};
-ghost use Rattle.semantics.specs.TextRun.{roomNeeded};
+ghost use Rattle.text_runs.specs.TextRun.{roomNeeded};
 use crate::limits;
 use model::Bench;
 use tables::records::Records;

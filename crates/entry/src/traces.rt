@@ -66,9 +66,9 @@ pub fn trace_line(
     let k = entry as u64;
     let answered = answers(reply);
     match e {
-        Entry::StartLl(p) => trace_lines::start_line(list, at, k, p, b'L', 0),
-        Entry::StartVl(p) => trace_lines::start_line(list, at, k, p, b'V', 0),
-        Entry::StartSc(p, value) => trace_lines::start_line(list, at, k, p, b'S', value),
+        Entry::StartLl(p) => trace_parts::start_line(list, at, k, p, b'L', 0),
+        Entry::StartVl(p) => trace_parts::start_line(list, at, k, p, b'V', 0),
+        Entry::StartSc(p, value) => trace_parts::start_line(list, at, k, p, b'S', value),
         Entry::Step(p) => trace_lines::step_line(list, at, k, p, access, answered),
         Entry::Finish(p) => trace_lines::step_line(list, at, k, p, access, answered),
     }

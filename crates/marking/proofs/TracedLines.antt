@@ -21,7 +21,8 @@ use Rattle.doings.specs.Items.{index, wordPlace}
 use Rattle.access.specs.declared.Act.{Act}
 use Rattle.access.specs.declared.Act.the-variants.{Read, Write, Ll, Sc, Vl}
 use Rattle.access.specs.declared.Access.{Access}
-use Rattle.access.specs.TraceLines.{spaced, bracketed, headText, halfText, halfPlaceText, itemText, actText, endText, stepLine, broughtText, startLine}
+use Rattle.access.specs.TraceLines.{halfText, halfPlaceText, itemText, actText, stepLine}
+use Rattle.trace_parts.specs.TraceParts.{spaced, bracketed, headText, endText, broughtText, startLine}
 use Rattle.access.proofs.Lengths.{SmallAccess}
 use Rattle.marking.specs.declared.Line.{Line}
 use Rattle.marking.specs.Marks.{kindOf, wordNamed, startedLine, onlyLooks, shownLine}

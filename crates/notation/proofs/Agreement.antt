@@ -13,7 +13,8 @@ use Rattle.notation.specs.Grammar.{Byte, Number, Gaps, Item, Items, Lead
 use Rattle.notation.specs.Grammar.{countOk, times, itemBytes, itemsBytes, leadBytes, scheduleBytes, firstBytes}
 use Rattle.notation.specs.Grammar.{bytes, itemSays, itemsSay, leadSays, scheduleSays, says}
 use Rattle.notation.specs.Scan.{Mode, between, num, offer, offerNum, done, to, leave, move, said, Frame, end, atEnd, go, scan}
-use Rattle.notation.specs.FirstLine.{Place, beforeN, inN, beforeW, inW, beforeInitial, inInitial, Next, goes, begins, step, right, whole, proceed, readFrom, past}
+use Rattle.notation.specs.FirstLine.{Place, beforeN, inN, beforeW, inW, beforeInitial, inInitial, Next, goes, begins, step, whole, proceed, readFrom, past}
+use Rattle.notation.specs.Readings.{right}
 use Rattle.notation.proofs.KindLaws.{offer-move}
 use Rattle.notation.proofs.ScanLaws.{Gathers, Leads, gathers-num, gathers-offer, leads-num, leads-offer, more-fits}
 use Rattle.notation.proofs.ItemLaws.{at-end-offer}

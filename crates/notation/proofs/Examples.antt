@@ -13,7 +13,8 @@ use Rattle.notation.specs.Grammar as G
 use Rattle.notation.specs.Grammar.{Number, Item, Items, Text, times, deepest, itemBytes, scheduleBytes, firstBytes, bytes}
 use Rattle.notation.specs.Grammar.{itemSays, scheduleSays, says, itemPlaces, schedulePlaces, places}
 use Rattle.notation.specs.Scan.{onDigit, more, move, said, atEnd, go, scan}
-use Rattle.notation.specs.FirstLine.{starting, inside, step, Reading, right, wrong, whole, proceed, readFrom, read}
+use Rattle.notation.specs.FirstLine.{starting, inside, step, whole, proceed, readFrom, read}
+use Rattle.notation.specs.Readings.{Reading, right, wrong}
 
 unfoldable readText : String → Reading
 readText s = read (quoted s)

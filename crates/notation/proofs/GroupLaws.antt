@@ -10,7 +10,8 @@ use Rattle.notation.specs.declared.Entry.{Entry}
 use Rattle.notation.specs.Bytes.{kindOf}
 use Rattle.notation.specs.Grammar.{countOk, times, deepest}
 use Rattle.notation.specs.Scan.{Mode, between, num, offer, offerNum, done, Move, to, enter, leave, bad, move, said, Frame, Verdict, end, shut, fault, atEnd, entered, go, scan}
-use Rattle.notation.specs.FirstLine.{beforeN, right, wrong, whole, read}
+use Rattle.notation.specs.FirstLine.{beforeN, whole, read}
+use Rattle.notation.specs.Readings.{right, wrong}
 use Rattle.notation.specs.Readers.{Skipped, Headed, NotHeaded}
 use Rattle.notation.specs.Stretches.{Goes, Faults, Begun, Once, Onward, Ends, Shuts}
 use Rattle.notation.specs.Groups.{ItemRead, ItemBroken, ItemsEnded, ItemsClosed, ItemsBroken, Sofar}

@@ -16,7 +16,8 @@ use Rattle.notation.specs.Bytes.{space, lineFeed, kindOf, isDigit}
 use Rattle.notation.specs.Grammar.{largest, digitOk}
 use Rattle.notation.specs.Scan.{between, scan}
 use Rattle.notation.specs.FirstLine.{Place, beforeN, inN, beforeW, inW, beforeInitial, inInitial, Next, goes, begins, breaks}
-use Rattle.notation.specs.FirstLine.{starting, inside, step, wrong, whole, proceed, readFrom, past}
+use Rattle.notation.specs.FirstLine.{starting, inside, step, whole, proceed, readFrom, past}
+use Rattle.notation.specs.Readings.{wrong}
 use Rattle.notation.specs.Readers.{Counts, still, digit, NumberSays, Whole, NoneAt, ends, other, strayed, NumberAtSays, Ended, NotEnded, none, Headed, NotHeaded, noN, noW, noInitial}
 use Rattle.notation.proofs.ScanLaws.{left-at, digit-fits, digit-stray}
 use Rattle.notation.proofs.NumberLaws.{number-only, number-slice}

@@ -12,6 +12,7 @@ pub mod TextTrees
 pub mod ScanPlaces
 pub mod TextPlaces
 pub mod Theorems
+pub mod ReadingLaws
 pub mod GroupLaws
 pub mod ReplyPlaces
 pub mod WordLaws

@@ -12,7 +12,8 @@ use Rattle.notation.specs.Bytes.{kindOf}
 use Rattle.notation.specs.Grammar.{Said, deepest}
 use Rattle.notation.specs.Scan.{between, Verdict, end, shut, fault, atEnd, scan}
 use Rattle.notation.specs.FirstLine.{Place, beforeN, inN, beforeW, inW, beforeInitial, inInitial, Next, goes, begins, breaks}
-use Rattle.notation.specs.FirstLine.{starting, inside, step, Reading, right, wrong, whole, proceed, readFrom, past}
+use Rattle.notation.specs.FirstLine.{starting, inside, step, whole, proceed, readFrom, past}
+use Rattle.notation.specs.Readings.{Reading, right, wrong}
 use Rattle.notation.specs.Right as R
 use Rattle.notation.specs.Right.{Right, Completable, Hopeless, Fault}
 use Rattle.notation.proofs.Agreement.{turn, text-read}

@@ -14,7 +14,8 @@ use Rattle.notation.specs.Grammar as G
 use Rattle.notation.specs.Grammar.{Byte, Number, FirstLine, Said, Text, digitOk, firstBytes, scheduleBytes, scheduleSays, bytes, says}
 use Rattle.notation.specs.Scan.{onDigit, between, Verdict, end, shut, fault, scan}
 use Rattle.notation.specs.FirstLine.{Place, beforeN, inN, beforeW, inW, beforeInitial, inInitial, Next, goes, begins, breaks}
-use Rattle.notation.specs.FirstLine.{starting, inside, step, right, wrong, whole, proceed, readFrom, past}
+use Rattle.notation.specs.FirstLine.{starting, inside, step, whole, proceed, readFrom, past}
+use Rattle.notation.specs.Readings.{right, wrong}
 use Rattle.notation.specs.Right.{Tells}
 use Rattle.notation.proofs.KindLaws.{either}
 use Rattle.notation.proofs.Trees.{Is, snoc, schedule-given}

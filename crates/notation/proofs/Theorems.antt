@@ -9,7 +9,8 @@ use lib.ListN.{length}
 use Rattle.listing.specs.Decimal.{decimal}
 use Rattle.notation.specs.Grammar.{largest, Number, Item, FirstLine, Text, Said, itemBytes, firstBytes, bytes, says, places, deepest}
 use Rattle.notation.specs.Written.{firstWritten, itemWritten, written, Standing}
-use Rattle.notation.specs.FirstLine.{right, wrong, read}
+use Rattle.notation.specs.FirstLine.{read}
+use Rattle.notation.specs.Readings.{right, wrong}
 use Rattle.notation.specs.Places.{locateText}
 use Rattle.notation.specs.Right.{Right, Tells, Fault}
 use Rattle.notation.proofs.Agreement.{text-read}

@@ -1,6 +1,5 @@
 -- A whole text, a byte at a time: its first line, and then its items.
--- Inner: `Theorems` proves that `read`, which the text run cites, says right exactly for `Grammar`'s texts, and what
--- they say.
+-- Inner: `ReadingLaws` proves that `read` gives each text its one reading by `Grammar`.
 use Prim.Native.Nat.{ℕ, zero, suc}
 use mathlib.Core.List.{List, [], _∷_}
 use mathlib.Core.Bool.{Bool, true, false, cond}
@@ -9,7 +8,8 @@ use lib.ListN.{length}
 use Rattle.notation.specs.declared.Kind.{Kind}
 use Rattle.notation.specs.declared.Kind.the-variants.{Digit, Gap, Marked, Offer, Open, Close, Other}
 use Rattle.notation.specs.Bytes.{space, lineFeed, kindOf}
-use Rattle.notation.specs.Grammar.{Said, deepest}
+use Rattle.notation.specs.Grammar.{deepest}
+use Rattle.notation.specs.Readings.{Reading, right, wrong}
 use Rattle.notation.specs.Scan.{onDigit, between, Verdict, end, shut, fault, scan}
 
 -- where a reading stands in the first line: before or in each of its numbers
@@ -57,11 +57,6 @@ step (beforeW n) b = starting (inW n) (kindOf b)
 step (inW n w) b = inside (inW n) space (λ x. goes (beforeInitial n x)) w b (kindOf b)
 step (beforeInitial n w) b = starting (inInitial n w) (kindOf b)
 step (inInitial n w v) b = inside (inInitial n w) lineFeed (begins n w) v b (kindOf b)
-
--- what a whole text comes to: right, with what it says, or a fault, with the number of bytes from its place on
-pub data Reading : Type 0 where
-  right : Said → Reading
-  wrong : ℕ → ℕ → Reading
 
 -- the items after a first line
 unfoldable pub whole : ℕ → ℕ → ℕ → Verdict → Reading

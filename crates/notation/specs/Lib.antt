@@ -2,8 +2,9 @@ pub mod Bytes
 pub mod Grammar
 pub mod Written
 pub mod Scan
-pub mod FirstLine
 pub mod Right
+pub mod Readings
+pub mod FirstLine
 pub mod Readers
 pub mod Places
 pub mod Stretches

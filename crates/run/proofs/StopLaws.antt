@@ -31,10 +31,15 @@ use Rattle.notation.proofs.ReplyPlaces.{no-first-fault, no-first-place, broken-
 use Rattle.notation.proofs.Theorems.{read-is-right, fault-is-wrong}
 use Rattle.run.specs.declared.text_run.First.{First}
 use Rattle.positions.specs.declared.StopReport.{StopReport}
-use Rattle.semantics.specs.TextRun.{Progress, processOf, begun, carry, carryAll, roomNeeded, longestText}
-use Rattle.semantics.specs.StopPlaces.{stopIndex, reportedProcess, atNoItem, atPlace, atEntry, itemReport, startedReport, StopInText, StopsAt}
+use Rattle.text_runs.specs.TextRun.{processOf, roomNeeded, longestText}
+use Rattle.text_runs.specs.TextRun as TR
+use Rattle.text_runs.specs.StopPlaces as SP
+use Rattle.semantics.specs.TextRun.{Progress, begun, carry, carryAll}
+use Rattle.text_runs.specs.StopPlaces.{reportedProcess, atNoItem, atPlace, atEntry}
+use Rattle.semantics.specs.StopPlaces.{stopIndex, itemReport, startedReport, StopInText, StopsAt}
 use Rattle.entry.specs.RunState.{RunState, progress}
-use Rattle.carrying.specs.Carried.{entriesIn, placesIn, Carries}
+use Rattle.text_runs.specs.KeptEntries.{entriesIn, placesIn}
+use Rattle.carrying.specs.Carried.{Carries}
 use Rattle.run.specs.Finished.{memoryOf, atMostSixteen, Lending, wordReport, saidWith, reportWith}
 use Rattle.entry.proofs.FilledLaws.{gathered-filled}
 use Rattle.run.proofs.RecordLaws.{take-sixteen}
@@ -45,7 +50,7 @@ use Rattle.run.proofs.RunLaws.{not-begun, is-begun}
 
 -- a run that is stopped is stopped by one of its entries
 stop-inside : (es : List Entry) (s : Progress) → s .stop ≡ 0 → (carryAll es s .stop ≡ 0 → ⊥) → stopIndex es s < length es
-unfolding carryAll stopIndex
+unfolding TR.carryAll SP.stopIndex
 stop-inside [] s z n = absurd (n z)
 stop-inside (e ∷ es) s z n = pick (eqb (carry e s .stop) 0) (λ q. stop-inside es (carry e s) (eqb-true (carry e s .stop) 0 q) n)
   where

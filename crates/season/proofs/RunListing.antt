@@ -20,7 +20,9 @@ use Rattle.listing.specs.Lines.{endLine, refusedLine}
 use Rattle.listing.specs.Writing.{Room, Wrote}
 use Rattle.listing.proofs.Lengths.{end-length, refused-length}
 use Rattle.listing.proofs.WritingLaws.{kept, grows}
-use Rattle.semantics.specs.TextRun.{Progress, stopped, mostEntries, roomNeeded, lineOf, processOf, orderOf, valueOf, traceLine, linesOf, counted, commanded, single, unanswered, steps, carry, carryAll, Ended, lastLine, ended, begun}
+use Rattle.text_runs.specs.TextRun.{mostEntries, roomNeeded, processOf, orderOf, valueOf}
+use Rattle.text_runs.specs.TextRun as TR
+use Rattle.semantics.specs.TextRun.{Progress, stopped, lineOf, traceLine, linesOf, counted, commanded, single, unanswered, steps, carry, carryAll, Ended, lastLine, ended, begun}
 use Rattle.entry.proofs.WordLaws.{Below}
 use Rattle.entry.proofs.SingleLaws.{value-every}
 use Rattle.answers.specs.Shape as G
@@ -124,7 +126,7 @@ module _ {n w : ℕ} {s : Progress} (e : Entry) (small : Small e) (l : Listed n 
       (λ z. stop-listed (numberOf (out .0)) (leaves .number) l)
 
   single-listed : Listed n w (single e s)
-  unfolding single
+  unfolding TR.single
   single-listed = either (Listed n w) (eqb (s .stop) 0) _ _
       (λ _. either (Listed n w) (leb mostEntries (s .entries)) _ _ (λ _. stop-listed 12 (omega arith) l)
       (λ a. either (Listed n w) (ltb (length (s .listing) - s .written) (roomNeeded (s .traced))) _ _ (λ _. stop-listed 14 (omega arith) l)
@@ -132,13 +134,13 @@ module _ {n w : ℕ} {s : Progress} (e : Entry) (small : Small e) (l : Listed n 
       (λ _. l)
 
 steps-listed : {n w : ℕ} (left p : ℕ) {s : Progress} → p ≤ largest → Listed n w s → Listed n w (steps left p s)
-unfolding steps
+unfolding TR.steps
 steps-listed zero p h l = l
 steps-listed {n} {w} (suc left) p {s} h l =
     let k = single-listed (Step p) h l in either (Listed n w) (unanswered p (single (Step p) s)) _ _ (λ _. steps-listed left p h k) (λ _. k)
 
 carry-listed : {n w : ℕ} {s : Progress} (e : Entry) → Small e → Listed n w s → Listed n w (carry e s)
-unfolding carry
+unfolding TR.carry
 carry-listed (StartLl p) h l = single-listed (StartLl p) h l
 carry-listed (StartVl p) h l = single-listed (StartVl p) h l
 carry-listed (StartSc p k) h l = single-listed (StartSc p k) h l
@@ -150,7 +152,7 @@ pub data AllSmall : List Entry → Type 0 where
   entry : {e : Entry} {es : List Entry} → Small e → AllSmall es → AllSmall (e ∷ es)
 
 pub all-listed : {n w : ℕ} {s : Progress} (es : List Entry) → AllSmall es → Listed n w s → Listed n w (carryAll es s)
-unfolding carryAll
+unfolding TR.carryAll
 all-listed [] none l = l
 all-listed (e ∷ es) (entry h k) l = all-listed es k (carry-listed e h l)
 

@@ -13,11 +13,14 @@ use Rattle.model.specs.SetUp.{wordsAtSetUp, atSetUp, setUpRefusal, setUp}
 use Rattle.setup.specs.SetUpByValue.{setUpNumber, set-up-number, Accepted}
 use Rattle.setup.proofs.SetUpLaws.{first-row, set-up-fits}
 use Rattle.notation.specs.Grammar.{Said, deepest, says}
-use Rattle.notation.specs.FirstLine.{Reading, right, wrong, read}
+use Rattle.notation.specs.FirstLine.{read}
+use Rattle.notation.specs.Readings.{Reading, right, wrong}
 use Rattle.notation.specs.Right.{Tells, Why, ended, broken, deep}
 use Rattle.notation.proofs.Theorems.{read-is-right, wrong-has-fault}
 use Rattle.semantics.specs.TextRun as T
-use Rattle.semantics.specs.TextRun.{Ended, longestText, roomNeeded, begun, carryAll, started, carriedOut, runWith, runText}
+use Rattle.text_runs.specs.TextRun.{longestText, roomNeeded}
+use Rattle.text_runs.specs.TextRun as TR
+use Rattle.semantics.specs.TextRun.{Ended, begun, carryAll, started, carriedOut, runWith, runText}
 use Rattle.entry.proofs.WordLaws.{Below, Every, every-replicate}
 use Rattle.run.proofs.StartLaws.{number-small}
 use Rattle.answers.specs.Shape.{largest, longestListing, Right}
@@ -100,7 +103,7 @@ module _ (n w : ℕ) (m : Memory) (listing : List ℕ) (room : 744 ≤ length li
     reading-right (wrong k left) e = refused-right n w m listing k (why-small (wrong-has-fault text k left e .why)) room lent
 
     writes-right : Right n w (writtenBy (runText m text listing))
-    unfolding runWith
+    unfolding TR.runWith
     writes-right = either Fine (ltb (length listing) (roomNeeded false)) _ _ (λ e. absurd (omega (arith, ltb-true (length listing) 744 e)))
         (λ _. either Fine (ltb longestText (length text)) _ _ (λ _. refused-right n w m listing 12 (omega arith) room lent)
         (λ _. reading-right (read text) refl))
@@ -113,7 +116,7 @@ run-writes-right n w m text listing room lent names = writes-right n w m listing
 
 -- 01: "A refusal 14 at the start writes nothing."
 pub run-writes-nothing : (m : Memory) (text listing : List ℕ) → length listing < 744 → writtenBy (runText m text listing) ≡ []
-unfolding runWith
+unfolding TR.runWith
 run-writes-nothing m text listing h = simp (lt-ltb (length listing) (roomNeeded false) h)
 
 -- So a season of that N and W takes every listing that a text run writes.

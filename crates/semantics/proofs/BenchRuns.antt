@@ -22,7 +22,9 @@ use Rattle.listing.specs.Lines.{lineFeed, answerHead, wordsOf, llLine, truthLin
 use Rattle.doings.specs.Doings.{doingAt}
 use Rattle.access.specs.Accesses.{accessOf}
 use Rattle.listing.specs.Quoted.{quoted}
-use Rattle.access.specs.TraceLines.{spaced, bracketed, headText, halfText, halfPlaceText, itemText, valuesText, truthText, storedText, writtenText, actText, endText, stepLine, broughtText, startLine}
+use Rattle.access.specs.TraceLines.{halfText, halfPlaceText, itemText, valuesText, storedText, writtenText, actText, stepLine}
+use Rattle.trace_parts.specs.TraceParts.{spaced, bracketed, headText, truthText, endText, broughtText, startLine}
+use Rattle.text_runs.specs.TextRun as TR
 use Rattle.semantics.specs.TextRun.{single, steps, carry, carryAll, runWith}
 
 -- a text, and what a run of it writes
@@ -108,8 +110,8 @@ runs =
     []
 
 pub runs-as-in-01 : map (runs-to false 800) runs ≡ map (should 800) runs
-unfolding dirtyX dirtyBank dirtyHelp dirtyProcess lent dirtyBytes runs-to lines should runs runWith read readFrom
-    proceed step starting inside whole scan go move said more onDigit atEnd kindOf times carryAll carry steps single
+unfolding dirtyX dirtyBank dirtyHelp dirtyProcess lent dirtyBytes runs-to lines should runs TR.runWith read readFrom
+    proceed step starting inside whole scan go move said more onDigit atEnd kindOf times TR.carryAll TR.carry TR.steps TR.single
     command refusal obey stepAt inRange setUp setUpRefusal llLine truthLine endLine refusedLine answerHead wordsOf
     decimal digits
 runs-as-in-01 = refl
@@ -168,8 +170,8 @@ traces =
     []
 
 pub traces-line-by-line : map (runs-to true 2000) traces ≡ map (should 2000) traces
-unfolding dirtyX dirtyBank dirtyHelp dirtyProcess lent dirtyBytes runs-to lines should traces runWith read readFrom
-    proceed step starting inside whole scan go move said more onDigit atEnd kindOf times carryAll carry steps single
+unfolding dirtyX dirtyBank dirtyHelp dirtyProcess lent dirtyBytes runs-to lines should traces TR.runWith read readFrom
+    proceed step starting inside whole scan go move said more onDigit atEnd kindOf times TR.carryAll TR.carry TR.steps TR.single
     command refusal obey stepAt inRange setUp setUpRefusal llLine truthLine endLine refusedLine answerHead wordsOf
     decimal digits accessOf doingAt spaced bracketed headText halfText halfPlaceText itemText valuesText truthText
     storedText writtenText actText endText stepLine broughtText startLine

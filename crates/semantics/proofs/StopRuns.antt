@@ -13,16 +13,21 @@ use Rattle.model.specs.SetUp.{setUp, setUpRefusal}
 use Rattle.notation.specs.Bytes.{kindOf}
 use Rattle.notation.specs.Grammar.{Said, says, places, times}
 use Rattle.notation.specs.Scan.{onDigit, more, move, said, atEnd, go, scan}
-use Rattle.notation.specs.FirstLine.{Reading, right, wrong, starting, inside, step, whole, proceed, readFrom, read}
+use Rattle.notation.specs.FirstLine.{starting, inside, step, whole, proceed, readFrom, read}
+use Rattle.notation.specs.Readings.{Reading, right, wrong}
 use Rattle.notation.specs.Places.{stride, locate, locateText}
 use Rattle.notation.proofs.PlacedTrees.{text-placed}
 use Rattle.notation.proofs.Theorems.{read-is-right, wrong-has-fault, wrong-at-fault}
 use Rattle.listing.specs.Decimal.{digits, decimal}
 use Rattle.listing.specs.Lines.{answerHead, wordsOf, llLine, truthLine, endLine, refusedLine}
 use Rattle.listing.specs.Quoted.{quoted}
-use Rattle.semantics.specs.TextRun.{single, steps, carry, carryAll, roomNeeded, longestText, runWith}
+use Rattle.text_runs.specs.TextRun.{roomNeeded, longestText}
+use Rattle.text_runs.specs.TextRun as TR
+use Rattle.text_runs.specs.StopPlaces as SP
+use Rattle.semantics.specs.TextRun.{single, steps, carry, carryAll, runWith}
 use Rattle.positions.specs.declared.StopReport.{StopReport}
-use Rattle.semantics.specs.StopPlaces.{stopIndex, atPlace, startedReport, StopInText, StopsAt}
+use Rattle.text_runs.specs.StopPlaces.{atPlace}
+use Rattle.semantics.specs.StopPlaces.{stopIndex, startedReport, StopInText, StopsAt}
 use Rattle.semantics.proofs.BenchRuns.{dirtyX, dirtyBank, dirtyHelp, dirtyProcess, lent, dirtyBytes}
 
 -- the report by the reading of the text
@@ -87,8 +92,8 @@ stops =
     []
 
 pub stop-places : map stopOf stops ≡ stops
-unfolding dirtyX dirtyBank dirtyHelp dirtyProcess lent dirtyBytes stopOf stops reportRead runWith read readFrom proceed step starting inside whole scan
-    go move said more onDigit atEnd kindOf times locateText locate stride stopIndex carryAll carry steps single command refusal obey stepAt inRange
+unfolding dirtyX dirtyBank dirtyHelp dirtyProcess lent dirtyBytes stopOf stops reportRead TR.runWith read readFrom proceed step starting inside whole scan
+    go move said more onDigit atEnd kindOf times locateText locate stride SP.stopIndex TR.carryAll TR.carry TR.steps TR.single command refusal obey stepAt inRange
     setUp setUpRefusal llLine truthLine endLine refusedLine answerHead wordsOf decimal digits
 stop-places = refl
 
@@ -96,6 +101,6 @@ stop-places = refl
 pub stops-at-13 : {report : StopReport} → StopsAt false lent (quoted "2 1 5\n0l 0.\n 0l") (dirtyBytes 800) report
     → report ≡ record { n = 2; w = 1; place = 13; process = 0 }
 unfolding dirtyX dirtyBank dirtyHelp dirtyProcess lent dirtyBytes reportRead read readFrom proceed step starting inside whole scan go move said more
-    onDigit atEnd kindOf times locateText locate stride stopIndex carryAll carry steps single command refusal obey stepAt inRange setUp setUpRefusal
+    onDigit atEnd kindOf times locateText locate stride SP.stopIndex TR.carryAll TR.carry TR.steps TR.single command refusal obey stepAt inRange setUp setUpRefusal
     llLine truthLine endLine refusedLine answerHead wordsOf decimal digits
 stops-at-13 x = stops-by-reading x (omega arith) (omega arith)

@@ -22,12 +22,17 @@ use Rattle.model.specs.SetUp.{setUp}
 use Rattle.notation.specs.declared.Entry.{Entry}
 use Rattle.notation.specs.declared.Entry.the-variants.{StartLl, StartVl, StartSc, Step, Finish}
 use Rattle.notation.specs.Grammar.{Said}
-use Rattle.notation.specs.FirstLine.{Reading, right, wrong, read}
+use Rattle.notation.specs.FirstLine.{read}
+use Rattle.notation.specs.Readings.{Reading, right, wrong}
 use Rattle.access.specs.declared.Access.{Access}
 use Rattle.access.specs.Accesses.{accessOf}
-use Rattle.semantics.specs.TextRun.{Progress, stopped, lineOf, accessNow, entryLine, linesOf, counted, replied, processOf, orderOf}
-use Rattle.semantics.specs.TextRun.{valueOf, commanded, single, unanswered, steps, finish, carry, carryAll, Ended, ended, begun}
-use Rattle.semantics.specs.TextRun.{started, carriedOut, runWith, runText, mostEntries, roomNeeded, longestText}
+use Rattle.text_runs.specs.TextRun.{processOf, orderOf}
+use Rattle.text_runs.specs.TextRun as TR
+use Rattle.semantics.specs.TextRun.{Progress, stopped, lineOf, accessNow, entryLine, linesOf, counted, replied}
+use Rattle.text_runs.specs.TextRun.{valueOf}
+use Rattle.semantics.specs.TextRun.{commanded, single, unanswered, steps, finish, carry, carryAll, Ended, ended, begun}
+use Rattle.text_runs.specs.TextRun.{mostEntries, roomNeeded, longestText}
+use Rattle.semantics.specs.TextRun.{started, carriedOut, runWith, runText}
 use Rattle.semantics.proofs.CommandFrame.{withRecords, behind, same-record, command-frame, command-records, unrefused-below, set-up-frame, set-up-records}
 
 -- a run whose memory has more records behind its own
@@ -75,7 +80,7 @@ module _ (t : List Process) where
         ∙ reply-frame s h e out (unrefused-below (s .memory) t h (processOf e) (orderOf e) (valueOf (s .memory .bench .w) e))
 
     single-frame : single e (longer t s) ≡ longer t (single e s)
-    unfolding single
+    unfolding TR.single
     single-frame = go (eqb (s .stop) 0) (leb mostEntries (s .entries)) (ltb (length (s .listing) - s .written) (roomNeeded (s .traced)))
       where
         go : (a b c : Bool)
@@ -87,7 +92,7 @@ module _ (t : List Process) where
         go true false false = command-longer
 
     single-sixteen : Sixteen (single e s)
-    unfolding single
+    unfolding TR.single
     single-sixteen = go (eqb (s .stop) 0) (leb mostEntries (s .entries)) (ltb (length (s .listing) - s .written) (roomNeeded (s .traced))) (eqb (numberOf (out .0)) 0)
       where
         go : (a b c d : Bool) → Sixteen (cond a (cond b (stopped 12 s) (cond c (stopped 14 s) (cond d (counted s (out .1) (linesOf s e out)) (stopped (numberOf (out .0)) s)))) s)
@@ -99,7 +104,7 @@ module _ (t : List Process) where
 
     -- where an entry leaves the run going on, its process is one of the sixteen
     going-on : single e s .stop ≡ 0 → processOf e < 16
-    unfolding single
+    unfolding TR.single
     going-on = go (eqb (s .stop) 0) refl (leb mostEntries (s .entries)) (ltb (length (s .listing) - s .written) (roomNeeded (s .traced))) (eqb (numberOf (out .0)) 0) refl
       where
         go : (a : Bool) → eqb (s .stop) 0 ≡ a → (b c d : Bool) → eqb (numberOf (out .0)) 0 ≡ d
@@ -119,7 +124,7 @@ module _ (t : List Process) where
       go true e = ap (λ q. not (isIdle q)) (same-record (s .memory) t h p (orderOf (Step p)) [] (below (eqb-true _ 0 e)))
 
   steps-frame : (left p : ℕ) (s : Progress) → Sixteen s → steps left p (longer t s) ≡ longer t (steps left p s)
-  unfolding steps
+  unfolding TR.steps
   steps-frame zero p s h = refl
   steps-frame (suc left) p s h =
       ap (λ z. cond (unanswered p z) (steps left p z) z) (single-frame s h (Step p))
@@ -134,7 +139,7 @@ module _ (t : List Process) where
       go false e = refl
 
   steps-sixteen : (left p : ℕ) (s : Progress) → Sixteen s → Sixteen (steps left p s)
-  unfolding steps
+  unfolding TR.steps
   steps-sixteen zero p s h = h
   steps-sixteen (suc left) p s h = go (unanswered p (single (Step p) s)) (steps-sixteen left p (single (Step p) s) (single-sixteen s h (Step p)))
     where
@@ -143,7 +148,7 @@ module _ (t : List Process) where
       go false x = single-sixteen s h (Step p)
 
   carry-frame : (e : Entry) (s : Progress) → Sixteen s → carry e (longer t s) ≡ longer t (carry e s)
-  unfolding carry
+  unfolding TR.carry
   carry-frame (StartLl p) s h = single-frame s h (StartLl p)
   carry-frame (StartVl p) s h = single-frame s h (StartVl p)
   carry-frame (StartSc p k) s h = single-frame s h (StartSc p k)
@@ -155,7 +160,7 @@ module _ (t : List Process) where
       go false = refl
 
   carry-sixteen : (e : Entry) (s : Progress) → Sixteen s → Sixteen (carry e s)
-  unfolding carry
+  unfolding TR.carry
   carry-sixteen (StartLl p) s h = single-sixteen s h (StartLl p)
   carry-sixteen (StartVl p) s h = single-sixteen s h (StartVl p)
   carry-sixteen (StartSc p k) s h = single-sixteen s h (StartSc p k)
@@ -167,7 +172,7 @@ module _ (t : List Process) where
       go false = h
 
   carry-all-frame : (es : List Entry) (s : Progress) → Sixteen s → carryAll es (longer t s) ≡ longer t (carryAll es s)
-  unfolding carryAll
+  unfolding TR.carryAll
   carry-all-frame [] s h = refl
   carry-all-frame (e ∷ es) s h = ap (carryAll es) (carry-frame e s h) ∙ carry-all-frame es (carry e s) (carry-sixteen e s h)
 
@@ -197,7 +202,7 @@ module _ (t : List Process) where
     carried-frame (wrong k left) = refl
 
     run-frame : (text : List ℕ) → runWith style more text listing ≡ endedLonger (runWith style m text listing)
-    unfolding runWith
+    unfolding TR.runWith
     run-frame text = go (ltb (length listing) (roomNeeded style)) (ltb longestText (length text))
       where
         go : (a b : Bool) → cond a

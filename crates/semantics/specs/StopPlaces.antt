@@ -1,65 +1,25 @@
--- Where in its text a run stopped, and at whose entry: at the fault that the text has, or at the item whose entry was refused.
-use Prim.Native.Nat.{ℕ, suc, _≤_, _<_}
-use mathlib.Core.Path.{_≡_}
-use mathlib.Core.List.{List, [], _∷_}
-use mathlib.Core.Bool.{Bool, cond}
-use lib.Dec.{eqb, leb}
-use lib.ListN.{length, getD, replicate}
+-- Where in its text a run on the first bench stopped: `text_runs`' own, on the machine of Figure 2.
+use Prim.Native.Nat.{ℕ}
+use mathlib.Core.List.{List}
+use mathlib.Core.Bool.{Bool}
 use Rattle.model.specs.Machine.{Memory}
-use Rattle.model.specs.SetUp.{setUp}
 use Rattle.notation.specs.declared.Entry.{Entry}
-use Rattle.notation.specs.declared.Entry.the-variants.{StartLl}
-use Rattle.notation.specs.Grammar.{Text, Said, bytes, says, places, deepest}
-use Rattle.notation.specs.Right.{Fault}
+use Rattle.notation.specs.Grammar.{Said}
 use Rattle.positions.specs.declared.StopReport.{StopReport}
-use Rattle.semantics.specs.TextRun.{Progress, processOf, carry, carryAll, begun, roomNeeded, longestText}
+use Rattle.text_runs.specs.StopPlaces as S
+use Rattle.semantics.specs.TextRun.{figure2, Progress}
 
--- "After a refused entry nothing more runs.": how many of the entries are carried out whole before the one that stops
--- the run, all where none does. `!` is one of them, with all its steps.
-unfoldable pub stopIndex : List Entry → Progress → ℕ
-stopIndex [] s = 0
-stopIndex (e ∷ es) s = cond (eqb (carry e s .stop) 0) (suc (stopIndex es (carry e s))) 0
+abbrev pub stopIndex : List Entry → Progress → ℕ
+stopIndex es s = S.stopIndex figure2 es s
 
--- "process number not below N", and N is at most 16: a process number above 15 is reported as 16
-abbrev pub reportedProcess : ℕ → ℕ
-reportedProcess p = cond (leb p 15) p 16
-
--- a stop at no entry
-abbrev pub atNoEntry : ℕ → ℕ → ℕ → StopReport
-atNoEntry n w place = record { n = n; w = w; place = place; process = 0 }
-
--- where N and W were read
-abbrev pub atNoItem : ℕ → ℕ → StopReport
-atNoItem n w = atNoEntry n w 0
-
--- at a place of a text that is not right, or is not looked at: nothing of it is reported as read
-abbrev pub atPlace : ℕ → StopReport
-atPlace place = atNoEntry 0 0 place
-
--- a stop at the entry with this index, where `ps` are the places of the entries
-abbrev pub atEntry : ℕ → ℕ → List Entry → List ℕ → ℕ → StopReport
-atEntry n w es ps i = record { n = n; w = w; place = getD ps i 0; process = reportedProcess (processOf (getD es i (StartLl 0))) }
-
--- the item whose entry stops the run; none where the run comes to its end
 abbrev pub itemReport : ℕ → ℕ → List Entry → List ℕ → Progress → StopReport
-itemReport n w es ps s = cond (eqb (carryAll es s .stop) 0) (atNoItem n w) (atEntry n w es ps (stopIndex es s))
+itemReport n w es ps s = S.itemReport figure2 n w es ps s
 
--- "then 1, 2, 3, then the set-up, then the entries": 1, 2 and 3 are at no item
 abbrev pub startedReport : Bool → List ℕ → Said → List ℕ → ℕ × Memory → StopReport
-startedReport t listing a ps prepared =
-    cond (eqb (prepared .0) 0) (itemReport (a .n) (a .w) (a .entries) ps (begun t (prepared .1) listing 0)) (atNoItem (a .n) (a .w))
+startedReport t listing a ps prepared = S.startedReport figure2 t listing a ps prepared
 
--- the stop in a text that is looked at: at its fault, or at an item of a right text
-pub record StopInText (t : Bool) (m : Memory) (text listing : List ℕ) (report : StopReport) : Type 0 where
-  -- "A fault 10 or 11 stands at the first byte (the text's end counts as one) after which no text of any length could
-  -- be right"
-  pub fault : (k : ℕ) (p : Fault text k) → atPlace (p .at) ≡ report
-  pub item : (x : Text deepest) → bytes x ≡ text → let a = says x in
-      report ≡ startedReport t listing a (places x) (setUp m (a .n) (a .w) (replicate (a .w) (a .initial)))
+abbrev pub StopInText : Bool → Memory → List ℕ → List ℕ → StopReport → Type 0
+StopInText t m text listing report = S.StopInText figure2 t m text listing report
 
--- The stop of a text run, whatever it was given: a text that is looked at is right or has one fault.
-pub record StopsAt (t : Bool) (m : Memory) (text listing : List ℕ) (report : StopReport) : Type 0 where
-  -- "14 at its start, then 12 for length": the text is not looked at
-  pub no-room : length listing < roomNeeded t → report ≡ atPlace 0
-  pub too-long : longestText < length text → report ≡ atPlace 0
-  pub looked : roomNeeded t ≤ length listing → length text ≤ longestText → StopInText t m text listing report
+abbrev pub StopsAt : Bool → Memory → List ℕ → List ℕ → StopReport → Type 0
+StopsAt t m text listing report = S.StopsAt figure2 t m text listing report

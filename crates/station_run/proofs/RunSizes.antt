@@ -28,8 +28,11 @@ use Rattle.serving.proofs.RefusalFacts.{or-false, noRow, none-holds, inside}
 use Rattle.notation.specs.declared.Entry.{Entry}
 use Rattle.notation.specs.declared.Entry.the-variants.{StartLl, StartVl, StartSc, Step, Finish}
 use Rattle.notation.specs.Grammar.{Said}
-use Rattle.notation.specs.FirstLine.{Reading, right, wrong, read}
-use Rattle.semantics.specs.TextRun.{Progress, stopped, mostEntries, roomNeeded, longestText, processOf, orderOf, valueOf}
+use Rattle.notation.specs.FirstLine.{read}
+use Rattle.notation.specs.Readings.{Reading, right, wrong}
+use Rattle.text_runs.specs.TextRun.{mostEntries, roomNeeded, longestText, processOf, orderOf, valueOf}
+use Rattle.text_runs.specs.TextRun as TR
+use Rattle.semantics.specs.TextRun.{Progress, stopped}
 use Rattle.semantics.specs.TextRun.{linesOf, counted, replied, commanded, single, unanswered, steps, finish, carry, carryAll}
 use Rattle.semantics.specs.TextRun.{Ended, ended, begun, started, carriedOut, runWith}
 
@@ -85,7 +88,7 @@ module _ (s : Progress) (e : Entry) where
   out = command (s .memory) (processOf e) (orderOf e) (valueOf (s .memory .bench .w) e)
 
   single-n : sizeOf (single e s) ≡ sizeOf s
-  unfolding single
+  unfolding TR.single
   single-n = go (eqb (s .stop) 0) (leb mostEntries (s .entries)) (ltb (length (s .listing) - s .written) (roomNeeded (s .traced))) (eqb (numberOf (out .0)) 0)
     where
       go : (a b c d : Bool) → sizeOf (cond a (cond b (stopped 12 s) (cond c (stopped 14 s) (cond d (counted s (out .1) (linesOf s e out)) (stopped (numberOf (out .0)) s)))) s) ≡ sizeOf s
@@ -96,7 +99,7 @@ module _ (s : Progress) (e : Entry) where
       go true false false false = refl
 
 steps-n : (left p : ℕ) (s : Progress) → sizeOf (steps left p s) ≡ sizeOf s
-unfolding steps
+unfolding TR.steps
 steps-n zero p s = refl
 steps-n (suc left) p s = go (unanswered p next) (steps-n left p next)
   where
@@ -108,7 +111,7 @@ steps-n (suc left) p s = go (unanswered p next) (steps-n left p next)
     go false e = single-n s (Step p)
 
 carry-n : (e : Entry) (s : Progress) → sizeOf (carry e s) ≡ sizeOf s
-unfolding carry
+unfolding TR.carry
 carry-n (StartLl p) s = single-n s (StartLl p)
 carry-n (StartVl p) s = single-n s (StartVl p)
 carry-n (StartSc p k) s = single-n s (StartSc p k)
@@ -120,7 +123,7 @@ carry-n (Finish p) s = go (eqb (s .stop) 0)
     go false = refl
 
 carry-all-n : (es : List Entry) (s : Progress) → sizeOf (carryAll es s) ≡ sizeOf s
-unfolding carryAll
+unfolding TR.carryAll
 carry-all-n [] s = refl
 carry-all-n (e ∷ es) s = carry-all-n es (carry e s) ∙ carry-n e s
 
@@ -170,7 +173,7 @@ module _ (m : Memory) (unset : m .bench .n ≡ 0) where
   sized-carried t listing (wrong k left) = stays
 
   pub sized-run : (t : Bool) (text listing : List ℕ) → Sized m (runWith t m text listing .memory)
-  unfolding runWith
+  unfolding TR.runWith
   sized-run t text listing = go (ltb (length listing) (roomNeeded t)) (ltb longestText (length text))
     where
       go : (a b : Bool) → Sized m (cond a (record { number = 14; entries = 0; written = 0; memory = m; listing = listing })

@@ -17,7 +17,7 @@ use Rattle.words.proofs.WordLaws.{row-lies}
 use Rattle.notation.specs.declared.Entry.{Entry}
 use Rattle.notation.specs.declared.Entry.the-variants.{StartLl, StartVl, StartSc, Step, Finish}
 use Rattle.notation.proofs.Entry.{the-type}
-use Rattle.semantics.specs.TextRun.{orderOf, valueOf}
+use Rattle.text_runs.specs.TextRun.{orderOf, valueOf}
 use borrow.Author.Needs.{needs}
 use Rattle.entry.proofs.entries.offer.Statement.{statement}
 use Rattle.entry.proofs.entries.offer.Tie as tie

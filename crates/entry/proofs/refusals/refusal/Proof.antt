@@ -8,7 +8,7 @@ use Rattle.llsc.specs.declared.Order.{Order}
 use Rattle.llsc.specs.Rows.{first}
 use Rattle.model.specs.Refusals.{row5, row6, row7}
 use Rattle.rows.proofs.RowLaws.{over, here}
-use Rattle.semantics.specs.TextRun.{mostEntries}
+use Rattle.text_runs.specs.TextRun.{mostEntries}
 use Rattle.entry.specs.Turned.{refusalOf}
 use borrow.Author.Needs.{needs}
 use Rattle.entry.proofs.refusals.refusal.Statement.{statement}

@@ -1,5 +1,5 @@
 -- `run::text_run::run_in_style`: 14, 12, the first line, and the rest.
-use mathlib.Core.Path.{refl, subst}
+use mathlib.Core.Path.{subst}
 use Prim.Native.Nat.{_≤_, _<_}
 use native.Mathlib.Omega.{arith}
 use borrow.Author.Needs.{needs}
@@ -7,7 +7,7 @@ use denote.Ref.{now}
 use lib.ListN.{length}
 use Rattle.notation.specs.Readers.{HeaderSays}
 use Rattle.run.specs.declared.text_run.First.{First}
-use Rattle.semantics.specs.TextRun.{roomNeeded}
+use Rattle.text_runs.specs.TextRun.{roomNeeded}
 use Rattle.run.specs.Finished.{memoryOf, refusedWith, saysAfter}
 use Rattle.run.proofs.RunLaws.{lending-sixteen, run-14, run-12, run-not-headed, run-headed, answered, ended-as}
 use Rattle.run.proofs.StopLaws.{report-is, line-stops, report-sixteen, stops-14, stops-12, stops-looked}
@@ -36,7 +36,7 @@ returns c =
     let m = memoryOf (a .bench) (a .all) (a .len) (now (a .words)) in
     let short : length (now (a .list)) < roomNeeded (a .traced) = omega (arith, c .before .before .before .if1 .taken, c4 .room-needed .ensures) in
     rw (c .returned .ensures, c .before .at-no-entry .ensures, c .before .before .fresh .ensures)
-    (record { same = run-14 (a .traced) m (now (a .text)) (now (a .list)) short; again = c9 .pre; others = λ j l. refl; stops = stops-14 short })
+    (record { same = run-14 (a .traced) m (now (a .text)) (now (a .list)) short; again = c9 .pre; stops = stops-14 short })
 
 refused-requires : tie.Need-refused-requires
 refused-requires c κs =

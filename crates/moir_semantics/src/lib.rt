@@ -1,0 +1,1 @@
+// The meaning of a text run on Moir's bench: no code.

@@ -1,0 +1,1 @@
+// What a text run is, over any machine: no code.
