@@ -14,8 +14,8 @@ use Rattle.moir_access.specs.declared.Act.{Act}
 use Rattle.moir_access.specs.declared.Act.the-variants.{Read, Write, Cas}
 use Rattle.moir_access.specs.declared.Content.{Content}
 use Rattle.moir_access.specs.declared.Access.{Access}
-use Rattle.moir_access.specs.TraceParts.{spaced, bracketed, itemText, pairText, valuesText, truthText}
-use Rattle.moir_access.specs.TraceParts.{casText, actText, shown}
+use Rattle.trace_parts.specs.TraceParts.{spaced, bracketed, truthText}
+use Rattle.moir_access.specs.TraceParts.{itemText, pairText, valuesText, casText, actText, shown}
 
 -- no number of an access has more than ten digits, nor its line more than three
 abbrev pub SmallItem : Item → Type 0
