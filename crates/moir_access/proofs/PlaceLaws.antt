@@ -6,11 +6,12 @@ use Prim.Native.Nat.{ℕ, _+_, _*_, _≤_, _<_}
 use native.Mathlib.Decide.{decLt}
 use native.Mathlib.Omega.{arith}
 use lib.ListN.{length, getD, set}
-use lib.Seq.{getD-set-same, getD-set-other}
+use lib.Seq.{getD-set-same, getD-set-other, sets}
+use Rattle.laws.proofs.ListFacts.{sets-out}
 use Rattle.llsc.specs.declared.ProcessNumber.{ProcessNumber}
 use Rattle.moir_model.specs.declared.Bench.{Bench}
 use Rattle.moir_model.specs.Sizes.{lentWords}
-use Rattle.moir_model.specs.Words.{segmentWord, putTag, putValue}
+use Rattle.moir_model.specs.Words.{announcedWord, segmentWord, putTag, putValue}
 use Rattle.words.proofs.WordLaws.{within}
 use Rattle.moir_steps.proofs.PlaceLaws.{lies}
 use Rattle.moir_access.specs.declared.Item.{Item}
@@ -78,3 +79,15 @@ segment-elsewhere b ws k t v hk (Data j) there ne =
     (place-stays b ws (b .n) k v hk (b .n) j there other)
 segment-elsewhere b ws k t v hk (Announced q j) there ne =
     ap wordContent (row-stays b ws (b .n) k v hk (q .0) j (there .1) (λ e. omega (arith, there .0)))
+
+-- an area of a process is put, from its first word on: it lies behind the rows of A and of the segments
+pub area-put : (b : Bench) (ws : List ℕ) (r : ℕ) (v : List ℕ) → b .n < r → (i : Item) → InBench b i
+    → itemAt i b (sets ws (r * b .w + 0) v) ≡ itemAt i b ws
+area-put b ws r v hr Hdr there = refl
+area-put b ws r v hr (Data j) there =
+    let before = within {b = b .n} {c = r} {k = j} {w = b .w} hr there in
+    ap (λ (x : ℕ). record { first = getD (b .tags) j 0; second = x })
+    (sets-out v ws (r * b .w + 0) (segmentWord (b .n) (b .w) j) 0 (λ x y. omega (arith, before)))
+area-put b ws r v hr (Announced q j) there =
+    let before = within {b = q .0} {c = r} {k = j} {w = b .w} (omega (arith, hr, there .0)) (there .1) in
+    ap wordContent (sets-out v ws (r * b .w + 0) (announcedWord (b .w) q j) 0 (λ x y. omega (arith, before)))

@@ -1,10 +1,11 @@
 -- The theorems about the trace of Moir's bench: the access shown for a step is what `moir_model`'s step does, the step
--- does nothing else to a shared item, its process gets what is shown, and the line is its own.
+-- does nothing else to a shared item, its process gets what is shown, and the line is its own;
+-- a start does nothing to a shared item.
 use mathlib.Core.Path.{_≡_, refl, sym, ap, ap₂, subst}
 use mathlib.Core.Logic.{_≢_}
 use mathlib.Core.List.{List}
 use mathlib.Core.Bool.{Bool, true, false, _&&_, cond}
-use Prim.Native.Nat.{ℕ, _+_, _≤_, _<_}
+use Prim.Native.Nat.{ℕ, _+_, _*_, _≤_, _<_}
 use native.Mathlib.Omega.{arith}
 use lib.Dec.{eqb, ltb}
 use lib.ListN.{length, getD, set}
@@ -13,6 +14,8 @@ use Rattle.laws.proofs.AndLaws.{left, right}
 use Rattle.laws.proofs.AllLaws.{and-both}
 use Rattle.laws.proofs.Updates.{by-test, contra}
 use Rattle.llsc.specs.declared.ProcessNumber.{ProcessNumber}
+use Rattle.llsc.specs.declared.Order.{Order}
+use Rattle.llsc.specs.declared.Order.the-variants.{StartLl, StartSc, StartVl, Step}
 use Rattle.moir_model.specs.declared.Header.{Header}
 use Rattle.moir_model.specs.declared.Segment.{Segment}
 use Rattle.moir_model.specs.declared.Bench.{Bench}
@@ -24,7 +27,7 @@ use Rattle.moir_model.specs.Tags.{previousTag}
 use Rattle.moir_model.specs.Records.{to, rest}
 use Rattle.moir_model.specs.Words.{announcedWord, returnWord, offerWord, segmentAt, putHeader, putTag, putValue}
 use Rattle.moir_model.specs.Lines.{goesOn, sameHeader, sameSegment, saves, doLine2, doLine7, doLine7Copy, doLine14, doLine19}
-use Rattle.moir_model.specs.Machine.{stepAt}
+use Rattle.moir_model.specs.Machine.{stepAt, obey}
 use Rattle.moir_access.specs.declared.Item.{Item}
 use Rattle.moir_access.specs.declared.Item.the-variants.{Hdr, Data, Announced}
 use Rattle.moir_access.specs.declared.Act.the-variants.{Read, Write, Cas}
@@ -32,8 +35,8 @@ use Rattle.moir_access.specs.declared.Content.{Content}
 use Rattle.moir_access.specs.declared.Access.{Access}
 use Rattle.moir_access.specs.Items.{headerContent, segmentContent, wordContent, itemAt, InBench}
 use Rattle.moir_access.specs.Accesses.{noContent, headerRead, accessOf}
-use Rattle.moir_access.specs.Truth.{TellsTruth, casReply, Gets, figureLine, Stepped}
-use Rattle.moir_access.proofs.PlaceLaws.{own-put, word-there, word-elsewhere, segment-there, segment-elsewhere}
+use Rattle.moir_access.specs.Truth.{TellsTruth, Untouched, casReply, Gets, figureLine, Stepped}
+use Rattle.moir_access.proofs.PlaceLaws.{own-put, area-put, word-there, word-elsewhere, segment-there, segment-elsewhere}
 
 -- two pairs of numbers are compared one number after the other
 pair-same : {t v t′ v′ : ℕ} → eqb t t′ && eqb v v′ ≡ true
@@ -212,3 +215,12 @@ line-shown sc5 p b q ws = refl
 line-shown sc6 p b q ws = refl
 line-shown sc7 p b q ws = refl
 line-shown vl13 p b q ws = refl
+
+-- a start touches no shared item: at most the own offer area is written
+pub start-tells : (o : Order) → o ≢ Step → (p : ProcessNumber) (v : List ℕ) (b : Bench) (q : Process) (ws : List ℕ)
+    → Untouched b ws (obey o p v b q ws .0 .bench) (obey o p v b q ws .1)
+unfolding obey
+start-tells StartLl ne p v b q ws i there = refl
+start-tells StartSc ne p v b q ws i there = area-put b ws (2 * b .n + 1 + p .0) v (omega arith) i there
+start-tells StartVl ne p v b q ws i there = refl
+start-tells Step ne p v b q ws i there = absurd (ne refl)

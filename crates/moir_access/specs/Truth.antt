@@ -39,6 +39,10 @@ pub record TellsTruth (a : Access) (b : Bench) (ws : List ℕ) (b′ : Bench) (w
   pub item : Says (a .act) (a .values) (a .new) (itemAt (a .item) b ws) (itemAt (a .item) b′ ws′)
   pub others : (i : Item) → InBench b i → i ≢ a .item → itemAt i b′ ws′ ≡ itemAt i b ws
 
+-- docs/TRACE.md: "a start touches nothing shared"
+abbrev pub Untouched : Bench → List ℕ → Bench → List ℕ → Type 0
+Untouched b ws b′ ws′ = (i : Item) → InBench b i → itemAt i b′ ws′ ≡ itemAt i b ws
+
 -- line 19: if not CAS(addr, oldhdr, newhdr) then return false; a read or a write has no truth
 abbrev pub casReply : Act → ℕ → Reply
 casReply Read k = Accepted
