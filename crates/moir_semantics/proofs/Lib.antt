@@ -1,0 +1,3 @@
+pub mod AcceptedRows
+pub mod SmallWords
+pub mod LineLengths
