@@ -16,8 +16,8 @@ use Rattle.moir_model.proofs.Schedules.{l, v, s, steps, dirty}
 use Rattle.listing.specs.Quoted.{quoted}
 use Rattle.listing.specs.Decimal.{digits, decimal}
 use Rattle.moir_access.specs.Accesses.{accessOf}
-use Rattle.moir_access.specs.TraceParts.{spaced, bracketed, itemText, pairText, valuesText, truthText}
-use Rattle.moir_access.specs.TraceParts.{casText, actText, shown}
+use Rattle.trace_parts.specs.TraceParts.{spaced, bracketed, truthText}
+use Rattle.moir_access.specs.TraceParts.{itemText, pairText, valuesText, casText, actText, shown}
 
 -- of a step of p: p and the access, on a line of its own
 lineOf : ℕ → Order → Memory → List ℕ

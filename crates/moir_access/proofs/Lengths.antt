@@ -1,21 +1,20 @@
 -- How long what a trace shows of an access is: with the entry number, the process and ` answers ` at most the 128 bytes
 -- that a trace keeps beside the listing's line.
-use Prim.Native.Nat.{ℕ, _+_, _≤_}
+use Prim.Native.Nat.{ℕ, _≤_}
 use mathlib.Core.List.{_++_}
-use mathlib.Core.Bool.{Bool, true, false}
+use mathlib.Core.Bool.{Bool}
 use native.Mathlib.Omega.{arith}
 use lib.ListN.{length}
-use Rattle.listing.specs.Quoted.{quoted}
-use Rattle.listing.specs.Decimal.{decimal}
-use Rattle.listing.proofs.Lengths.{count-digits, word-digits, joined}
+use Rattle.listing.proofs.Lengths.{count-digits, joined}
 use Rattle.moir_access.specs.declared.Item.{Item}
 use Rattle.moir_access.specs.declared.Item.the-variants.{Hdr, Data, Announced}
 use Rattle.moir_access.specs.declared.Act.{Act}
 use Rattle.moir_access.specs.declared.Act.the-variants.{Read, Write, Cas}
 use Rattle.moir_access.specs.declared.Content.{Content}
 use Rattle.moir_access.specs.declared.Access.{Access}
-use Rattle.moir_access.specs.TraceParts.{spaced, bracketed, itemText, pairText, valuesText, truthText}
-use Rattle.moir_access.specs.TraceParts.{casText, actText, shown}
+use Rattle.trace_parts.specs.TraceParts.{spaced, bracketed, truthText}
+use Rattle.trace_parts.proofs.Lengths.{spaced-length, number-length, bracketed-length, truth-length}
+use Rattle.moir_access.specs.TraceParts.{itemText, pairText, valuesText, casText, actText, shown}
 
 -- no number of an access has more than ten digits, nor its line more than three
 abbrev pub SmallItem : Item → Type 0
@@ -33,17 +32,6 @@ pub record SmallAccess (a : Access) : Type 0 where
   pub values : SmallContent (a .values)
   pub new : SmallContent (a .new)
 
-spaced-length : (n k : ℕ) → length (decimal n) ≤ k → length (spaced n) ≤ k + 1
-unfolding spaced
-spaced-length n k h = omega arith
-
-number-length : (n : ℕ) → n ≤ 4294967295 → length (spaced n) ≤ 11
-number-length n h = spaced-length n 10 (word-digits n h)
-
-bracketed-length : (n : ℕ) → n ≤ 4294967295 → length (bracketed n) ≤ 12
-unfolding bracketed
-bracketed-length n h = omega (arith, joined (decimal n) (quoted "]") 10 1 (word-digits n h) (omega arith))
-
 item-length : (i : Item) → SmallItem i → length (itemText i) ≤ 26
 unfolding itemText
 item-length Hdr s = omega arith
@@ -60,11 +48,6 @@ unfolding valuesText
 values-length Hdr v s = pair-length v s
 values-length (Data k) v s = pair-length v s
 values-length (Announced q k) v s = omega (arith, number-length (v .first) (s .first))
-
-truth-length : (t : Bool) → length (truthText t) ≤ 6
-unfolding truthText
-truth-length true = omega arith
-truth-length false = omega arith
 
 cas-length : (i : Item) (v u : Content) (t : Bool) → SmallContent v → SmallContent u → length (casText i v u t) ≤ 54
 unfolding casText

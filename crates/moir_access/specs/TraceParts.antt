@@ -2,23 +2,15 @@
 -- (docs/TRACE.md, "Moir's bench"). Each part has the space before it.
 use Prim.Native.Nat.{ℕ}
 use mathlib.Core.List.{List, _++_}
-use mathlib.Core.Bool.{Bool, true, false}
+use mathlib.Core.Bool.{Bool}
 use Rattle.listing.specs.Quoted.{quoted}
-use Rattle.listing.specs.Decimal.{decimal}
+use Rattle.trace_parts.specs.TraceParts.{spaced, bracketed, truthText}
 use Rattle.moir_access.specs.declared.Item.{Item}
 use Rattle.moir_access.specs.declared.Item.the-variants.{Hdr, Data, Announced}
 use Rattle.moir_access.specs.declared.Act.{Act}
 use Rattle.moir_access.specs.declared.Act.the-variants.{Read, Write, Cas}
 use Rattle.moir_access.specs.declared.Content.{Content}
 use Rattle.moir_access.specs.declared.Access.{Access}
-
--- a number, after a space
-unfoldable pub spaced : ℕ → List ℕ
-spaced n = quoted " " ++ decimal n
-
--- a number in brackets
-unfoldable pub bracketed : ℕ → List ℕ
-bracketed n = quoted "[" ++ (decimal n ++ quoted "]")
 
 -- `hdr`, `data[k]` or `A[q][k]`
 unfoldable pub itemText : Item → List ℕ
@@ -34,10 +26,6 @@ unfoldable pub valuesText : Item → Content → List ℕ
 valuesText Hdr v = pairText v
 valuesText (Data k) v = pairText v
 valuesText (Announced q k) v = spaced (v .first)
-
-unfoldable pub truthText : Bool → List ℕ
-truthText true = quoted " true"
-truthText false = quoted " false"
 
 -- "`CAS expected new true`" and "`CAS expected new false`"
 unfoldable pub casText : Item → Content → Content → Bool → List ℕ

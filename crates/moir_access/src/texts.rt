@@ -1,27 +1,9 @@
 // The parts of what is shown, each with the space before it.
 ghost use Rattle.listing.specs.Writing.{Room, Wrote};
-ghost use Rattle.moir_access.specs.TraceParts.{spaced, bracketed, itemText, pairText, valuesText, truthText, casText, actText};
+ghost use Rattle.moir_access.specs.TraceParts.{itemText, pairText, valuesText, casText, actText};
 use crate::Act;
 use crate::Content;
 use crate::Item;
-
-pub fn spaced(list: &mut [u8], at: usize, n: u64) -> usize
-    requires { ⌜ Room (now list) at (spaced n) ⌝ }
-    ensures { λ r. ⌜ Wrote (now (list .entry)) at (spaced n) (now (list .exit)) r ⌝ }
-{
-    let a = listing::put(list, at, b' ');
-    listing::number(list, a, n)
-}
-
-// A number in brackets.
-fn bracketed(list: &mut [u8], at: usize, n: u64) -> usize
-    requires { ⌜ Room (now list) at (bracketed n) ⌝ }
-    ensures { λ r. ⌜ Wrote (now (list .entry)) at (bracketed n) (now (list .exit)) r ⌝ }
-{
-    let a = listing::put(list, at, b'[');
-    let b = listing::number(list, a, n);
-    listing::put(list, b, b']')
-}
 
 pub fn item(list: &mut [u8], at: usize, item: Item) -> usize
     requires { ⌜ Room (now list) at (itemText item) ⌝ }
@@ -31,12 +13,12 @@ pub fn item(list: &mut [u8], at: usize, item: Item) -> usize
         Item::Hdr => listing::plain(list, at, b" hdr"),
         Item::Data(k) => {
             let a = listing::plain(list, at, b" data");
-            bracketed(list, a, k as u64)
+            trace_parts::bracketed(list, a, k as u64)
         }
         Item::Announced(q, k) => {
             let a = listing::plain(list, at, b" A");
-            let b = bracketed(list, a, q.0 as u64);
-            bracketed(list, b, k as u64)
+            let b = trace_parts::bracketed(list, a, q.0 as u64);
+            trace_parts::bracketed(list, b, k as u64)
         }
     }
 }
@@ -45,8 +27,8 @@ fn pair(list: &mut [u8], at: usize, v: Content) -> usize
     requires { ⌜ Room (now list) at (pairText v) ⌝ }
     ensures { λ r. ⌜ Wrote (now (list .entry)) at (pairText v) (now (list .exit)) r ⌝ }
 {
-    let a = spaced(list, at, v.first);
-    spaced(list, a, v.second)
+    let a = trace_parts::spaced(list, at, v.first);
+    trace_parts::spaced(list, a, v.second)
 }
 
 // The values that an item of this kind has.
@@ -57,18 +39,8 @@ fn values(list: &mut [u8], at: usize, item: Item, v: Content) -> usize
     match item {
         Item::Hdr => pair(list, at, v),
         Item::Data(_) => pair(list, at, v),
-        Item::Announced(_, _) => spaced(list, at, v.first),
+        Item::Announced(_, _) => trace_parts::spaced(list, at, v.first),
     }
-}
-
-fn truth(list: &mut [u8], at: usize, t: bool) -> usize
-    requires { ⌜ Room (now list) at (truthText t) ⌝ }
-    ensures { λ r. ⌜ Wrote (now (list .entry)) at (truthText t) (now (list .exit)) r ⌝ }
-{
-    if t {
-        return listing::plain(list, at, b" true");
-    }
-    listing::plain(list, at, b" false")
 }
 
 // A CAS: the values expected, the new ones, and whether it was done.
@@ -79,7 +51,7 @@ fn cas(list: &mut [u8], at: usize, item: Item, v: Content, u: Content, t: bool) 
     let a = listing::plain(list, at, b" CAS");
     let b = values(list, a, item, v);
     let c = values(list, b, item, u);
-    truth(list, c, t)
+    trace_parts::truth(list, c, t)
 }
 
 // The act, with the values that it names.

@@ -12,7 +12,7 @@ pub fn write_access(list: &mut [u8], at: usize, access: Access) -> usize
     let act = access.act;
     let values = access.values;
     let new = access.new;
-    let a = texts::spaced(list, at, access.line as u64);
+    let a = trace_parts::spaced(list, at, access.line as u64);
     let b = texts::item(list, a, item);
     texts::act(list, b, act, item, values, new)
 }
