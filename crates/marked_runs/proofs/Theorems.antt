@@ -31,7 +31,9 @@ use Rattle.answers.specs.Shape as G
 use Rattle.answers.proofs.PlaceLaws.{either}
 use Rattle.commuting.specs.OnTheBench.{Admitted}
 use Rattle.semantics.specs.Reached.{Reached}
-use Rattle.semantics.specs.TextRun.{Progress, stopped, mostEntries, roomNeeded, longestText, lineOf, processOf, orderOf, valueOf, traceLine, linesOf, counted, commanded, single, unanswered, steps, carry, carryAll, Ended, lastLine, ended, begun, started, carriedOut, runWith, traceText}
+use Rattle.semantics.specs.TextRun.{Progress, stopped, mostEntries, roomNeeded, longestText, lineOf, processOf, orderOf, valueOf, traceLine}
+use Rattle.semantics.specs.TextRun.{linesOf, counted, commanded, single, unanswered, steps, carry, carryAll, lastLine, ended, begun}
+use Rattle.semantics.specs.TextRun.{started, carriedOut, runWith}
 use Rattle.semantics.proofs.ReachedLaws.{reached-set-up, reached-command}
 use Rattle.semantics.proofs.AcceptedSteps.{unrefused}
 use Rattle.entry.proofs.WordLaws.{Below}
@@ -47,7 +49,8 @@ use Rattle.marking.specs.Marked.{markText, markedFrom, marked}
 use Rattle.marking.specs.Marks.{maySwap}
 use Rattle.marking.proofs.MarkedLaws.{marked-none}
 use Rattle.marking.proofs.TracedLines.{end-line-read, refused-line-read}
-use Rattle.marked_runs.specs.MarkedRun.{commandOf, lineAt, Before, first, after, Printed, begins, line, writtenBy, MarkedRun, OnlyLast, initialOf, readyFor, carriedFrom, MarkedOutput, refused, ran, EveryTextIsMarked}
+use Rattle.marked_runs.specs.MarkedRun.{commandOf, lineAt, Before, first, after, Printed, begins, line, writtenBy, MarkedRun}
+use Rattle.marked_runs.specs.MarkedRun.{OnlyLast, initialOf, readyFor, carriedFrom, MarkedOutput, refused, ran, EveryTextIsMarked}
 use Rattle.marked_runs.proofs.LineEnds.{IsLine, line-marked, end-is-line, refused-is-line}
 use Rattle.marked_runs.proofs.EntryLines.{lineSaid, EntryLine, entry-line, lineBefore, Left, Found, mark-of}
 
@@ -88,6 +91,10 @@ stop-shown k h l = record {
   stop = h;
 }
 
+-- bytes written behind what a listing has
+wrote-here : (l : List ℕ) (at : ℕ) (bs : List ℕ) → Wrote l at bs (sets l at bs) (at + length bs)
+wrote-here l at bs = record { place = refl; list = refl }
+
 -- an answer's line is short
 adds-length : {n w : ℕ} {bs : List ℕ} → Adds n w bs → length bs ≤ 713
 adds-length nothing = omega arith
@@ -107,7 +114,7 @@ module _ (trace out : List ℕ) (before : Before) (m : Memory) (e : Entry) (k : 
       let tail = markedFrom true (lineSaid m e) rest in
       ap marked (append-assoc trace l rest) ∙ h (l ++ rest)
       ∙ ap (λ (y : List ℕ). out ++ y) (line-marked (x .is-line) rest (lineBefore before) (lineSaid m e) (x .read-as rest))
-      ∙ (let z : out ++ (mark ++ (l ++ tail)) ≡ (out ++ (mark ++ l)) ++ tail = sym (append-assoc out (mark ++ l) tail ∙ ap (λ (y : List ℕ). out ++ y) (append-assoc mark l tail)) in z)
+      ∙ ap (λ (y : List ℕ). out ++ y) (sym (append-assoc mark l tail)) ∙ sym (append-assoc out (mark ++ l) tail)
 
 module _ {n w : ℕ} {m₀ : Memory} {s : Progress} (e : Entry) (small : Small e) (l : Shown n w m₀ s) where
   abbrev outcome : Reply × Memory
@@ -142,7 +149,7 @@ module _ {n w : ℕ} {m₀ : Memory} {s : Progress} (e : Entry) (small : Small e
         omega (arith, length-append t a, shown-line .short, adds-length (leaves .adds z))
 
     wrote : Wrote (s .listing) (s .written) new (sets (s .listing) (s .written) new) (s .written + length new)
-    wrote = record { place = refl; list = refl }
+    wrote = wrote-here (s .listing) (s .written) new
 
     counts : Shown n w m₀ (counted s (outcome .1) new)
     counts = record {
@@ -237,7 +244,7 @@ module _ {bs : List ℕ} (c : Closing bs) (b : Before) where
 ended-marked : {n w : ℕ} {m₀ : Memory} {s : Progress} → Shown n w m₀ s → MarkedRun m₀ s
 ended-marked {s = s} l =
     let last = closing (s .stop) (s .entries) (l .stop) (l .entries) in
-    let wrote : Wrote (s .listing) (s .written) (lastLine s) (sets (s .listing) (s .written) (lastLine s)) (s .written + length (lastLine s)) = record { place = refl; list = refl } in
+    let wrote = wrote-here (s .listing) (s .written) (lastLine s) in
     let r : Room (s .listing) (s .written) (lastLine s) = record { fits = omega (arith, last .short, l .room) } in
     let written : writtenBy (ended s) ≡ l .trace ++ lastLine s = grows r wrote ∙ ap (λ (x : List ℕ). x ++ lastLine s) (l .bytes) in
     record {
@@ -254,12 +261,13 @@ only-last : (m : Memory) (listing : List ℕ) (k : ℕ) → k ≤ 15 → 872 ≤
 only-last m listing k h room =
     let s = begun true m listing k in
     let last = closing k 0 h (omega arith) in
-    let wrote : Wrote listing 0 (lastLine s) (sets listing 0 (lastLine s)) (0 + length (lastLine s)) = record { place = refl; list = refl } in
+    let wrote = wrote-here listing 0 (lastLine s) in
     let r : Room listing 0 (lastLine s) = record { fits = omega (arith, last .short) } in
     record { number = k; is = refl; marks = ap marked (grows r wrote) ∙ last-marked last first }
 
 -- the first entry, after an accepted set-up
-module _ (m : Memory) (shaped : Shaped m) (listing : List ℕ) (room : 872 ≤ length listing) (a : Said) (small : AllSmall (a .entries)) (initial : a .initial ≤ largest) where
+module _ (m : Memory) (shaped : Shaped m) (listing : List ℕ) (room : 872 ≤ length listing) (a : Said)
+    (small : AllSmall (a .entries)) (initial : a .initial ≤ largest) where
   ready-is : setUp m (a .n) (a .w) (initialOf a) .0 ≡ 0 → readyFor m a ≡ atSetUp m (a .n) (a .w) (initialOf a)
   unfolding setUp
   ready-is e = simp (eq-eqb (setUpRefusal m (a .n) (a .w) (initialOf a)) 0 e)
