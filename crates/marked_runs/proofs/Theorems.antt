@@ -33,7 +33,7 @@ use Rattle.commuting.specs.OnTheBench.{Admitted}
 use Rattle.semantics.specs.Reached.{Reached}
 use Rattle.semantics.specs.TextRun.{Progress, stopped, mostEntries, roomNeeded, longestText, lineOf, processOf, orderOf, valueOf, traceLine}
 use Rattle.semantics.specs.TextRun.{linesOf, counted, commanded, single, unanswered, steps, carry, carryAll, lastLine, ended, begun}
-use Rattle.semantics.specs.TextRun.{started, carriedOut, runWith}
+use Rattle.semantics.specs.TextRun.{Ended, started, carriedOut, runWith}
 use Rattle.semantics.proofs.ReachedLaws.{reached-set-up, reached-command}
 use Rattle.semantics.proofs.AcceptedSteps.{unrefused}
 use Rattle.entry.proofs.WordLaws.{Below}
@@ -49,8 +49,8 @@ use Rattle.marking.specs.Marked.{markText, markedFrom, marked}
 use Rattle.marking.specs.Marks.{maySwap}
 use Rattle.marking.proofs.MarkedLaws.{marked-none}
 use Rattle.marking.proofs.TracedLines.{end-line-read, refused-line-read}
-use Rattle.marked_runs.specs.MarkedRun.{commandOf, lineAt, Before, first, after, Printed, begins, line, writtenBy, MarkedRun}
-use Rattle.marked_runs.specs.MarkedRun.{OnlyLast, initialOf, readyFor, carriedFrom, MarkedOutput, refused, ran, EveryTextIsMarked}
+use Rattle.marked_runs.specs.MarkedRun.{commandOf, lineAt, Mark, swap, stay, Before, first, after, Printed, begins, line, writtenBy, MarkedRun}
+use Rattle.marked_runs.specs.MarkedRun.{OnlyLast, initialOf, readyFor, carriedFrom, MarkedOutput, refused, ran, EveryTextIsMarked, MarkedFits}
 use Rattle.marked_runs.proofs.LineEnds.{IsLine, line-marked, end-is-line, refused-is-line}
 use Rattle.marked_runs.proofs.EntryLines.{lineSaid, EntryLine, entry-line, lineBefore, Left, Found, mark-of}
 
@@ -252,6 +252,7 @@ ended-marked {s = s} l =
       trace = l .trace;
       out = l .out;
       printed = l .printed;
+      few = l .entries;
       written = written;
       marks = ap marked written ∙ l .marks (lastLine s) ∙ ap (λ (x : List ℕ). l .out ++ x) (last-marked last (l .before));
     }
@@ -263,7 +264,7 @@ only-last m listing k h room =
     let last = closing k 0 h (omega arith) in
     let wrote = wrote-here listing 0 (lastLine s) in
     let r : Room listing 0 (lastLine s) = record { fits = omega (arith, last .short) } in
-    record { number = k; is = refl; marks = ap marked (grows r wrote) ∙ last-marked last first }
+    record { number = k; is = refl; written = grows r wrote; marks = ap marked (grows r wrote) ∙ last-marked last first }
 
 -- the first entry, after an accepted set-up
 module _ (m : Memory) (shaped : Shaped m) (listing : List ℕ) (room : 872 ≤ length listing) (a : Said)
@@ -324,3 +325,26 @@ every-text-is-marked m shaped text listing room =
         let initial = subst (λ (x : Said). x .initial ≤ largest) (t .saying) (initial-small (t .tree)) in
         started-marked m shaped listing room a small initial text e
     by (wrong k left) e = refused (only-last m listing k (why-small (wrong-has-fault text k left e .why)) room)
+
+-- two columns before each line
+mark-two : {P Q : Type 0} {b : List ℕ} → Mark P Q b → length b ≡ 2
+mark-two (swap p q) = refl
+mark-two (stay n) = refl
+
+printed-length : {m₀ : Memory} {k : ℕ} {m : Memory} {before : Before} {trace out : List ℕ}
+    → Printed m₀ k m before trace out → length out ≡ length trace + 2 * k
+printed-length begins = refl
+printed-length (line {k} {m} {trace = trace} {out = out} p e a {mark} x) =
+    let l = lineAt (k + 1) m e in
+    omega (arith, printed-length p, mark-two x, length-append out (mark ++ l), length-append mark l, length-append trace l)
+
+output-fits : {m : Memory} {text listing : List ℕ} {r : Ended} → MarkedOutput m text listing r
+    → length (marked (writtenBy r)) ≤ length (writtenBy r) + 120002
+output-fits (refused o) = omega (arith, ap length (o .marks), ap length (o .written))
+output-fits {m} {text} {listing} (ran a e y run) =
+    let z = lastLine (carriedFrom m listing a) in
+    let both = length-append (run .out) (quoted "  " ++ z) in let all = length-append (run .trace) z in
+    omega (arith, ap length (run .marks), ap length (run .written), both, all, printed-length (run .printed), run .few)
+
+pub marked-fits : MarkedFits
+marked-fits m shaped text listing room = output-fits (every-text-is-marked m shaped text listing room)

@@ -17,7 +17,7 @@ use Rattle.notation.specs.declared.Entry.{Entry}
 use Rattle.notation.specs.Grammar.{Said}
 use Rattle.notation.specs.FirstLine.{right, read}
 use Rattle.listing.specs.Quoted.{quoted}
-use Rattle.semantics.specs.TextRun.{Progress, lineOf, processOf, orderOf, valueOf, traceLine, carryAll, Ended, lastLine, begun, ended, traceText}
+use Rattle.semantics.specs.TextRun.{Progress, mostEntries, lineOf, processOf, orderOf, valueOf, traceLine, carryAll, Ended, lastLine, begun, ended, traceText}
 use Rattle.marking.specs.Marked.{marked}
 
 -- the command of an entry that finds the memory m; `!` is an entry for each of its steps
@@ -69,6 +69,7 @@ pub record MarkedRun (m₀ : Memory) (s : Progress) : Type 0 where
   pub trace : List ℕ
   pub out : List ℕ
   pub printed : Printed m₀ (s .entries) (s .memory) before trace out
+  pub few : s .entries ≤ mostEntries
   pub written : writtenBy (ended s) ≡ trace ++ lastLine s
   pub marks : marked (writtenBy (ended s)) ≡ out ++ (quoted "  " ++ lastLine s)
 
@@ -76,6 +77,7 @@ pub record MarkedRun (m₀ : Memory) (s : Progress) : Type 0 where
 pub record OnlyLast (m : Memory) (listing : List ℕ) (r : Ended) : Type 0 where
   pub number : ℕ
   pub is : r ≡ ended (begun true m listing number)
+  pub written : writtenBy r ≡ lastLine (begun true m listing number)
   pub marks : marked (writtenBy r) ≡ quoted "  " ++ lastLine (begun true m listing number)
 
 abbrev pub initialOf : Said → List ℕ
@@ -98,3 +100,9 @@ abbrev pub EveryTextIsMarked : Type 0
 EveryTextIsMarked =
     (m : Memory) → Shaped m → (text listing : List ℕ) → 872 ≤ length listing
     → MarkedOutput m text listing (traceText m text listing)
+
+-- It is at most 2 times 60,001 bytes longer than the trace: `swaps` lends as many more.
+abbrev pub MarkedFits : Type 0
+MarkedFits =
+    (m : Memory) → Shaped m → (text listing : List ℕ) → 872 ≤ length listing → let trace = writtenBy (traceText m text listing) in
+    length (marked trace) ≤ length trace + 120002
