@@ -28,7 +28,8 @@ use Rattle.listing.specs.Lines.{letterL, letterS, letterV}
 use Rattle.answers.specs.Shape.{largest}
 use Rattle.trace_parts.specs.TraceParts.{startLine}
 use Rattle.access.specs.TraceLines.{stepLine}
-use Rattle.access.proofs.Lengths.{SmallAccess, step-length, start-length}
+use Rattle.trace_parts.proofs.Lengths.{start-length}
+use Rattle.access.proofs.Lengths.{SmallAccess, step-length}
 use Rattle.access.proofs.SmallLaws.{row-9-parts, access-small}
 use Rattle.commuting.specs.OnTheBench.{Admitted, benchDoes, BenchSwapped}
 use Rattle.semantics.specs.Reached.{Reached}

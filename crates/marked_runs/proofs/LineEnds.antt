@@ -145,7 +145,9 @@ unfolding itemText feedless
 item-plain X = refl
 item-plain (Bank i) = joined (quoted " Bank") (bracketed (i .0)) refl (bracketed-plain (i .0))
 item-plain (Help i) = joined (quoted " Help") (bracketed (i .0)) refl (bracketed-plain (i .0))
-item-plain (Half f k) = joined (quoted " BUF") (bracketed (f .0) ++ halfPlaceText k) refl (joined (bracketed (f .0)) (halfPlaceText k) (bracketed-plain (f .0)) (half-place-plain k))
+item-plain (Half f k) =
+    joined (quoted " BUF") (bracketed (f .0) ++ halfPlaceText k) refl
+    (joined (bracketed (f .0)) (halfPlaceText k) (bracketed-plain (f .0)) (half-place-plain k))
 
 truth-plain : (t : Bool) → feedless (truthText t) ≡ true
 unfolding truthText feedless
@@ -174,7 +176,9 @@ values-plain (Half f k) v u = spaced-plain v
 act-plain : (a : Act) (i : Item) (v u : ℕ) → feedless (actText a i v u) ≡ true
 unfolding actText feedless
 act-plain Read i v u = joined (quoted " read") (valuesText i v u) refl (values-plain i v u)
-act-plain Write i v u = joined (quoted " write") (valuesText i v u ++ writtenText i) refl (joined (valuesText i v u) (writtenText i) (values-plain i v u) (written-plain i))
+act-plain Write i v u =
+    joined (quoted " write") (valuesText i v u ++ writtenText i) refl
+    (joined (valuesText i v u) (writtenText i) (values-plain i v u) (written-plain i))
 act-plain Ll i v u = joined (quoted " LL") (valuesText i v u ++ quoted " link set") refl (joined (valuesText i v u) (quoted " link set") (values-plain i v u) refl)
 act-plain (Sc t) i v u = joined (quoted " SC") (valuesText i v u ++ storedText t) refl (joined (valuesText i v u) (storedText t) (values-plain i v u) (stored-plain t))
 act-plain (Vl t) i v u = joined (quoted " VL") (truthText t) refl (truth-plain t)

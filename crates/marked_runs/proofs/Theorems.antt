@@ -34,7 +34,8 @@ use Rattle.commuting.specs.OnTheBench.{Admitted}
 use Rattle.text_runs.specs.TextRun as TR
 use Rattle.semantics.specs.Reached.{Reached}
 use Rattle.text_runs.specs.TextRun.{mostEntries, roomNeeded, longestText, processOf, orderOf, valueOf}
-use Rattle.semantics.specs.TextRun.{Progress, stopped, lineOf, traceLine, linesOf, counted, commanded, single, unanswered, steps, carry, carryAll, Ended, lastLine, ended, begun, started, carriedOut, runWith, traceText}
+use Rattle.semantics.specs.TextRun.{Progress, stopped, lineOf, traceLine, linesOf, counted, commanded, single, unanswered}
+use Rattle.semantics.specs.TextRun.{steps, carry, carryAll, lastLine, ended, begun, Ended, started, carriedOut, runWith}
 use Rattle.semantics.proofs.ReachedLaws.{reached-set-up, reached-command}
 use Rattle.semantics.proofs.AcceptedSteps.{unrefused}
 use Rattle.entry.proofs.WordLaws.{Below}
@@ -50,7 +51,8 @@ use Rattle.marking.specs.Marked.{markText, markedFrom, marked}
 use Rattle.marking.specs.Marks.{maySwap}
 use Rattle.marking.proofs.MarkedLaws.{marked-none}
 use Rattle.marking.proofs.TracedLines.{end-line-read, refused-line-read}
-use Rattle.marked_runs.specs.MarkedRun.{commandOf, lineAt, Before, first, after, Printed, begins, line, writtenBy, MarkedRun, OnlyLast, initialOf, readyFor, carriedFrom, MarkedOutput, refused, ran, EveryTextIsMarked}
+use Rattle.marked_runs.specs.MarkedRun.{commandOf, lineAt, Mark, swap, stay, Before, first, after, Printed, begins, line, writtenBy, MarkedRun}
+use Rattle.marked_runs.specs.MarkedRun.{OnlyLast, initialOf, readyFor, carriedFrom, MarkedOutput, refused, ran, EveryTextIsMarked, MarkedFits}
 use Rattle.marked_runs.proofs.LineEnds.{IsLine, line-marked, end-is-line, refused-is-line}
 use Rattle.marked_runs.proofs.EntryLines.{lineSaid, EntryLine, entry-line, lineBefore, Left, Found, mark-of}
 
@@ -91,6 +93,10 @@ stop-shown k h l = record {
   stop = h;
 }
 
+-- bytes written behind what a listing has
+wrote-here : (l : List ℕ) (at : ℕ) (bs : List ℕ) → Wrote l at bs (sets l at bs) (at + length bs)
+wrote-here l at bs = record { place = refl; list = refl }
+
 -- an answer's line is short
 adds-length : {n w : ℕ} {bs : List ℕ} → Adds n w bs → length bs ≤ 713
 adds-length nothing = omega arith
@@ -110,7 +116,7 @@ module _ (trace out : List ℕ) (before : Before) (m : Memory) (e : Entry) (k : 
       let tail = markedFrom true (lineSaid m e) rest in
       ap marked (append-assoc trace l rest) ∙ h (l ++ rest)
       ∙ ap (λ (y : List ℕ). out ++ y) (line-marked (x .is-line) rest (lineBefore before) (lineSaid m e) (x .read-as rest))
-      ∙ (let z : out ++ (mark ++ (l ++ tail)) ≡ (out ++ (mark ++ l)) ++ tail = sym (append-assoc out (mark ++ l) tail ∙ ap (λ (y : List ℕ). out ++ y) (append-assoc mark l tail)) in z)
+      ∙ ap (λ (y : List ℕ). out ++ y) (sym (append-assoc mark l tail)) ∙ sym (append-assoc out (mark ++ l) tail)
 
 module _ {n w : ℕ} {m₀ : Memory} {s : Progress} (e : Entry) (small : Small e) (l : Shown n w m₀ s) where
   abbrev outcome : Reply × Memory
@@ -145,7 +151,7 @@ module _ {n w : ℕ} {m₀ : Memory} {s : Progress} (e : Entry) (small : Small e
         omega (arith, length-append t a, shown-line .short, adds-length (leaves .adds z))
 
     wrote : Wrote (s .listing) (s .written) new (sets (s .listing) (s .written) new) (s .written + length new)
-    wrote = record { place = refl; list = refl }
+    wrote = wrote-here (s .listing) (s .written) new
 
     counts : Shown n w m₀ (counted s (outcome .1) new)
     counts = record {
@@ -240,7 +246,7 @@ module _ {bs : List ℕ} (c : Closing bs) (b : Before) where
 ended-marked : {n w : ℕ} {m₀ : Memory} {s : Progress} → Shown n w m₀ s → MarkedRun m₀ s
 ended-marked {s = s} l =
     let last = closing (s .stop) (s .entries) (l .stop) (l .entries) in
-    let wrote : Wrote (s .listing) (s .written) (lastLine s) (sets (s .listing) (s .written) (lastLine s)) (s .written + length (lastLine s)) = record { place = refl; list = refl } in
+    let wrote = wrote-here (s .listing) (s .written) (lastLine s) in
     let r : Room (s .listing) (s .written) (lastLine s) = record { fits = omega (arith, last .short, l .room) } in
     let written : writtenBy (ended s) ≡ l .trace ++ lastLine s = grows r wrote ∙ ap (λ (x : List ℕ). x ++ lastLine s) (l .bytes) in
     record {
@@ -248,6 +254,7 @@ ended-marked {s = s} l =
       trace = l .trace;
       out = l .out;
       printed = l .printed;
+      few = l .entries;
       written = written;
       marks = ap marked written ∙ l .marks (lastLine s) ∙ ap (λ (x : List ℕ). l .out ++ x) (last-marked last (l .before));
     }
@@ -257,12 +264,13 @@ only-last : (m : Memory) (listing : List ℕ) (k : ℕ) → k ≤ 15 → 872 ≤
 only-last m listing k h room =
     let s = begun true m listing k in
     let last = closing k 0 h (omega arith) in
-    let wrote : Wrote listing 0 (lastLine s) (sets listing 0 (lastLine s)) (0 + length (lastLine s)) = record { place = refl; list = refl } in
+    let wrote = wrote-here listing 0 (lastLine s) in
     let r : Room listing 0 (lastLine s) = record { fits = omega (arith, last .short) } in
-    record { number = k; is = refl; marks = ap marked (grows r wrote) ∙ last-marked last first }
+    record { number = k; is = refl; written = grows r wrote; marks = ap marked (grows r wrote) ∙ last-marked last first }
 
 -- the first entry, after an accepted set-up
-module _ (m : Memory) (shaped : Shaped m) (listing : List ℕ) (room : 872 ≤ length listing) (a : Said) (small : AllSmall (a .entries)) (initial : a .initial ≤ largest) where
+module _ (m : Memory) (shaped : Shaped m) (listing : List ℕ) (room : 872 ≤ length listing) (a : Said)
+    (small : AllSmall (a .entries)) (initial : a .initial ≤ largest) where
   ready-is : setUp m (a .n) (a .w) (initialOf a) .0 ≡ 0 → readyFor m a ≡ atSetUp m (a .n) (a .w) (initialOf a)
   unfolding setUp
   ready-is e = simp (eq-eqb (setUpRefusal m (a .n) (a .w) (initialOf a)) 0 e)
@@ -301,7 +309,7 @@ module _ (m : Memory) (shaped : Shaped m) (listing : List ℕ) (room : 872 ≤ l
   started-marked text e =
       let k = setUp m (a .n) (a .w) (initialOf a) .0 in
       either (MarkedOutput m text listing) (eqb k 0) _ _
-      (λ z. let y = eqb-true k 0 z in ran a e y (carried-marked y))
+      (λ z. let y = eqb-true k 0 z in ran a (read-is-right text a e) y (carried-marked y))
       (λ _. refused (only-last m listing k refusal-small room))
 
 -- of every text
@@ -319,3 +327,26 @@ every-text-is-marked m shaped text listing room =
         let initial = subst (λ (x : Said). x .initial ≤ largest) (t .saying) (initial-small (t .tree)) in
         started-marked m shaped listing room a small initial text e
     by (wrong k left) e = refused (only-last m listing k (why-small (wrong-has-fault text k left e .why)) room)
+
+-- two columns before each line
+mark-two : {P Q : Type 0} {b : List ℕ} → Mark P Q b → length b ≡ 2
+mark-two (swap p q) = refl
+mark-two (stay n) = refl
+
+printed-length : {m₀ : Memory} {k : ℕ} {m : Memory} {before : Before} {trace out : List ℕ}
+    → Printed m₀ k m before trace out → length out ≡ length trace + 2 * k
+printed-length begins = refl
+printed-length (line {k} {m} {trace = trace} {out = out} p e a {mark} x) =
+    let l = lineAt (k + 1) m e in
+    omega (arith, printed-length p, mark-two x, length-append out (mark ++ l), length-append mark l, length-append trace l)
+
+output-fits : {m : Memory} {text listing : List ℕ} {r : Ended} → MarkedOutput m text listing r
+    → length (marked (writtenBy r)) ≤ length (writtenBy r) + 120002
+output-fits (refused o) = omega (arith, ap length (o .marks), ap length (o .written))
+output-fits {m} {text} {listing} (ran a e y run) =
+    let z = lastLine (carriedFrom m listing a) in
+    let both = length-append (run .out) (quoted "  " ++ z) in let all = length-append (run .trace) z in
+    omega (arith, ap length (run .marks), ap length (run .written), both, all, printed-length (run .printed), run .few)
+
+pub marked-fits : MarkedFits
+marked-fits m shaped text listing room = output-fits (every-text-is-marked m shaped text listing room)

@@ -14,11 +14,10 @@ use Rattle.model.specs.History.{next}
 use Rattle.doings.specs.Doings.{Apart}
 use Rattle.commuting.specs.OnTheBench.{Admitted, benchDoes, BenchSwapped}
 use Rattle.notation.specs.declared.Entry.{Entry}
-use Rattle.notation.specs.Grammar.{Said}
-use Rattle.notation.specs.Readings.{right}
-use Rattle.notation.specs.FirstLine.{read}
+use Rattle.notation.specs.Grammar.{Said, deepest}
+use Rattle.notation.specs.Right.{Tells}
 use Rattle.listing.specs.Quoted.{quoted}
-use Rattle.text_runs.specs.TextRun.{processOf, orderOf, valueOf}
+use Rattle.text_runs.specs.TextRun.{mostEntries, processOf, orderOf, valueOf}
 use Rattle.semantics.specs.TextRun.{Progress, lineOf, traceLine, carryAll, Ended, lastLine, begun, ended, traceText}
 use Rattle.marking.specs.Marked.{marked}
 
@@ -71,6 +70,7 @@ pub record MarkedRun (m₀ : Memory) (s : Progress) : Type 0 where
   pub trace : List ℕ
   pub out : List ℕ
   pub printed : Printed m₀ (s .entries) (s .memory) before trace out
+  pub few : s .entries ≤ mostEntries
   pub written : writtenBy (ended s) ≡ trace ++ lastLine s
   pub marks : marked (writtenBy (ended s)) ≡ out ++ (quoted "  " ++ lastLine s)
 
@@ -78,6 +78,7 @@ pub record MarkedRun (m₀ : Memory) (s : Progress) : Type 0 where
 pub record OnlyLast (m : Memory) (listing : List ℕ) (r : Ended) : Type 0 where
   pub number : ℕ
   pub is : r ≡ ended (begun true m listing number)
+  pub written : writtenBy r ≡ lastLine (begun true m listing number)
   pub marks : marked (writtenBy r) ≡ quoted "  " ++ lastLine (begun true m listing number)
 
 abbrev pub initialOf : Said → List ℕ
@@ -92,7 +93,7 @@ carriedFrom m listing a = carryAll (a .entries) (begun true (readyFor m a) listi
 
 pub data MarkedOutput (m : Memory) (text listing : List ℕ) : Ended → Type 0 where
   refused : {r : Ended} → OnlyLast m listing r → MarkedOutput m text listing r
-  ran : (a : Said) → read text ≡ right a → setUp m (a .n) (a .w) (initialOf a) .0 ≡ 0 → MarkedRun (readyFor m a) (carriedFrom m listing a)
+  ran : (a : Said) → Tells deepest text a → setUp m (a .n) (a .w) (initialOf a) .0 ≡ 0 → MarkedRun (readyFor m a) (carriedFrom m listing a)
       → MarkedOutput m text listing (ended (carriedFrom m listing a))
 
 -- of every text, on every lent memory
@@ -100,3 +101,9 @@ abbrev pub EveryTextIsMarked : Type 0
 EveryTextIsMarked =
     (m : Memory) → Shaped m → (text listing : List ℕ) → 872 ≤ length listing
     → MarkedOutput m text listing (traceText m text listing)
+
+-- It is at most 2 times 60,001 bytes longer than the trace: `swaps` lends as many more.
+abbrev pub MarkedFits : Type 0
+MarkedFits =
+    (m : Memory) → Shaped m → (text listing : List ℕ) → 872 ≤ length listing → let trace = writtenBy (traceText m text listing) in
+    length (marked trace) ≤ length trace + 120002

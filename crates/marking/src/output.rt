@@ -67,7 +67,8 @@ pub fn mark_lines(text: &[u8], out: &mut [u8]) -> usize
     let mut next = 0;
     while at < text.len() {
         let line = reading::line(text, at);
-        let behind = put_mark(out, next, may_swap(before, line));
+        let mark = may_swap(before, line);
+        let behind = put_mark(out, next, mark);
         let copied = copy_line(text, at, out, behind);
         before = line;
         at = copied.at;

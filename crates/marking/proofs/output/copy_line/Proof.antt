@@ -16,7 +16,9 @@ abbrev μ-loop : tie.MeasureT-loop
 
 -- src/output.rt:48:5
 loop-holds : tie.Need-loop-holds Inv-loop μ-loop
-loop-holds c = let a = c .before .before .args in copies-first (a .text .now) (a .out .now) (a .from) (a .to) (c .before .before .pre .within)
+loop-holds c =
+    let c2 = c .before .before in
+    copies-first (c2 .args .text .now) (c2 .args .out .now) (c2 .args .from) (c2 .args .to) (c2 .pre .within)
 
 -- src/output.rt:49:20
 shared-slice-read-byte : tie.Need-shared-slice-read-byte Inv-loop μ-loop
@@ -28,19 +30,27 @@ put-requires c κs = tt
 
 -- src/output.rt:51:9
 add-at : tie.Need-add-at Inv-loop μ-loop
-add-at c = let k = c .before .before .before .before .before .loop-test .taken in omega (arith, k, c .before .before .before .before .before .before .before .before .before .pre .lent)
+add-at c =
+    let c5 = c .before .before .before .before .before in let c9 = c5 .before .before .before .before in
+    omega (arith, c5 .loop-test .taken, c9 .pre .lent)
 
 -- src/output.rt:52:9
 add-next : tie.Need-add-next Inv-loop μ-loop
-add-next c = let l = c .before .before .before .before .before .before .loop .inv in let q = c .before .before .before .before .before .before .before .before .before .pre in omega (arith, l .even, l .within, l .behind-from, q .lent, q .close)
+add-next c =
+    let c6 = c .before .before .before .before .before .before in let i = c6 .loop .inv in let q = c6 .before .before .before .pre in
+    omega (arith, i .even, i .within, i .behind-from, q .lent, q .close)
 
 -- src/output.rt:54:13
 same-length : tie.Need-same-length Inv-loop μ-loop
-same-length c = put-length (c .before .before .before .before .before .before .before .loop .inv) (c .before .before .before .before .before .before .loop-test .taken) (c .before .before .before .put .ensures)
+same-length c =
+    let c3 = c .before .before .before in let c6 = c3 .before .before .before in
+    put-length (c6 .before .loop .inv) (c6 .loop-test .taken) (c3 .put .ensures)
 
 -- src/output.rt:54:13
 returns : tie.Need-returns Inv-loop μ-loop
-returns c = copies-feed (c .before .before .before .before .before .before .before .loop .inv) (c .before .before .before .before .before .before .loop-test .taken) (c .before .before .before .put .ensures) (c .if1 .taken)
+returns c =
+    let c3 = c .before .before .before in let c6 = c3 .before .before .before in
+    copies-feed (c6 .before .loop .inv) (c6 .loop-test .taken) (c3 .put .ensures) (c .if1 .taken)
 
 -- src/output.rt:48:5
 loop-less : tie.Need-loop-less Inv-loop μ-loop
@@ -48,7 +58,9 @@ loop-less c = let k = c .before .before .before .before .before .before .loop-te
 
 -- src/output.rt:48:5
 loop-again : tie.Need-loop-again Inv-loop μ-loop
-loop-again c = copies-on (c .before .before .before .before .before .before .before .loop .inv) (c .before .before .before .before .before .before .loop-test .taken) (c .before .before .before .put .ensures) (c .if1 .left)
+loop-again c =
+    let c3 = c .before .before .before in let c6 = c3 .before .before .before in
+    copies-on (c6 .before .loop .inv) (c6 .loop-test .taken) (c3 .put .ensures) (c .if1 .left)
 
 -- src/output.rt:42:1
 same-length-2 : tie.Need-same-length-2 Inv-loop μ-loop

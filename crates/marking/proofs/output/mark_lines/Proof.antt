@@ -22,7 +22,9 @@ no-line-requires c κs = search needs
 
 -- src/output.rt:68:5
 loop-holds : tie.Need-loop-holds Inv-loop μ-loop
-loop-holds c = let a = c .before .before .before .args in subst (λ (x : Line). Marking (a .text .now) (a .out .now) (a .out .now) x 0 0) (sym (c .no-line .ensures)) (marking-first (a .text .now) (a .out .now))
+loop-holds c =
+    let a = c .before .before .before .args in let out = a .out .now in
+    subst (λ (x : Line). Marking (a .text .now) out out x 0 0) (sym (c .no-line .ensures)) (marking-first (a .text .now) out)
 
 -- src/output.rt:69:13
 line-requires : tie.Need-line-requires Inv-loop μ-loop
@@ -34,23 +36,31 @@ may-swap-requires c κs = search needs
 
 -- src/output.rt:70:13
 put-mark-requires : tie.Need-put-mark-requires Inv-loop μ-loop
-put-mark-requires c κs = let m = c .before .before .before .before .loop .inv in omega (arith, m .close, m .within, c .before .before .before .before .before .before .before .before .pre)
+put-mark-requires c κs =
+    let c4 = c .before .before .before .before in let m = c4 .loop .inv in
+    omega (arith, m .close, m .within, c4 .before .before .before .before .pre)
 
 -- src/output.rt:71:13
 copy-line-requires : tie.Need-copy-line-requires Inv-loop μ-loop
 copy-line-requires c κs =
-    let l = c .before .before .before .before .before .before .line in let t = c .before .before .before .before .may-swap in
-    line-near (c .before .before .before .before .before .before .before .before .loop .inv) (c .before .before .before .before .before .before .before .loop-test .taken) (l .result) (l .ensures) (t .result) (t .ensures) (c .before .before .before .put-mark .ensures) (c .before .before .before .before .before .before .before .before .before .before .before .before .pre)
+    let c3 = c .before .before .before in let c7 = c3 .before .before .before .before in let l = c7 .before in let t = c3 .before .before .may-swap in
+    let read = c3 .before .before .before .line in
+    line-near (l .loop .inv) (c7 .loop-test .taken) (read .result) (read .ensures) (t .result) (t .ensures)
+    (c3 .put-mark .ensures) (l .before .before .before .before .pre)
 
 -- src/output.rt:68:5
 loop-less : tie.Need-loop-less Inv-loop μ-loop
-loop-less c = let k = c .before .before .before .before .before .before .before .before .before .before .loop-test .taken in omega (arith, k, c .before .before .copy-line .ensures .further k, c .before .before .copy-line .ensures .within)
+loop-less c =
+    let k = c .before .before .before .before .before .before .before .before .before .before .loop-test .taken in let e = c .before .before .copy-line .ensures in
+    omega (arith, k, e .further k, e .within)
 
 -- src/output.rt:68:5
 loop-again : tie.Need-loop-again Inv-loop μ-loop
 loop-again c =
-    let l = c .before .before .before .before .before .before .before .before .before .line in let t = c .before .before .before .before .before .before .before .may-swap in
-    marking-on (c .before .before .before .before .before .before .before .before .before .before .before .loop .inv) (c .before .before .before .before .before .before .before .before .before .before .loop-test .taken) (l .result) (l .ensures) (t .result) (t .ensures) (c .before .before .before .before .before .before .put-mark .ensures) (c .before .before .copy-line .ensures)
+    let c6 = c .before .before .before .before .before .before in let c10 = c6 .before .before .before .before in let l = c10 .before in let t = c6 .before .before .may-swap in
+    let read = c6 .before .before .before .line in
+    marking-on (l .loop .inv) (c10 .loop-test .taken) (read .result) (read .ensures) (t .result) (t .ensures)
+    (c6 .put-mark .ensures) (c .before .before .copy-line .ensures)
 
 -- src/output.rt:61:1
 same-length : tie.Need-same-length Inv-loop μ-loop

@@ -27,7 +27,9 @@ same-length c = search needs
 
 -- src/output.rt:34:9
 returns : tie.Need-returns
-returns c = mark-put (c .before .before .before .before .before .before .before .before .before .before .args .at) (c .before .before .before .before .before .before .before .before .before .before .args .marked) (c .before .before .before .before .before .before .before .before .if1 .taken) (c .before .before .before .before .before .before .put .ensures) (c .before .before .put2 .ensures)
+returns c =
+    let c6 = c .before .before .before .before .before .before in let c8 = c6 .before .before in let a = c8 .before .before .args in
+    mark-put (a .at) (a .marked) (c8 .if1 .taken) (c6 .put .ensures) (c .before .before .put2 .ensures)
 
 -- src/output.rt:36:5
 put-requires-3 : tie.Need-put-requires-3
@@ -51,7 +53,9 @@ same-length-2 c = search needs
 
 -- src/output.rt:27:1
 returns-2 : tie.Need-returns-2
-returns-2 c = blank-put (c .before .before .before .before .before .before .before .before .before .before .args .at) (c .before .before .before .before .before .before .before .before .before .before .args .marked) (c .before .before .before .before .before .before .before .before .if1 .left) (c .before .before .before .before .before .before .put3 .ensures) (c .before .before .put4 .ensures)
+returns-2 c =
+    let c6 = c .before .before .before .before .before .before in let c8 = c6 .before .before in let a = c8 .before .before .args in
+    blank-put (a .at) (a .marked) (c8 .if1 .left) (c6 .put3 .ensures) (c .before .before .put4 .ensures)
 
 pub put-mark-spec : {M : Type 1} → statement M
 put-mark-spec =
