@@ -1,14 +1,16 @@
 // Numbers among the arguments.
+ghost use mathlib.Core.Path.{_≡_};
 ghost use Prim.Native.Nat.{_≤_};
+ghost use Rattle.fractions.specs.Arguments.{numberTold};
 
 // The largest number that is taken; any other argument is worth more.
-pub const LARGEST: u64 = 4294967295;
+pub(crate) const LARGEST: u64 = 4294967295;
 
 // What an argument is worth that is no such number.
 const NONE: u64 = 4294967296;
 
-// Argument i as a number.
-pub fn number_argument(i: usize) -> u64 {
+// Argument i as a number: what its digits are worth, where the operating system has it.
+pub(crate) fn number_argument(i: usize) -> u64 {
     let mut text = [0u8; 20];
     let got = os::arg(i, &mut text);
     if os::errno() != 0 {
@@ -23,6 +25,7 @@ pub fn number_argument(i: usize) -> u64 {
 // The number that the digits make.
 fn digits(text: &[u8]) -> u64
     ensures { λ r. ⌜ r ≤ 4294967296 ⌝ }
+    ensures { λ r. ⌜ r ≡ numberTold (now (text .entry)) ⌝ }
 {
     let mut value: u64 = 0;
     let mut i = 0;

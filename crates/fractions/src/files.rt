@@ -1,8 +1,10 @@
-// A file of the season.
+// A file of the season. Which bytes it has is for the operating system to say; what they make of the sums is proved.
+ghost use mathlib.Core.Path.{_≡_};
+ghost use Rattle.sums.specs.Season.{added};
 use crate::notices;
 
 // The file that argument i names, added to the sums; where it can't be read the sums stay.
-pub fn add_file(sums: sums::Sums, i: usize) -> sums::Sums {
+pub(crate) fn add_file(sums: sums::Sums, i: usize) -> sums::Sums {
     let mut name = io::buffer();
     let length = os::arg(i, &mut name);
     if os::errno() != 0 {
@@ -28,9 +30,17 @@ fn add_open(sums: sums::Sums, file: i32, name: &[u8]) -> sums::Sums {
         os::fail(name);
         return sums;
     }
-    let out = sums::add_listing(sums, &text[..got]);
+    add_text(sums, name, &text[..got])
+}
+
+// A listing's bytes added; where they are refused, that is told and the sums stay.
+fn add_text(sums: sums::Sums, name: &[u8], text: &[u8]) -> sums::Sums
+    ensures { λ r. ⌜ r ≡ added sums (now (text .entry)) .sums ⌝ }
+{
+    let out = sums::add_listing(sums, text);
+    let after = out.sums;
     if out.number != 0 {
-        notices::file_refused(name, out.number, &text[..got], out.at);
+        notices::file_refused(name, out.number, text, out.at);
     }
-    out.sums
+    after
 }

@@ -1,7 +1,9 @@
 // The line of a log, written a call to a line, that has another number of numbers: what is at fault where one is lost.
+ghost use mathlib.Core.Path.{_≡_};
 ghost use Prim.Native.Nat.{_≤_};
+ghost use Rattle.judge.specs.LogLines.{moreBy, togetherOf, beginsAt, isOddLine, unlessOf, endedLine, linesIn};
+ghost use Rattle.judge.specs.LogLines.{onByte};
 use crate::calls;
-use crate::say;
 
 // The line at which the reader is, from 1 on; the numbers before it and in it; whether the last byte is a digit. Lines of
 // so many numbers as a call has, and the first other one after the value: its line, 0 for none, its numbers, and how many
@@ -17,7 +19,7 @@ struct Lines {
     from: usize,
 }
 
-pub fn remark(numbers: &[u64], text: &[u8]) {
+pub(crate) fn remark(numbers: &[u64], text: &[u8]) {
     let w = calls::width(numbers);
     if w == 0 {
         return;
@@ -29,24 +31,25 @@ pub fn remark(numbers: &[u64], text: &[u8]) {
     if seen.calls == 0 {
         return;
     }
-    say::say(b"line ");
-    say::number(seen.odd as u64);
-    say::say(b" has ");
-    say::number(seen.numbers as u64);
-    say::say(b" numbers");
+    saying::say(b"line ");
+    saying::number(seen.odd as u64);
+    saying::say(b" has ");
+    saying::number(seen.numbers as u64);
+    saying::say(b" numbers");
     if seen.from < 2 + w {
-        say::say(b", of the value and of a call: one of N, W and the value may be lost\n");
+        saying::say(b", of the value and of a call: one of N, W and the value may be lost\n");
         return;
     }
-    say::say(b"; a call of W = ");
-    say::number(w as u64);
-    say::say(b" has ");
-    say::number((6 + w) as u64);
-    say::say(b"\n");
+    saying::say(b"; a call of W = ");
+    saying::number(w as u64);
+    saying::say(b" has ");
+    saying::number((6 + w) as u64);
+    saying::say(b"\n");
 }
 
 fn looked(text: &[u8], w: usize) -> Lines
     requires { ⌜ w ≤ 64 ⌝ }
+    ensures { λ r. ⌜ r ≡ linesIn (now (text .entry)) w ⌝ }
 {
     let mut s = Lines {
         line: 1,
@@ -66,7 +69,9 @@ fn looked(text: &[u8], w: usize) -> Lines
     ended(s, w)
 }
 
-fn more(n: usize, one: bool) -> usize {
+fn more(n: usize, one: bool) -> usize
+    ensures { λ r. ⌜ r ≡ moreBy n one ⌝ }
+{
     if one {
         if n < 18446744073709551615 {
             return n + 1;
@@ -77,6 +82,7 @@ fn more(n: usize, one: bool) -> usize {
 
 fn on_byte(s: Lines, b: u8, w: usize) -> Lines
     requires { ⌜ w ≤ 64 ⌝ }
+    ensures { λ r. ⌜ r ≡ onByte s b w ⌝ }
 {
     if b == b'\n' {
         return ended(s, w);
@@ -95,7 +101,9 @@ fn on_byte(s: Lines, b: u8, w: usize) -> Lines
     }
 }
 
-fn begins(digit: bool, inside: bool) -> bool {
+fn begins(digit: bool, inside: bool) -> bool
+    ensures { λ r. ⌜ r ≡ beginsAt digit inside ⌝ }
+{
     if inside {
         return false;
     }
@@ -105,6 +113,7 @@ fn begins(digit: bool, inside: bool) -> bool {
 // The line ends here.
 fn ended(s: Lines, w: usize) -> Lines
     requires { ⌜ w ≤ 64 ⌝ }
+    ensures { λ r. ⌜ r ≡ endedLine s w ⌝ }
 {
     let call = s.here == 6 + w;
     let odd = is_odd(s, w);
@@ -120,7 +129,9 @@ fn ended(s: Lines, w: usize) -> Lines
     }
 }
 
-fn together(a: usize, b: usize) -> usize {
+fn together(a: usize, b: usize) -> usize
+    ensures { λ r. ⌜ r ≡ togetherOf a b ⌝ }
+{
     if a < 9223372036854775807 {
         if b < 9223372036854775807 {
             return a + b;
@@ -129,7 +140,9 @@ fn together(a: usize, b: usize) -> usize {
     a
 }
 
-fn unless(new: bool, old: usize, value: usize) -> usize {
+fn unless(new: bool, old: usize, value: usize) -> usize
+    ensures { λ r. ⌜ r ≡ unlessOf new old value ⌝ }
+{
     if new {
         return value;
     }
@@ -139,6 +152,7 @@ fn unless(new: bool, old: usize, value: usize) -> usize {
 // Whether the line is the first that has numbers, but not those of a call, nor of N, W and the value alone.
 fn is_odd(s: Lines, w: usize) -> bool
     requires { ⌜ w ≤ 64 ⌝ }
+    ensures { λ r. ⌜ r ≡ isOddLine s w ⌝ }
 {
     if s.odd != 0 {
         return false;

@@ -5,12 +5,11 @@ mod calls;
 mod faults;
 mod log_lines;
 mod refusals;
-mod say;
 mod why;
 
 ghost use mathlib.Core.Path.{_≡_};
 ghost use Prim.Native.Nat.{_≤_};
-ghost use lib.ListN.{length};
+ghost use lib.ListN.{length, replicate};
 use logtext::Reading;
 use verdicts::Judgement;
 use verdicts::Verdict;
@@ -40,6 +39,7 @@ fn told(reading: Reading, numbers: &[u64], text: &[u8]) {
 // Room for 512 calls of 64 words and their spaces, twice and more.
 fn text_room() -> [u8; 2097152]
     ensures { λ r. ⌜ 2097152 ≡ length r ⌝ }
+    ensures { λ r. ⌜ r ≡ replicate 2097152 0 ⌝ }
 {
     [0; 2097152]
 }
@@ -47,6 +47,7 @@ fn text_room() -> [u8; 2097152]
 // Room for 936 calls of 64 words.
 fn number_room() -> [u64; 65536]
     ensures { λ r. ⌜ 65536 ≡ length r ⌝ }
+    ensures { λ r. ⌜ r ≡ replicate 65536 0 ⌝ }
 {
     [0; 65536]
 }
@@ -85,6 +86,6 @@ fn print(judgement: Judgement) {
 
 fn out(bytes: &[u8]) {
     if !io::write_all(1, bytes) {
-        say::say(b"standard output could not be written\n");
+        saying::say(b"standard output could not be written\n");
     }
 }

@@ -1,8 +1,10 @@
 -- The refusal table (01, "When the bench says no") as every bench has it: its rows over numbers and truths, and their
--- order. What a bench says of its own is how many words it needs (row 3) and which numbers are in range (row 9).
+-- order, which is said here alone. What a bench says of its own is how many words it needs (row 3), which numbers are in
+-- range (row 9), and the rows that it adds directly after 2 and directly after 4: 23 and 24 of a station of several
+-- records (`station/specs/StationRefusals`), none for a bench of one record.
 use mathlib.Core.Path.{_≡_}
 use Prim.Native.Nat.{ℕ}
-use mathlib.Core.List.{List, [], _∷_}
+use mathlib.Core.List.{List, [], _∷_, _++_}
 use mathlib.Core.Bool.{Bool, true, false, not, _&&_, _||_, cond}
 use lib.Dec.{eqb, ltb, leb}
 use Rattle.llsc.specs.declared.Order.{Order}
@@ -87,24 +89,40 @@ row8 o w value = record { number = 8; holds = bringsValue o && not (eqb value w)
 abbrev pub row8always : ℕ → ℕ → Row
 row8always w value = record { number = 8; holds = not (eqb value w) }
 
--- Rows 1, 2, 3, with which a command's rows and a set-up's begin, for so many words needed, records lent and words lent;
--- `rest` is what follows them
-abbrev pub lentRows : ℕ → ℕ → ℕ → ℕ → ℕ → List Row → List Row
-lentRows n w needed records words rest = row1 n ∷ row2 w ∷ row3 n needed records words ∷ rest
+-- Rows 1, 2, those that a bench adds there (CR 10: "23 .. after 2"), and 3, with which a command's rows and a set-up's
+-- begin, for so many words needed, records lent and words lent; `rest` is what follows them
+abbrev pub lentRowsWith : List Row → ℕ → ℕ → ℕ → ℕ → ℕ → List Row → List Row
+lentRowsWith after2 n w needed records words rest = row1 n ∷ row2 w ∷ after2 ++ (row3 n needed records words ∷ rest)
 
--- The rows of a command, 1, 2, 3, 9, 4, then 8 (operators mend the words first), then 5, 6, 7: the order is said here
--- alone. First those that speak of its process p and of its order with a value of so many words;
-abbrev pub processRows : ℕ → ℕ → ℕ → Order → ℕ → Bool → Bool → List Row
-processRows n w p o value idle answered = row4 n p ∷ row8 o w value ∷ row5 o idle ∷ row6 o idle ∷ row7 o answered ∷ []
+-- The rows of a command, 1, 2, 3, 9, 4, those that a bench adds there (CR 10: "24 .. directly after 4 and before 8"), then
+-- 8 (CR 7: "row 8 moves to directly after row 4"), then 5, 6, 7. First those that speak of its process p and of its order
+-- with a value of so many words;
+abbrev pub processRowsWith : List Row → ℕ → ℕ → ℕ → Order → ℕ → Bool → Bool → List Row
+processRowsWith after4 n w p o value idle answered =
+    row4 n p ∷ after4 ++ (row8 o w value ∷ row5 o idle ∷ row6 o idle ∷ row7 o answered ∷ [])
 
 -- then all, with the truth of row 9's ranges
-abbrev pub commandRows : ℕ → ℕ → ℕ → ℕ → ℕ → Bool → ℕ → Order → ℕ → Bool → Bool → List Row
-commandRows n w needed records words ranges p o value idle answered =
-    lentRows n w needed records words (row9 ranges ∷ processRows n w p o value idle answered)
+abbrev pub commandRowsWith : List Row → List Row → ℕ → ℕ → ℕ → ℕ → ℕ → Bool → ℕ → Order → ℕ → Bool → Bool → List Row
+commandRowsWith after2 after4 n w needed records words ranges p o value idle answered =
+    lentRowsWith after2 n w needed records words (row9 ranges ∷ processRowsWith after4 n w p o value idle answered)
 
 -- "Set-up reads no old records and takes 1, 2, 3, 8."
+abbrev pub setUpRowsWith : List Row → ℕ → ℕ → ℕ → ℕ → ℕ → ℕ → List Row
+setUpRowsWith after2 n w needed records words value =
+    lentRowsWith after2 n w needed records words (row8always w value ∷ [])
+
+-- a bench of one record adds none
+abbrev pub lentRows : ℕ → ℕ → ℕ → ℕ → ℕ → List Row → List Row
+lentRows = lentRowsWith []
+
+abbrev pub processRows : ℕ → ℕ → ℕ → Order → ℕ → Bool → Bool → List Row
+processRows = processRowsWith []
+
+abbrev pub commandRows : ℕ → ℕ → ℕ → ℕ → ℕ → Bool → ℕ → Order → ℕ → Bool → Bool → List Row
+commandRows = commandRowsWith [] []
+
 abbrev pub setUpRows : ℕ → ℕ → ℕ → ℕ → ℕ → ℕ → List Row
-setUpRows n w needed records words value = lentRows n w needed records words (row8always w value ∷ [])
+setUpRows = setUpRowsWith []
 
 -- none of the rows that speak of the lent memory
 pub record NotLentMemory (row : ℕ) : Type 0 where

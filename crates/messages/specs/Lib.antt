@@ -1,1 +1,2 @@
 pub mod OpenCalls
+pub mod Shown

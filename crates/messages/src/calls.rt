@@ -3,7 +3,6 @@
 ghost use mathlib.Core.Path.{_≡_};
 ghost use Prim.Native.Nat.{_<_};
 ghost use Rattle.messages.specs.OpenCalls.{placeOf};
-use crate::say;
 
 pub const IDLE: u8 = 0;
 
@@ -50,44 +49,44 @@ pub fn open_line(p: usize, method: Method, call: Call) {
     if call.kind == IDLE {
         return;
     }
-    say::say(b"open: process ");
-    say::number(p);
-    say::say(b", ");
+    saying::say(b"open: process ");
+    saying::number(p as u64);
+    saying::say(b", ");
     told(method, call);
-    say::say(b"\n");
+    saying::say(b"\n");
 }
 
 // Whether the process that a command named is idle, or its call.
-pub fn busy_or_idle(method: Method, call: Call) {
+pub(crate) fn busy_or_idle(method: Method, call: Call) {
     if call.kind == IDLE {
-        say::say(b" is idle");
+        saying::say(b" is idle");
         return;
     }
-    say::say(b" is busy: ");
+    saying::say(b" is busy: ");
     told(method, call);
 }
 
 fn told(method: Method, call: Call) {
     kind(call.kind);
-    say::say(b", line ");
-    say::number(call.line as usize);
-    say::say(b" of Figure ");
-    say::number(method.figure as usize);
+    saying::say(b", line ");
+    saying::number(call.line as u64);
+    saying::say(b" of Figure ");
+    saying::number(method.figure as u64);
     word(method.w, call.moves, call.place);
-    say::say(b" next, ");
-    say::number(call.count);
+    saying::say(b" next, ");
+    saying::number(call.count as u64);
     if call.count == 1 {
-        say::say(b" own step so far");
+        saying::say(b" own step so far");
         return;
     }
-    say::say(b" own steps so far");
+    saying::say(b" own steps so far");
 }
 
 fn kind(kind: u8) {
     match kind {
-        LL => say::say(b"LL"),
-        VL => say::say(b"VL"),
-        _ => say::say(b"SC"),
+        LL => saying::say(b"LL"),
+        VL => saying::say(b"VL"),
+        _ => saying::say(b"SC"),
     }
 }
 
@@ -104,16 +103,16 @@ fn word(w: u64, moves: u8, place: usize) {
 }
 
 fn word_of(k: usize, w: u64) {
-    say::say(b", word ");
-    say::number(k);
-    say::say(b" of ");
-    say::number(w as usize);
+    saying::say(b", word ");
+    saying::number(k as u64);
+    saying::say(b" of ");
+    saying::number(w);
 }
 
 fn half(half: usize) {
     if half == 0 {
-        say::say(b", low half");
+        saying::say(b", low half");
         return;
     }
-    say::say(b", high half");
+    saying::say(b", high half");
 }

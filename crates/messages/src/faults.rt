@@ -1,6 +1,6 @@
 // A fault of a text, 10 or 11: where it is, what was expected there, and what stands there.
-use crate::say;
-use crate::shown;
+ghost use mathlib.Core.Path.{_≡_};
+ghost use Rattle.messages.specs.Shown.{isOrderMark};
 use positions::Seen;
 
 // The bytes with which some editors begin a text.
@@ -11,43 +11,45 @@ const MARK_1: u8 = 187;
 const MARK_2: u8 = 191;
 
 // The text is split at the fault's place.
-pub fn fault(number: u8, before: &[u8], rest: &[u8]) {
+pub(crate) fn fault(number: u8, before: &[u8], rest: &[u8]) {
     let s = positions::look(before);
-    say::say(b"line ");
-    say::next(s.feeds);
-    say::say(b", column ");
-    say::next(s.since);
-    say::say(b": ");
+    saying::say(b"line ");
+    saying::next(s.feeds);
+    saying::say(b", column ");
+    saying::next(s.since);
+    saying::say(b": ");
     if number == 11 {
-        say::say(b"groups nest at most eight deep, and this ( would open a ninth");
+        saying::say(b"groups nest at most eight deep, and this ( would open a ninth");
         return;
     }
     if rest.len() == 0 {
         expected(s, true, 0);
-        say::say(b"; here the text ends");
+        saying::say(b"; here the text ends");
         unclosed(before);
         return;
     }
     if is_order_mark(rest) {
-        say::say(b"the text begins with a byte order mark; save it as plain text, without one");
+        saying::say(b"the text begins with a byte order mark; save it as plain text, without one");
         return;
     }
     let here = rest[0];
     expected(s, false, here);
-    say::say(b"; here is ");
-    say::byte(here);
+    saying::say(b"; here is ");
+    saying::byte(here);
 }
 
 // Where the group begins that is open at the text's end.
 fn unclosed(text: &[u8]) {
-    let at = shown::within(positions::unclosed(text), text);
+    let at = saying::within(positions::unclosed(text), text);
     if at < text.len() {
-        say::say(b"; its ( is at ");
-        say::place(positions::look(&text[..at]));
+        saying::say(b"; its ( is at ");
+        saying::place(positions::look(&text[..at]));
     }
 }
 
-fn is_order_mark(rest: &[u8]) -> bool {
+fn is_order_mark(rest: &[u8]) -> bool
+    ensures { λ r. ⌜ r ≡ isOrderMark (now (rest .entry)) ⌝ }
+{
     if rest.len() < 3 {
         return false;
     }
@@ -78,27 +80,27 @@ fn expected(s: Seen, ended: bool, here: u8) {
 fn stray_digit(s: Seen) {
     if s.last == b'0' {
         if !positions::is_digit(s.earlier) {
-            say::say(b"a number has no leading zero");
+            saying::say(b"a number has no leading zero");
             return;
         }
     }
-    say::say(b"a number is at most 4,294,967,295");
+    saying::say(b"a number is at most 4,294,967,295");
 }
 
 // The first line is N, W and the initial number.
 fn in_first_line(spaces: usize, in_number: bool) {
     if in_number {
         match spaces {
-            0 => say::say(b"after N comes one space"),
-            1 => say::say(b"after W comes one space"),
-            _ => say::say(b"after the initial number comes a line feed"),
+            0 => saying::say(b"after N comes one space"),
+            1 => saying::say(b"after W comes one space"),
+            _ => saying::say(b"after the initial number comes a line feed"),
         }
         return;
     }
     match spaces {
-        0 => say::say(b"the text begins with N, a number"),
-        1 => say::say(b"after N and one space comes W, a number"),
-        _ => say::say(b"after W and one space comes the initial number"),
+        0 => saying::say(b"the text begins with N, a number"),
+        1 => saying::say(b"after N and one space comes W, a number"),
+        _ => saying::say(b"after W and one space comes the initial number"),
     }
 }
 
@@ -107,7 +109,7 @@ fn in_items(s: Seen, ended: bool, here: u8) {
     let last = s.last;
     match last {
         b'0'..=b'9' => after_digit(s.mark, ended, here),
-        b's' => say::say(b"after s comes a number"),
+        b's' => saying::say(b"after s comes a number"),
         b'\n' | b' ' | b'(' => before_item(s.solid, ended, here),
         _ => after_item(ended, here),
     }
@@ -120,40 +122,40 @@ fn after_digit(mark: u8, ended: bool, here: u8) {
         return;
     }
     if here == b'(' {
-        say::say(b"the count of a group is 1 to 255");
+        saying::say(b"the count of a group is 1 to 255");
         return;
     }
-    say::say(b"after a process number comes one of l v . ! s, or ( after a count");
+    saying::say(b"after a process number comes one of l v . ! s, or ( after a count");
 }
 
 fn before_item(solid: u8, ended: bool, here: u8) {
     if ended {
-        say::say(b"an open group ends with )");
+        saying::say(b"an open group ends with )");
         return;
     }
     if here == b')' {
         close(solid);
         return;
     }
-    say::say(b"an item begins with a process number, or with the count of a group");
+    saying::say(b"an item begins with a process number, or with the count of a group");
 }
 
 fn close(solid: u8) {
     if solid == b'(' {
-        say::say(b"a group has at least one item");
+        saying::say(b"a group has at least one item");
         return;
     }
-    say::say(b"no group is open");
+    saying::say(b"no group is open");
 }
 
 fn after_item(ended: bool, here: u8) {
     if ended {
-        say::say(b"an open group ends with )");
+        saying::say(b"an open group ends with )");
         return;
     }
     if here == b')' {
-        say::say(b"no group is open");
+        saying::say(b"no group is open");
         return;
     }
-    say::say(b"after an item comes a space, a line feed or the ) of its group");
+    saying::say(b"after an item comes a space, a line feed or the ) of its group");
 }

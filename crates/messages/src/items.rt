@@ -2,12 +2,11 @@
 use crate::calls;
 use crate::calls::Call;
 use crate::calls::Method;
-use crate::say;
 use crate::shown;
 use positions::StopReport;
 
 // The text is split where the item begins.
-pub fn refused(
+pub(crate) fn refused(
     figure: u8,
     number: u8,
     entries: usize,
@@ -17,26 +16,26 @@ pub fn refused(
     rest: &[u8],
 ) {
     let s = positions::look(before);
-    let end = shown::within(shown::item(rest), rest);
-    say::say(b"entry ");
-    say::next(entries);
-    say::say(b", item ");
-    say::say(&rest[..end]);
-    say::say(b" at ");
-    say::place(s);
-    say::say(b": ");
+    let end = saying::within(shown::item(rest), rest);
+    saying::say(b"entry ");
+    saying::next(entries);
+    saying::say(b", item ");
+    saying::say(&rest[..end]);
+    saying::say(b" at ");
+    saying::place(s);
+    saying::say(b": ");
     limit(number);
     state(figure, report, call);
     if number == 7 {
-        say::say(b", and no LL of it was ever answered");
+        saying::say(b", and no LL of it was ever answered");
     }
 }
 
 // The refusals that are no fault of the process named.
 fn limit(number: u8) {
     match number {
-        12 => say::say(b"60,000 entries are done, which is the most; "),
-        14 => say::say(b"there is no room for another line; "),
+        12 => saying::say(b"60,000 entries are done, which is the most; "),
+        14 => saying::say(b"there is no room for another line; "),
         _ => {}
     }
 }
@@ -44,15 +43,15 @@ fn limit(number: u8) {
 // The state of the process that the entry named. A number above 15 is reported as 16; the item shows it.
 fn state(figure: u8, report: StopReport, call: Call) {
     if 15 < report.process {
-        say::say(b"its process number is above 15, and so not below N, which is ");
-        say::number(report.n as usize);
+        saying::say(b"its process number is above 15, and so not below N, which is ");
+        saying::number(report.n);
         return;
     }
-    say::say(b"process ");
-    say::number(report.process as usize);
+    saying::say(b"process ");
+    saying::number(report.process);
     if report.n <= report.process {
-        say::say(b" is not below N, which is ");
-        say::number(report.n as usize);
+        saying::say(b" is not below N, which is ");
+        saying::number(report.n);
         return;
     }
     let method = Method {

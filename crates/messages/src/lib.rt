@@ -5,7 +5,6 @@ mod faults;
 pub mod figure2;
 mod items;
 mod numbers;
-mod say;
 mod shown;
 
 use crate::calls::Call;
@@ -13,7 +12,7 @@ use positions::StopReport;
 
 // What was to be written to standard output is lost. The first word tells a script so.
 pub fn not_written() {
-    say::say(b"trouble: standard output could not be written\n");
+    saying::say(b"trouble: standard output could not be written\n");
 }
 
 // The line of a refusal, with the call of the process that the run reports. Its first word tells a script that the run
@@ -26,31 +25,31 @@ pub fn refused(
     call: Call,
     text: &[u8],
 ) {
-    say::say(b"refused ");
-    say::number(number as usize);
-    say::say(b": ");
+    saying::say(b"refused ");
+    saying::number(number as u64);
+    saying::say(b": ");
     match number {
         1 => numbers::processes(report),
         2 => numbers::words(report),
         10 | 11 => fault(number, report.place, text),
         _ => stopped(figure, number, entries, report, call, text),
     }
-    say::say(b"\n");
+    saying::say(b"\n");
 }
 
 // A text that breaks the notation, at a place of it.
 fn fault(number: u8, place: usize, text: &[u8]) {
-    let at = shown::within(place, text);
+    let at = saying::within(place, text);
     faults::fault(number, &text[..at], &text[at..]);
 }
 
 // An entry that was refused, with the place of its item. A text that is too long has no such entry.
 fn stopped(figure: u8, number: u8, entries: usize, report: StopReport, call: Call, text: &[u8]) {
     if report.place == 0 {
-        say::say(b"the text has more than 16,384 bytes");
+        saying::say(b"the text has more than 16,384 bytes");
         return;
     }
-    let at = shown::within(report.place, text);
+    let at = saying::within(report.place, text);
     items::refused(
         figure,
         number,

@@ -3,21 +3,20 @@ ghost use mathlib.Core.Path.{_≡_};
 ghost use Prim.Native.Nat.{_+_};
 ghost use lib.ListN.{length};
 ghost use Rattle.listing.specs.Decimal.{decimal};
-use crate::say;
 use positions::StopReport;
 
-pub fn processes(report: StopReport) {
-    say::say(b"line 1, column 1: N is ");
-    say::number(report.n as usize);
-    say::say(b"; it is 1 to 16");
+pub(crate) fn processes(report: StopReport) {
+    saying::say(b"line 1, column 1: N is ");
+    saying::number(report.n);
+    saying::say(b"; it is 1 to 16");
 }
 
-pub fn words(report: StopReport) {
-    say::say(b"line 1, column ");
-    say::next(after_number(report.n));
-    say::say(b": W is ");
-    say::number(report.w as usize);
-    say::say(b"; it is 1 to 64");
+pub(crate) fn words(report: StopReport) {
+    saying::say(b"line 1, column ");
+    saying::next(after_number(report.n));
+    saying::say(b": W is ");
+    saying::number(report.w);
+    saying::say(b"; it is 1 to 64");
 }
 
 // The place after a number at the beginning of a text and one space. Numbers are written one way only.

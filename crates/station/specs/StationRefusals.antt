@@ -1,4 +1,5 @@
--- The refusal table of a station (01, "When the bench says no", with the rows that CR 10 adds).
+-- The refusal table of a station (01, "When the bench says no", with the rows that CR 10 adds). The order of the rows is
+-- that of `llsc/specs/Rows`.
 use mathlib.Core.Path.{_≡_}
 use Prim.Native.Nat.{ℕ, _<_}
 use mathlib.Core.List.{List, [], _∷_}
@@ -7,7 +8,8 @@ use lib.Dec.{eqb, ltb, leb}
 use lib.ListN.{length, take, getD}
 use Rattle.llsc.specs.declared.Order.{Order}
 use Rattle.model.specs.declared.Process.{Process}
-use Rattle.llsc.specs.Rows.{Row, between, every, row1, row2, row9, row4, row8, row8always, isStart, needsLl}
+use Rattle.llsc.specs.Rows.{Row, between, every, row3, row5, row6, row7, isStart}
+use Rattle.llsc.specs.Rows.{lentRowsWith, processRowsWith, commandRowsWith, setUpRowsWith}
 use Rattle.model.specs.Refusals.{benchOk, processOk}
 use Rattle.model.specs.SetUp.{numbers}
 use Rattle.station.specs.declared.RecordNumber.{RecordNumber}
@@ -37,7 +39,7 @@ row23 r = record { number = 23; holds = not (between 1 8 r) }
 
 -- Row 3: "3 counts the new words", for so many process records and words lent
 abbrev pub row3of : ℕ → ℕ → ℕ → ℕ → ℕ → Row
-row3of n w r processes words = record { number = 3; holds = ltb words (stationWords n w r) || ltb processes n }
+row3of n w r processes words = row3 n (stationWords n w r) processes words
 
 -- Row 24: "a record not below the count". Only a start names one.
 abbrev pub row24 : Order → ℕ → ℕ → Row
@@ -58,30 +60,34 @@ stationInRange s =
 
 -- Rows 5 and 6 look at the one open call, whichever record it is on.
 abbrev pub row5of : Order → StationProcess → Row
-row5of o q = record { number = 5; holds = isStart o && not (atRest q) }
+row5of o q = row5 o (atRest q)
 
 abbrev pub row6of : Order → StationProcess → Row
-row6of o q = record { number = 6; holds = not (isStart o) && atRest q }
+row6of o q = row6 o (atRest q)
 
 -- Row 7: "7 looks at the LLs of that record".
+abbrev pub answeredFor : Order → ℕ → StationProcess → Bool
+answeredFor o named q = holdingAt q (recordAbout o named q) .answered
+
 abbrev pub row7of : Order → Holding → Row
-row7of o h = record { number = 7; holds = needsLl o && not (h .answered) }
+row7of o h = row7 o (h .answered)
 
 -- The rows of a command: "23 .. after 2", "24 .. directly after 4 and before 8", so 1, 2, 23, 3, 9, 4, 24, 8, 5, 6, 7.
 -- First those that speak of its process p, with the record q, of the record that it names and of its value's length;
 abbrev pub stationProcessRows : ℕ → ℕ → ℕ → ℕ → Order → ℕ → ℕ → StationProcess → List Row
 stationProcessRows n w r p o named value q =
-    row4 n p ∷ row24 o r named ∷ row8 o w value ∷ row5of o q ∷ row6of o q ∷ row7of o (holdingAt q (recordAbout o named q)) ∷ []
+    processRowsWith (row24 o r named ∷ []) n w p o value (atRest q) (answeredFor o named q)
 
 -- then those with which a command's rows and a set-up's begin, for so many process records and words lent; `rest` is
 -- what follows them;
 abbrev pub stationLentRows : ℕ → ℕ → ℕ → ℕ → ℕ → List Row → List Row
-stationLentRows n w r processes words rest = row1 n ∷ row2 w ∷ row23 r ∷ row3of n w r processes words ∷ rest
+stationLentRows n w r processes words rest = lentRowsWith (row23 r ∷ []) n w (stationWords n w r) processes words rest
 
 -- then all, with the truth of row 9's ranges
 abbrev pub stationRowsOf : ℕ → ℕ → ℕ → ℕ → ℕ → Bool → ℕ → Order → ℕ → ℕ → StationProcess → List Row
 stationRowsOf n w r processes words ranges p o named value q =
-    stationLentRows n w r processes words (row9 ranges ∷ stationProcessRows n w r p o named value q)
+    commandRowsWith (row23 r ∷ []) (row24 o r named ∷ []) n w (stationWords n w r) processes words ranges p o value (atRest q)
+    (answeredFor o named q)
 
 abbrev pub stationRows : StationMemory → StationOrder → List Row
 stationRows s c =
@@ -90,7 +96,7 @@ stationRows s c =
 
 -- The rows of a set-up: 1, 2, 23, 3, 8.
 abbrev pub stationSetUpRowsOf : ℕ → ℕ → ℕ → ℕ → ℕ → ℕ → List Row
-stationSetUpRowsOf n w r processes words value = stationLentRows n w r processes words (row8always w value ∷ [])
+stationSetUpRowsOf n w r processes words value = setUpRowsWith (row23 r ∷ []) n w (stationWords n w r) processes words value
 
 abbrev pub stationSetUpRows : StationMemory → ℕ → ℕ → ℕ → List ℕ → List Row
 stationSetUpRows s n w r value = stationSetUpRowsOf n w r (length (s .processes)) (length (s .words)) (length value)

@@ -8,12 +8,16 @@ use Rattle.station.specs.Station.{StationMemory, tablesAt, processAt, holdingAt
 use Rattle.station.specs.StationSetUp.{stationSetUp}
 use Rattle.station_run.specs.StationText.{beforeRun, leftBy, stationRunText}
 
--- what stands of record j: its tables, and what every process holds of it
+-- what stays of record j: its tables, with their links, and what every process holds of it
 pub record Stays (s after : StationMemory) (j : RecordNumber) : Type 0 where
   pub tables : tablesAt after j ≡ tablesAt s j
   pub holdings : (p : ℕ) → holdingAt (processAt after p) j ≡ holdingAt (processAt s p) j
 
--- "Text and listing keep to one record": every other record stays, whatever the text and the memory.
+-- CR 10: "a command on one record leaves the tables, buffers, links and private sets of the others in place", and "Text and
+-- listing keep to one record". A text is more than commands: it sets a station of one record up (`TextSetUp`), whose words
+-- begin where those of the records before it lay. So, whatever the text and the memory, of every other record the tables,
+-- with their links, and the private sets stay, but not the buffers: the 5NW words of the text's record are written over
+-- them.
 abbrev pub Record0Alone : Type 0
 Record0Alone = (s : StationMemory) (text listing : List ℕ) (j : RecordNumber) → (j .0 ≡ 0 → ⊥) → Stays s (stationRunText s text listing .memory) j
 

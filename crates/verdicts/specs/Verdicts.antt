@@ -1,4 +1,5 @@
 -- What the judge says of a log (02, CR 1).
+use mathlib.Core.Path.{_≡_}
 use Prim.Native.Nat.{ℕ, _%_}
 use mathlib.Core.List.{List, [], _∷_, map}
 use mathlib.Core.Bool.{Bool, true, false, not, _&&_, _||_, cond}
@@ -18,6 +19,12 @@ abbrev pub numberOf : Verdict → ℕ
 numberOf (Refused c) = c
 numberOf Yes = 0
 numberOf No = 0
+
+-- whether "It says yes"
+abbrev pub saysYes : Verdict → Bool
+saysYes (Refused c) = false
+saysYes Yes = true
+saysYes No = false
 
 -- The call that an entry tells, "1 for LL, 2 for SC or 3 for VL". (A log tells no steps and no count.)
 abbrev pub kindOf : Entry → Kind
@@ -140,3 +147,9 @@ logRefusal n w value log = first (logRows n w value log)
 -- What is said of the log: N, W, the value with which the object begins, and the log's numbers.
 unfoldable pub judged : ℕ → ℕ → List ℕ → List ℕ → Verdict
 judged n w value log = cond (eqb (logRefusal n w value log) 0) (cond (earnsYes value (entries w log)) Yes No) (Refused (logRefusal n w value log))
+
+-- What is promised of a verdict's number and word: the first row that holds, 0 for none; and "It says yes exactly when" no
+-- row and all six conditions hold. Proved in `proofs/VerdictLaws`.
+pub record VerdictSays (n w : ℕ) (value log : List ℕ) : Type 0 where
+  pub number : numberOf (judged n w value log) ≡ logRefusal n w value log
+  pub yes : saysYes (judged n w value log) ≡ (eqb (logRefusal n w value log) 0 && earnsYes value (entries w log))

@@ -1,5 +1,5 @@
 -- `judge::text_room`: its length by a law, since it is too long to be counted out.
-use mathlib.Core.Path.{_≡_, sym}
+use mathlib.Core.Path.{_≡_, refl, sym}
 use Prim.Native.Nat.{ℕ}
 use lib.ListN.{length, replicate, length-replicate}
 use Rattle.judge.proofs.text_room.Statement.{statement}
@@ -9,7 +9,7 @@ zeros : (n : ℕ) → n ≡ length (replicate {A = ℕ} n 0)
 zeros n = sym (length-replicate n 0)
 
 returns : tie.Need-returns
-returns c = zeros 2097152
+returns c = (zeros 2097152, refl)
 
 pub text-room-spec : {M : Type 1} → statement M
 text-room-spec = tie.close (tie.spec returns)

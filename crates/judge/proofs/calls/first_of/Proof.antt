@@ -3,6 +3,7 @@ use native.Mathlib.Omega.{arith}
 use Prim.Native.Nat.{ℕ, _+_, _*_, _≤_}
 use native.Mathlib.Nat.{mul-le-mul}
 use borrow.Author.Needs.{needs}
+use Rattle.judge.proofs.CallLaws.{too-far, first-number}
 use Rattle.judge.proofs.calls.first_of.Statement.{statement}
 use Rattle.judge.proofs.calls.first_of.Tie as tie
 
@@ -13,7 +14,7 @@ width-requires : tie.Need-width-requires
 width-requires c κs = search needs
 
 returns : tie.Need-returns
-returns c = search needs
+returns c = let a = c .before .before .before .args in (search needs, too-far (a .numbers .now) (a .call) (c .if1 .taken))
 
 add-result : tie.Need-add-result
 add-result c = search needs
@@ -22,13 +23,22 @@ add-result-2 : tie.Need-add-result-2
 add-result-2 c = search needs
 
 mul-result : tie.Need-mul-result
-mul-result c = let a = c .before .before .before .args in let w = c .before .width in let z = most (a .call) (w .result) (search needs) (search needs) in omega arith
+mul-result c =
+    let a = c .before .before .before .args in let w = c .before .width in
+    let z = most (a .call) (w .result) (search needs) (search needs) in
+    omega arith
 
 add-result-3 : tie.Need-add-result-3
-add-result-3 c = let a = c .before .before .before .args in let w = c .before .width in let z = most (a .call) (w .result) (search needs) (search needs) in omega arith
+add-result-3 c =
+    let a = c .before .before .before .args in let w = c .before .width in
+    let z = most (a .call) (w .result) (search needs) (search needs) in
+    omega arith
 
 returns-2 : tie.Need-returns-2
-returns-2 c = let a = c .before .before .before .args in let w = c .before .width in let z = most (a .call) (w .result) (search needs) (search needs) in omega arith
+returns-2 c =
+    let a = c .before .before .before .args in let w = c .before .width in
+    let z = most (a .call) (w .result) (search needs) (search needs) in
+    (omega arith, first-number (a .numbers .now) (a .call) (w .result) (w .ensures .1) (c .if1 .left))
 
 pub first-of-spec : {M : Type 1} → statement M
 first-of-spec =

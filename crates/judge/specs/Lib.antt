@@ -1,0 +1,2 @@
+pub mod LogCalls
+pub mod LogLines
