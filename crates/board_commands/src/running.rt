@@ -10,7 +10,7 @@ use boards::trailers::RECORD_SIZE;
 use boards::trailers::records_of;
 use station::Station;
 use station_records::processes::Processes;
-use station_records::processes::with_process;
+use station_records::processes::with_lent;
 
 // A run that ends here. Nothing is stored back where nothing was done.
 fn left_with(station: Station, all: Processes, number: u8, done: usize) -> RunLeft
@@ -59,7 +59,7 @@ fn run_records(
         }
         let process = out.process;
         station = out.station;
-        all = with_process(all, out.at, process);
+        all = with_lent(all, out.at, process);
         at += RECORD_SIZE;
         left -= 1;
         done += 1;

@@ -14,6 +14,7 @@ use Rattle.model.specs.declared.Bench.{Bench}
 use Rattle.model.specs.declared.Process.{Process}
 use Rattle.llsc.specs.declared.Order.{Order}
 use Rattle.model.specs.Records.{noProcess, recordAt}
+use Rattle.model.specs.Tables.{noBank, noHelp}
 use Rattle.model.specs.Points.{pointOf}
 use Rattle.lines.specs.Ranges.{Sized}
 use Rattle.taken.specs.declared.Taken.{Taken}
@@ -33,7 +34,7 @@ use Rattle.entry.specs.RunState.{RunState, stateOf, stoppedRun, Sound, Becomes,
 use Rattle.entry.specs.Turned.{refusalOf, placeOf, Turnable, Turns, staysAt}
 use Rattle.text_runs.specs.KeptEntries.{entriesIn}
 use Rattle.carrying.specs.Carried.{Carrying, Carries}
-use Rattle.entry.proofs.EntryLaws.{entry-refused, entry-ready, process-small, place-same, one-more-small, entry-turnable, entry-made, own-line}
+use Rattle.entry.proofs.EntryLaws.{entry-refused, entry-ready, place-same, one-more-small, entry-turnable, entry-made, own-line}
 use Rattle.carrying.proofs.CarryingLaws.{carrying-none, carrying-all, ends-refused, goes-over, goes-further}
 
 -- the numbers of a kept entry are small
@@ -49,13 +50,18 @@ kept-small : (word : ℕ) → Small (entryIn word)
 unfolding entryIn
 kept-small word = kind-small (kindIn word) (processIn word) (numberIn word) (omega arith) (omega arith)
 
--- a place of a record is one of sixteen
-pub place-small : (p : ℕ) {k : ℕ} → k ≡ placeOf p → k < 16
-place-small p {k} e = pick (ltb p 16) refl e
+-- the place of a record is one of sixteen
+pub place-small : (p : ℕ) {place : ℕ} {k : ProcessNumber} → k ≡ record { 0 = placeOf p } → place ≡ k .0 → place < 16
+place-small p {place} {k} e d = pick (ltb p 16) refl (d ∙ ap (λ (y : ProcessNumber). y .0) e)
   where
-    pick : (t : Bool) → ltb p 16 ≡ t → k ≡ cond t p 0 → k < 16
+    pick : (t : Bool) → ltb p 16 ≡ t → place ≡ cond t p 0 → place < 16
     pick true x f = omega (arith, f, ltb-true p 16 x)
     pick false x f = omega (arith, f)
+
+-- the places taken out, by the places in their tables
+pub taken-at : (b : Bench) {i : SequenceNumber} {j : ProcessNumber} {bank help : ℕ} {places : Taken} → bank ≡ i .0 → help ≡ j .0
+    → places ≡ record { x = b .x; bank = getD (b .bank) bank noBank; help = getD (b .help) help noHelp } → places ≡ takenAt b i j
+taken-at b d f e = rw (d, f) at e
 
 -- as many entries as numbers, one from each
 pub count-entries : (count : ℕ) (entries : List ℕ) → count ≤ length entries → length (entriesIn count entries) ≡ count
@@ -99,20 +105,22 @@ pub head-all : {len count n w needed at : ℕ} {entries : List ℕ} {h h₁ : Ru
 head-all {count = count} {entries = entries} x l = carrying-all (x .carrying) (omega (arith, l, count-entries count entries (x .fits)))
 
 -- with an entry to carry out: what the code has in its hands
-pub record Looking (count : ℕ) (entries : List ℕ) (len n w needed : ℕ) (h : RunState) (at : ℕ) (h₁ : RunState) (e : Entry) (p k : ℕ) (q : Process) (o : Order) : Type 0 where
+pub record Looking (count : ℕ) (entries : List ℕ) (len n w needed : ℕ) (h : RunState) (at : ℕ) (h₁ : RunState) (e : Entry) (p : ℕ) (k : ProcessNumber) (q : Process) (o : Order) : Type 0 where
   pub head : Head count entries len n w needed h at h₁
   pub more : at < count
   pub entry-is : e ≡ entryIn (getD entries at 0)
   pub process-is : p ≡ processOf e
-  pub place-is : k ≡ placeOf p
-  pub record-is : q ≡ getD (h₁ .run .all .list) k noProcess
+  pub number-is : k ≡ record { 0 = placeOf p }
+  pub record-is : q ≡ getD (h₁ .run .all .list) (k .0) noProcess
   pub order-is : o ≡ orderOf e
 
-pub looking : {count : ℕ} {entries : List ℕ} {len n w needed at p k : ℕ} {h h₁ : RunState} {e : Entry} {o : Order} → Head count entries len n w needed h at h₁ → at < count
-    → e ≡ entryIn (getD entries at 0) → p ≡ processOf e → k ≡ placeOf p → o ≡ orderOf e → Looking count entries len n w needed h at h₁ e p k (getD (h₁ .run .all .list) k noProcess) o
-looking x m a b c d = record { head = x; more = m; entry-is = a; process-is = b; place-is = c; record-is = refl; order-is = d }
+pub looking : {count : ℕ} {entries : List ℕ} {len n w needed at p place : ℕ} {k : ProcessNumber} {h h₁ : RunState} {e : Entry} {o : Order}
+    → Head count entries len n w needed h at h₁ → at < count → e ≡ entryIn (getD entries at 0) → p ≡ processOf e → k ≡ record { 0 = placeOf p } → place ≡ k .0
+    → o ≡ orderOf e → Looking count entries len n w needed h at h₁ e p k (getD (h₁ .run .all .list) place noProcess) o
+looking {h₁ = h₁} x m a b c d o =
+    record { head = x; more = m; entry-is = a; process-is = b; number-is = c; record-is = ap (λ (i : ℕ). getD (h₁ .run .all .list) i noProcess) d; order-is = o }
 
-module _ {count : ℕ} {entries : List ℕ} {len n w needed at p k : ℕ} {h h₁ : RunState} {e : Entry} {q : Process} {o : Order} (x : Looking count entries len n w needed h at h₁ e p k q o) where
+module _ {count : ℕ} {entries : List ℕ} {len n w needed at p : ℕ} {k : ProcessNumber} {h h₁ : RunState} {e : Entry} {q : Process} {o : Order} (x : Looking count entries len n w needed h at h₁ e p k q o) where
   abbrev b : Bench
   b = h₁ .run .bench
 
@@ -148,7 +156,7 @@ module _ {count : ℕ} {entries : List ℕ} {len n w needed at p k : ℕ} {h h�
   looked = refusalOf (orderOf e) (h₁ .run .entries) (length (h₁ .listing) - h₁ .run .written) needed (b .n) (processOf e) (getD list (placeOf (processOf e)) noProcess)
 
   same-refusal : refusal ≡ looked
-  same-refusal = rw (x .order-is, x .record-is, x .place-is, x .process-is, x .head .n-is)
+  same-refusal = rw (x .order-is, x .record-is, x .number-is, x .process-is, x .head .n-is)
 
   pub loop-refused : {stop : ℕ} → stop ≡ refusal → (stop ≡ 0 → ⊥) → Carries len es h (stateOf (stoppedRun (h₁ .run) stop) (h₁ .words) (h₁ .listing)) at
   loop-refused {stop} f y = ends-refused c inside (entryIn 0) (this (entry-refused e small s (c .goes) (x .head .needed-is) stop (f ∙ same-refusal) y)) y
@@ -160,14 +168,14 @@ module _ {count : ℕ} {entries : List ℕ} {len n w needed at p k : ℕ} {h h�
     ready : Ready (b .n) (b .w) own (record { 0 = processOf e }) (h₁ .words)
     ready = entry-ready e small s (c .goes) (x .head .needed-is) free
 
-    pub loop-process : p < 16
-    loop-process = omega (arith, x .process-is, process-small e small s (c .goes) (x .head .needed-is) free)
-
     pub loop-more : h₁ .run .entries + 1 ≤ 60000
     loop-more = one-more-small e small s (c .goes) (x .head .needed-is) free
 
-    own-place : k ≡ processOf e
-    own-place = x .place-is ∙ ap placeOf (x .process-is) ∙ place-same e small s (c .goes) (x .head .needed-is) free
+    own-number : k ≡ record { 0 = processOf e }
+    own-number = x .number-is ∙ ap (λ (i : ℕ). record { 0 = i }) (ap placeOf (x .process-is) ∙ place-same e small s (c .goes) (x .head .needed-is) free)
+
+    own-place : k .0 ≡ processOf e
+    own-place = ap (λ (y : ProcessNumber). y .0) own-number
 
     is-own : q ≡ own
     is-own = x .record-is ∙ ap (λ (i : ℕ). getD list i noProcess) own-place
@@ -176,12 +184,12 @@ module _ {count : ℕ} {entries : List ℕ} {len n w needed at p k : ℕ} {h h�
     loop-sized = let r = ready .lent in record { some = omega (arith, x .head .n-is, r .n-some); most = omega (arith, x .head .n-is, r .n-most) }
 
     -- the places taken out
-    module _ {i : SequenceNumber} {j : ProcessNumber} (ei : i ≡ bankIndex (pointOf (q .line)) n q) (ej : j ≡ helpIndex (pointOf (q .line)) n (record { 0 = p }) q) where
+    module _ {i : SequenceNumber} {j : ProcessNumber} (ei : i ≡ bankIndex (pointOf (q .line)) n q) (ej : j ≡ helpIndex (pointOf (q .line)) n k q) where
       at-bank : i ≡ bankIndex (pointOf (own .line)) (b .n) own
       at-bank = ei ∙ rw (is-own, x .head .n-is)
 
       at-help : j ≡ helpIndex (pointOf (own .line)) (b .n) (record { 0 = processOf e }) own
-      at-help = ej ∙ rw (is-own, x .head .n-is, x .process-is)
+      at-help = ej ∙ rw (is-own, x .head .n-is, own-number)
 
       pub loop-bank : i .0 < 32
       loop-bank = rw at-bank (bank-index-small ready (pointOf (own .line)))
@@ -208,7 +216,7 @@ module _ {count : ℕ} {entries : List ℕ} {len n w needed at p k : ℕ} {h h�
             traced = h₁ .run .traced;
           }) ws lst
 
-          stored : (P : RunState → Type 0) → P (afterAt (processOf e)) → P (afterAt k)
+          stored : (P : RunState → Type 0) → P (afterAt (processOf e)) → P (afterAt (k .0))
           stored P x = subst (λ (m : ℕ). P (afterAt m)) (sym own-place) x
 
           made : Becomes len (single (getD es at (entryIn 0))) h₁ (afterAt (processOf e))
@@ -225,7 +233,7 @@ module _ {count : ℕ} {entries : List ℕ} {len n w needed at p k : ℕ} {h h�
           same-stay : staysAt (getD es at (entryIn 0)) (r .process .line) ≡ staysAt e (r .process .line)
           same-stay = ap (λ (d : Entry). staysAt d (r .process .line)) (entry-at count at entries (x .more) ∙ sym (x .entry-is))
 
-          headed : {at′ : ℕ} → Carrying len es h at′ (afterAt (processOf e)) → Head count entries len n w needed h at′ (afterAt k)
+          headed : {at′ : ℕ} → Carrying len es h at′ (afterAt (processOf e)) → Head count entries len n w needed h at′ (afterAt (k .0))
           headed {at′} y = stored (λ d. Head count entries len n w needed h at′ d)
               (record {
                 fits = x .head .fits;
@@ -236,8 +244,8 @@ module _ {count : ℕ} {entries : List ℕ} {len n w needed at p k : ℕ} {h h�
                 needed-is = x .head .needed-is;
               })
 
-          pub loop-over : staysAt e (r .process .line) ≡ false → Head count entries len n w needed h (at + 1) (afterAt k)
+          pub loop-over : staysAt e (r .process .line) ≡ false → Head count entries len n w needed h (at + 1) (afterAt (k .0))
           loop-over y = headed (goes-over c inside (entryIn 0) made refl line (same-stay ∙ y))
 
-          pub loop-further : staysAt e (r .process .line) ≡ true → Head count entries len n w needed h at (afterAt k)
+          pub loop-further : staysAt e (r .process .line) ≡ true → Head count entries len n w needed h at (afterAt (k .0))
           loop-further y = headed (goes-further c inside (entryIn 0) made refl line (same-stay ∙ y))

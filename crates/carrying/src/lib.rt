@@ -10,8 +10,8 @@ use entry::refusals;
 use entry::state;
 use entry::state::Run;
 use entry::turn;
-use llsc::ProcessNumber;
 use notation::entry_words;
+use tables::records;
 
 // The run after its list, and its place in it: that of the entry that stopped the run, or the end.
 pub struct Carried {
@@ -45,16 +45,18 @@ pub fn carry_out(
     while at < count {
         let e = entry_words::entry_in(entries[at]);
         let p = entries::process_of(e);
-        let k = entries::place_of(p);
-        let process = all.list[k];
+        let k = entries::process_number(p);
+        let process = all.list[records::record_place(k)];
         let order = entries::order_of(e);
         stop = refusals::refusal(order, done, list.len() - written, needed, n, p, process);
         if stop != 0 {
             break;
         }
-        let i = taken::bank_index(n, process).0 as usize;
-        let j = taken::help_index(n, ProcessNumber(p as u8), process).0 as usize;
-        let places = taken::places(bench.x, bench.bank[i], bench.help[j]);
+        let i = taken::bank_index(n, process);
+        let j = taken::help_index(n, k, process);
+        let bank = bench.bank[tables::bank_place(i)];
+        let help = bench.help[tables::help_place(j)];
+        let places = taken::places(bench.x, bank, help);
         done += 1;
         let turn = turn::carry(traced, done, e, n, w, places, process, words, list, written);
         let put = turn.taken;
@@ -63,9 +65,9 @@ pub fn carry_out(
         let help = put.help;
         let next = turn.process;
         bench.x = x;
-        bench.bank[i] = bank;
-        bench.help[j] = help;
-        all.list[k] = next;
+        bench.bank[tables::bank_place(i)] = bank;
+        bench.help[tables::help_place(j)] = help;
+        all.list[records::record_place(k)] = next;
         written = turn.written;
         if entries::stays(e, next.line) {
             continue;

@@ -12,14 +12,14 @@ use notation::Entry;
 use words::word_places;
 use words::word_runs;
 
-// The record that is looked at for a process number.
-pub fn place_of(p: u64) -> usize
-    ensures { λ r. ⌜ r ≡ placeOf p ⌝ }
+// The process whose record is looked at for a number of a text: process 0 where there is no such record.
+pub fn process_number(p: u64) -> ProcessNumber
+    ensures { λ r. ⌜ r ≡ record { 0 = placeOf p } ⌝ }
 {
     if p < 16 {
-        return p as usize;
+        return ProcessNumber(p as u8);
     }
-    0
+    ProcessNumber(0)
 }
 
 // "`!` is steps until the call answers": whether the entry is not over with a step that leaves its process at this

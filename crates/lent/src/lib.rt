@@ -34,7 +34,7 @@ pub fn gather(processes: &[StationProcess], none: StationProcess) -> Processes
     let mut i = 0;
     while i < 16 {
         let q = process_or(processes, i, none);
-        all = station_records::processes::with_process(all, i, q);
+        all = station_records::processes::with_lent(all, i, q);
         i += 1;
     }
     all

@@ -14,8 +14,9 @@ pub fn records_at_set_up(all: Records, n: usize) -> Records
     let mut next = all;
     let mut p = 0;
     while p < n {
-        let process = setup::record_at_set_up(n, ProcessNumber(p as u8));
-        next = records::with_record(next, p, process);
+        let me = ProcessNumber(p as u8);
+        let process = setup::record_at_set_up(n, me);
+        next = records::with_record(next, me, process);
         p += 1;
     }
     next

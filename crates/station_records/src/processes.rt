@@ -17,14 +17,23 @@ pub fn processes_of(q: StationProcess) -> Processes
     Processes { list: [q; 16] }
 }
 
-// The record at place i replaced.
-pub fn with_process(all: Processes, i: usize, q: StationProcess) -> Processes
-    requires { ⌜ i < 16 ⌝ }
-    ensures { λ r. ⌜ r ≡ record { list = set (all .list) i q } ⌝ }
+// The record of process p replaced.
+pub fn with_process(all: Processes, p: ProcessNumber, q: StationProcess) -> Processes
+    requires { ⌜ p .0 < 16 ⌝ }
+    ensures { λ r. ⌜ r ≡ record { list = set (all .list) (p .0) q } ⌝ }
 {
+    let i = p.0 as usize;
     let mut next = all;
     next.list[i] = q;
     next
+}
+
+// The record at place i of those that are lent is that of process i.
+pub fn with_lent(all: Processes, i: usize, q: StationProcess) -> Processes
+    requires { ⌜ i < 16 ⌝ }
+    ensures { λ r. ⌜ r ≡ record { list = set (all .list) i q } ⌝ }
+{
+    with_process(all, ProcessNumber(i as u8), q)
 }
 
 // The record of process p.

@@ -4,6 +4,7 @@ ghost use mathlib.Core.Path.{_≡_};
 ghost use Prim.Native.Nat.{_≤_};
 ghost use Rattle.station_records.specs.Gathered.{LentProcesses};
 ghost use Rattle.station_run.specs.TextByValue.{benchBefore, recordsBefore, stationRan, processesRan, putBack, StationRan};
+use llsc::ProcessNumber;
 use model::Bench;
 use run::last_line::Finished;
 use run::text_run;
@@ -47,10 +48,11 @@ fn records_before(all: Processes) -> Records
     ensures { λ r. ⌜ r ≡ recordsBefore all ⌝ }
 {
     let mut next = records::records_of(records::no_process());
-    let mut i = 0;
+    let mut i: usize = 0;
     while i < 16 {
-        let q = station_records::process_of(RecordNumber(0), all.list[i]);
-        next = records::with_record(next, i, q);
+        let me = ProcessNumber(i as u8);
+        let q = station_records::process_of(RecordNumber(0), processes::process_at(all, me));
+        next = records::with_record(next, me, q);
         i += 1;
     }
     next
@@ -77,8 +79,11 @@ fn processes_ran(all: Processes, records: Records, count: usize) -> Processes
     let mut next = all;
     let mut i = 0;
     while i < count {
-        let q = station_records::put_process(RecordNumber(0), next.list[i], records.list[i]);
-        next = processes::with_process(next, i, q);
+        let me = ProcessNumber(i as u8);
+        let before = processes::process_at(next, me);
+        let ran = records.list[tables::records::record_place(me)];
+        let q = station_records::put_process(RecordNumber(0), before, ran);
+        next = processes::with_process(next, me, q);
         i += 1;
     }
     next

@@ -8,6 +8,7 @@ ghost use Rattle.model.specs.Sizes.{buffers, sequenceNumbers};
 ghost use Rattle.station.specs.Station.{noHolding};
 ghost use Rattle.station.specs.StationSetUp.{holdingAtSetUp, stationProcessAtSetUp, blocks, firsts};
 ghost use Rattle.station_setup.specs.StationSetUpByValue.{processFor, stationSetUpNumber, tablesSet, sized, Admitted, block, stationPrepared};
+use llsc::ProcessNumber;
 use model::BufferNumber;
 use model::SequenceNumber;
 use model::XContent;
@@ -166,8 +167,9 @@ pub fn processes_at_set_up(all: Processes, n: usize, r: usize, count: usize) -> 
     let mut next = all;
     let mut i = 0;
     while i < count {
-        let q = process_for(n, r, i, next.list[i]);
-        next = processes::with_process(next, i, q);
+        let me = ProcessNumber(i as u8);
+        let q = process_for(n, r, i, processes::process_at(next, me));
+        next = processes::with_process(next, me, q);
         i += 1;
     }
     next

@@ -1,4 +1,5 @@
 // The tables of the bench record, each reached only by its own kind of number; the process records are in `records`.
+// A table that is worked on where it stands is indexed by what its own function here makes of its kind (`bank_place`).
 ghost use mathlib.Core.Path.{_≡_};
 ghost use Prim.Native.Nat.{_<_};
 ghost use Rattle.model.specs.Tables.{bankAt, helpAt, putX, putBank, putHelp};
@@ -11,6 +12,20 @@ use model::Bench;
 use model::HelpPlace;
 use model::SequenceNumber;
 use model::XPlace;
+
+// The place in Bank that a sequence number names.
+pub fn bank_place(i: SequenceNumber) -> usize
+    ensures { λ r. ⌜ r ≡ i .0 ⌝ }
+{
+    i.0 as usize
+}
+
+// The place in Help that a process number names.
+pub fn help_place(i: ProcessNumber) -> usize
+    ensures { λ r. ⌜ r ≡ i .0 ⌝ }
+{
+    i.0 as usize
+}
 
 // Bank[i].
 pub fn bank_at(bench: Bench, i: SequenceNumber) -> BankPlace

@@ -3,6 +3,7 @@ ghost use mathlib.Core.Path.{_≡_};
 ghost use Prim.Native.Nat.{_<_};
 ghost use lib.ListN.{replicate, set};
 ghost use Rattle.model.specs.Records.{noProcess};
+use llsc::ProcessNumber;
 use model::Process;
 
 pub struct Records {
@@ -23,11 +24,19 @@ pub fn records_of(q: Process) -> Records
     Records { list: [q; 16] }
 }
 
-// The record at place i replaced.
-pub fn with_record(all: Records, i: usize, q: Process) -> Records
-    requires { ⌜ i < 16 ⌝ }
-    ensures { λ r. ⌜ r ≡ record { list = set (all .list) i q } ⌝ }
+// The place in the records that a process number names.
+pub fn record_place(p: ProcessNumber) -> usize
+    ensures { λ r. ⌜ r ≡ p .0 ⌝ }
 {
+    p.0 as usize
+}
+
+// The record of process p replaced.
+pub fn with_record(all: Records, p: ProcessNumber, q: Process) -> Records
+    requires { ⌜ p .0 < 16 ⌝ }
+    ensures { λ r. ⌜ r ≡ record { list = set (all .list) (p .0) q } ⌝ }
+{
+    let i = p.0 as usize;
     let mut next = all;
     next.list[i] = q;
     next

@@ -95,12 +95,10 @@ pub fn put_back(bench: Bench, i: SequenceNumber, j: ProcessNumber, stepped: Step
     let help = taken.help;
     let process = stepped.process;
     let reply = stepped.reply;
-    let k = i.0 as usize;
-    let m = j.0 as usize;
     let mut next = bench;
     next.x = x;
-    next.bank[k] = bank;
-    next.help[m] = help;
+    next.bank[tables::bank_place(i)] = bank;
+    next.help[tables::help_place(j)] = help;
     Moved {
         bench: next,
         process,

@@ -1,5 +1,5 @@
 -- `lent::gather` meets its contract: a walk of its MIR, by hand, with a loop. A turn calls `record_or`, to which the slice
--- is passed as a copy, and `with_process`, by value.
+-- is passed as a copy, and `with_lent`, by value.
 -- The invariant: at i, the records so far are `gathered ys d i`. The variant: what is left of 16.
 -- Assumes nothing.
 use mathlib.Core.Path.{_≡_, refl, sym, ap, subst, _∙_}
@@ -59,10 +59,10 @@ use Rattle.station_records.proofs.processes.processes_of as all-of
 use Rattle.station_records.proofs.processes.processes_of.Symbol as all-of-def
 use Rattle.station_records.proofs.processes.processes_of.Symbol.{name as #station_records·processes·processes-of}
 use Rattle.station_records.proofs.processes.processes_of.Met as all-of-thm
-use Rattle.station_records.proofs.processes.with_process as with′
-use Rattle.station_records.proofs.processes.with_process.Symbol as with-def
-use Rattle.station_records.proofs.processes.with_process.Symbol.{name as #station_records·processes·with-process}
-use Rattle.station_records.proofs.processes.with_process.Met as with-thm
+use Rattle.station_records.proofs.processes.with_lent as with′
+use Rattle.station_records.proofs.processes.with_lent.Symbol as with-def
+use Rattle.station_records.proofs.processes.with_lent.Symbol.{name as #station_records·processes·with-lent}
+use Rattle.station_records.proofs.processes.with_lent.Met as with-thm
 use Rattle.lent.proofs.Locals.{room, holds, locals, local, places, processesTy}
 use Rattle.lent.proofs.process_or as process-or
 use Rattle.lent.proofs.process_or.Symbol as process-or-def
@@ -100,7 +100,7 @@ one-more l d i = refl
 -- a turn after its test, which the generated MIR has under no name
 abbrev more-of : Body
 more-of = seq (call #lent·process-or (copy (place 1 []) ∷ copy (place 4 []) ∷ copy (place 2 []) ∷ []) (place 5 []))
-    (seq (call #station_records·processes·with-process (copy (place 3 []) ∷ copy (place 4 []) ∷ copy (place 5 []) ∷ []) (place 3 []))
+    (seq (call #station_records·processes·with-lent (copy (place 3 []) ∷ copy (place 4 []) ∷ copy (place 5 []) ∷ []) (place 3 []))
     (assign (place 4 []) (op2 (add unsigned) (copy (place 4 [])) (int w64 1))))
 
 module _ {M : Type 1} (𝓤 : URA M) (H : Heap 𝓤) (A : Atoms 𝓤) (mem : Memory → SProp 𝓤) (run : Routine → Fun 𝓤) where
@@ -213,7 +213,7 @@ module _ {M : Type 1} (𝓤 : URA M) (H : Heap 𝓤) (A : Atoms 𝓤) (W : Given
   module _ (𝓣 : Tables 𝓤 H) (fm : FmC 𝓤 H (W .laws) (𝓣 .C))
       (known-all : Triple 𝓤 (𝓣 .C #station_records·processes·processes-of) (AllOf 𝓤 H A mem run))
       (known-take : Triple 𝓤 (𝓣 .C #lent·process-or) (TakeOr 𝓤 H A mem run))
-      (known-with : Triple 𝓤 (𝓣 .C #station_records·processes·with-process) (With 𝓤 H A mem run)) where
+      (known-with : Triple 𝓤 (𝓣 .C #station_records·processes·with-lent) (With 𝓤 H A mem run)) where
     abbrev C : Calls 𝓤 H
     C = 𝓣 .C
 
@@ -254,7 +254,7 @@ module _ {M : Type 1} (𝓤 : URA M) (H : Heap 𝓤) (A : Atoms 𝓤) (W : Given
           (process-or-says 𝓤 H A mem run κ ref (u .i) d r) $ heard ! (r ≡ getD ys (u .i) d) (λ e.
           split ! $ move ! (1 ∷ []) $ peeks ! P.the-row (Is P.the-row) (shows 𝓤 H A P.the-row) r (w ∷ []) (λ is.
           land ! (from ! (stop !)) (init ! 5 refl (typedP r w is)) $
-          -- `with_process`
+          -- `with_lent`
           use1 W (raw (With 𝓤 H A mem run .pre (to-with (u .i) r w))) (goes-with (u .i) r w small (fits small) (u .is)) $
           calls-at ! fm (With 𝓤 H A mem run) known-with (to-with (u .i) r w)
           (and-then ! (local ! 9 refl) (and-then ! (local ! 7 refl) (and-then ! (local ! 5 refl) (no-more !)))) (λ w′.
@@ -332,7 +332,7 @@ module _ {M : Type 1} (𝓤 : URA M) (H : Heap 𝓤) (A : Atoms 𝓤) (W : Given
 
 module _ {M : Type 1} (𝓤 : URA M) (H : Heap 𝓤) (A : Atoms 𝓤) (W : Given 𝓤 H A) (mem : Memory → SProp 𝓤) (run : Routine → Fun 𝓤) where
   walks : (𝓣 : Tables 𝓤 H) → Triple 𝓤 (𝓣 .C #station_records·processes·processes-of) (AllOf 𝓤 H A mem run)
-      → Triple 𝓤 (𝓣 .C #lent·process-or) (TakeOr 𝓤 H A mem run) → Triple 𝓤 (𝓣 .C #station_records·processes·with-process) (With 𝓤 H A mem run)
+      → Triple 𝓤 (𝓣 .C #lent·process-or) (TakeOr 𝓤 H A mem run) → Triple 𝓤 (𝓣 .C #station_records·processes·with-lent) (With 𝓤 H A mem run)
       → Walks 𝓤 H A f.ended stayed (WpFn 𝓤 H (𝓣 .C) (𝓣 .Λ) code.function) (f.clauses 𝓤 H A mem run)
   walks 𝓣 k₁ k₂ k₃ = walked 𝓤 H A f.ended stayed (f.clauses 𝓤 H A mem run) (WpFn 𝓤 H (𝓣 .C) (𝓣 .Λ) code.function)
       (λ κs. (slice-vals, (LL.vals P.the-type P′.the-laws, tt)))
@@ -346,7 +346,7 @@ module _ {M : Type 1} (𝓤 : URA M) (H : Heap 𝓤) (A : Atoms 𝓤) (W : Given
 
 meets : {M : Type 1} (𝓤 : URA M) (H : Heap 𝓤) (A : Atoms 𝓤) → Given 𝓤 H A → (mem : Memory → SProp 𝓤) (run : Routine → Fun 𝓤) (𝓣 : Tables 𝓤 H)
     → Triple 𝓤 (𝓣 .C #station_records·processes·processes-of) (AllOf 𝓤 H A mem run)
-    → Triple 𝓤 (𝓣 .C #lent·process-or) (TakeOr 𝓤 H A mem run) → Triple 𝓤 (𝓣 .C #station_records·processes·with-process) (With 𝓤 H A mem run)
+    → Triple 𝓤 (𝓣 .C #lent·process-or) (TakeOr 𝓤 H A mem run) → Triple 𝓤 (𝓣 .C #station_records·processes·with-lent) (With 𝓤 H A mem run)
     → Meets 𝓤 H A f.signature (WpFn 𝓤 H (𝓣 .C) (𝓣 .Λ) code.function) (f.spec 𝓤 H A mem run)
 meets 𝓤 H A W mem run 𝓣 k₁ k₂ k₃ = walk-meets 𝓤 H A f.ended stayed W (goes 𝓤 H A W mem run) (f.clauses 𝓤 H A mem run)
     (WpFn 𝓤 H (𝓣 .C) (𝓣 .Λ) code.function) (WpFn-mono 𝓤 H (W .laws) 𝓣 code.function) (walks 𝓤 H A W mem run 𝓣 k₁ k₂ k₃)
@@ -359,4 +359,4 @@ gather-spec 𝓤 H 𝓜 𝓖 𝓡 =
     (meets 𝓤 H (𝓖 .A) (givenOf 𝓤 H 𝓜 𝓖) (𝓜 .mem) (𝓡 .run) (tablesOf 𝓤 H 𝓜 (tables 𝓤 H 𝓜 𝓡 code.env))
     (cited 𝓤 H (AllOf 𝓤 H (𝓖 .A) (𝓜 .mem) (𝓡 .run)) 𝓜 𝓡 code.env #station_records·processes·processes-of all-of-def.routine code.calls-station-records·processes·processes-of (all-of-thm.met 𝓤 H 𝓜 𝓖 𝓡))
     (cited 𝓤 H (TakeOr 𝓤 H (𝓖 .A) (𝓜 .mem) (𝓡 .run)) 𝓜 𝓡 code.env #lent·process-or process-or-def.routine code.calls-lent·process-or (process-or-thm.met 𝓤 H 𝓜 𝓖 𝓡))
-    (cited 𝓤 H (With 𝓤 H (𝓖 .A) (𝓜 .mem) (𝓡 .run)) 𝓜 𝓡 code.env #station_records·processes·with-process with-def.routine code.calls-station-records·processes·with-process (with-thm.met 𝓤 H 𝓜 𝓖 𝓡)))
+    (cited 𝓤 H (With 𝓤 H (𝓖 .A) (𝓜 .mem) (𝓡 .run)) 𝓜 𝓡 code.env #station_records·processes·with-lent with-def.routine code.calls-station-records·processes·with-lent (with-thm.met 𝓤 H 𝓜 𝓖 𝓡)))

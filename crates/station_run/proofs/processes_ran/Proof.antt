@@ -21,17 +21,20 @@ abbrev μ-loop : tie.MeasureT-loop
 loop-holds : tie.Need-loop-holds Inv-loop μ-loop
 loop-holds c = search needs
 
-mul-put-process : tie.Need-mul-put-process Inv-loop μ-loop
-mul-put-process c = search needs
+cast-t12 : tie.Need-cast-t12 Inv-loop μ-loop
+cast-t12 c = search needs
 
-element-copy-out-put-process : tie.Need-element-copy-out-put-process Inv-loop μ-loop
-element-copy-out-put-process c = search needs
+process-at-requires : tie.Need-process-at-requires Inv-loop μ-loop
+process-at-requires c κs = search needs
 
-mul-put-process-2 : tie.Need-mul-put-process-2 Inv-loop μ-loop
-mul-put-process-2 c = search needs
+record-place-requires : tie.Need-record-place-requires Inv-loop μ-loop
+record-place-requires c κs = search needs
 
-element-copy-out-put-process-2 : tie.Need-element-copy-out-put-process-2 Inv-loop μ-loop
-element-copy-out-put-process-2 c = search needs
+mul-ran : tie.Need-mul-ran Inv-loop μ-loop
+mul-ran c = search needs
+
+element-copy-out-ran : tie.Need-element-copy-out-ran Inv-loop μ-loop
+element-copy-out-ran c = search needs
 
 put-process-requires : tie.Need-put-process-requires Inv-loop μ-loop
 put-process-requires c κs = search needs
@@ -47,13 +50,14 @@ loop-less c = search needs
 
 loop-again : tie.Need-loop-again Inv-loop μ-loop
 loop-again c =
-    let turn = c .before .before .before .before .before in
+    let place = c .before .before .before in
+    let turn = place .before .before .before in
     let start = turn .before in
     let a = start .args in
     let sixteen : length (a .all .list) ≡ 16 = simp length-map at (start .good .0 .1 .1 .0 .1 .0 .1) in
     let next = firsts-one-more (putAt (a .t2)) (turn .loop .i) (a .all .list) noStationProcess (omega (arith, sixteen, start .pre)) in (
       omega arith,
-      c .with-process .ensures ∙ simp (c .before .put-process .ensures, turn .loop .inv .1) (ap (λ (l : List StationProcess). record { list = l }) next),
+      c .with-process .ensures ∙ simp (c .before .put-process .ensures, place .record-place .ensures, place .before .process-at .ensures, turn .loop .inv .1) (ap (λ (l : List StationProcess). record { list = l }) next),
     )
 
 returns : tie.Need-returns Inv-loop μ-loop
@@ -70,10 +74,11 @@ processes-ran-spec =
     Inv-loop
     μ-loop
     loop-holds
-    mul-put-process
-    element-copy-out-put-process
-    mul-put-process-2
-    element-copy-out-put-process-2
+    cast-t12
+    process-at-requires
+    record-place-requires
+    mul-ran
+    element-copy-out-ran
     put-process-requires
     with-process-requires
     add-i

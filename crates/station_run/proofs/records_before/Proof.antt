@@ -26,13 +26,13 @@ records-of-requires : tie.Need-records-of-requires Inv-loop μ-loop
 records-of-requires c κs = search needs
 
 loop-holds : tie.Need-loop-holds Inv-loop μ-loop
-loop-holds c = (omega arith, c .records-of .ensures ∙ simp (c .before .no-process .ensures) (seen-none (c .before .before .args .t1 .list)))
+loop-holds c = (omega arith, c .records-of .ensures ∙ simp (c .before .no-process .ensures) (seen-none (c .before .before .args .all .list)))
 
-mul-process-of : tie.Need-mul-process-of Inv-loop μ-loop
-mul-process-of c = search needs
+cast-t8 : tie.Need-cast-t8 Inv-loop μ-loop
+cast-t8 c = search needs
 
-element-copy-out-process-of : tie.Need-element-copy-out-process-of Inv-loop μ-loop
-element-copy-out-process-of c = search needs
+process-at-requires : tie.Need-process-at-requires Inv-loop μ-loop
+process-at-requires c κs = search needs
 
 process-of-requires : tie.Need-process-of-requires Inv-loop μ-loop
 process-of-requires c κs = search needs
@@ -50,16 +50,16 @@ loop-again : tie.Need-loop-again Inv-loop μ-loop
 loop-again c =
     let turn = c .before .before .before .before in
     let start = turn .before .before .before in
-    let l = start .args .t1 .list in
+    let l = start .args .all .list in
     let sixteen : length l ≡ 16 = simp length-map at (start .good .0 .1 .1 .0 .1 .0 .1) in (
       omega arith,
-      c .with-record .ensures ∙ simp (c .before .process-of .ensures, turn .loop .inv .1) (seen-next l (turn .loop .i) (omega (arith, sixteen))),
+      c .with-record .ensures ∙ simp (c .before .process-of .ensures, c .before .before .process-at .ensures, turn .loop .inv .1) (seen-next l (turn .loop .i) (omega (arith, sixteen))),
     )
 
 returns : tie.Need-returns Inv-loop μ-loop
 returns c =
     let turn = c .before in
-    let l = turn .before .before .before .args .t1 .list in
+    let l = turn .before .before .before .args .all .list in
     turn .loop .inv .1 ∙ ap (gathered (map (processOf record0) l) noProcess) (let z : turn .loop .i ≡ 16 = omega arith in z)
 
 pub records-before-spec : {M : Type 1} → statement M
@@ -71,8 +71,8 @@ records-before-spec =
     no-process-requires
     records-of-requires
     loop-holds
-    mul-process-of
-    element-copy-out-process-of
+    cast-t8
+    process-at-requires
     process-of-requires
     with-record-requires
     add-i

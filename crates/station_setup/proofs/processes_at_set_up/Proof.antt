@@ -22,11 +22,11 @@ abbrev μ-loop : tie.MeasureT-loop
 loop-holds : tie.Need-loop-holds Inv-loop μ-loop
 loop-holds c = search needs
 
-mul-process-for : tie.Need-mul-process-for Inv-loop μ-loop
-mul-process-for c = search needs
+cast-t10 : tie.Need-cast-t10 Inv-loop μ-loop
+cast-t10 c = search needs
 
-element-copy-out-process-for : tie.Need-element-copy-out-process-for Inv-loop μ-loop
-element-copy-out-process-for c = search needs
+process-at-requires : tie.Need-process-at-requires Inv-loop μ-loop
+process-at-requires c κs = search needs
 
 process-for-requires : tie.Need-process-for-requires Inv-loop μ-loop
 process-for-requires c κs = search needs
@@ -48,7 +48,7 @@ loop-again c =
     let sixteen : length (a .all .list) ≡ 16 = simp length-map at (start .good .0 .1 .1 .0 .1 .0 .1) in
     let next = firsts-one-more (processFor (a .n) (a .r)) (turn .loop .i) (a .all .list) noStationProcess (omega (arith, sixteen, start .pre)) in (
       omega arith,
-      c .with-process .ensures ∙ simp (c .before .process-for .ensures, turn .loop .inv .1) (ap (λ (l : List StationProcess). record { list = l }) next),
+      c .with-process .ensures ∙ simp (c .before .process-for .ensures, c .before .before .process-at .ensures, turn .loop .inv .1) (ap (λ (l : List StationProcess). record { list = l }) next),
     )
 
 returns : tie.Need-returns Inv-loop μ-loop
@@ -65,8 +65,8 @@ processes-at-set-up-spec =
     Inv-loop
     μ-loop
     loop-holds
-    mul-process-for
-    element-copy-out-process-for
+    cast-t10
+    process-at-requires
     process-for-requires
     with-process-requires
     add-i

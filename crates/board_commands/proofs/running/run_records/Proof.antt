@@ -34,8 +34,8 @@ returns c =
     let out = c .before .before .before .before .before in let turn = out .before .before in
     refused (turn .before .loop .inv) (omega (arith, turn .loop-test .taken)) _ _ (out .decide-at .ensures) _ (c .before .before .number-of .ensures) (c .before .if1 .taken) _ (c .left-with .ensures)
 
-with-process-requires : tie.Need-with-process-requires Inv-loop μ-loop
-with-process-requires c κs =
+with-lent-requires : tie.Need-with-lent-requires Inv-loop μ-loop
+with-lent-requires c κs =
     let at1 = c .before .before in let n = at1 .before in let out = n .before .before .before in let turn = out .before .before in
     let ok = accepted-place _ _ _ _ _ _ _ (out .decide-at .ensures) _ (n .number-of .ensures) (at1 .if1 .left) in
     omega (arith, ok .place, ok .most)
@@ -66,7 +66,7 @@ loop-again : tie.Need-loop-again Inv-loop μ-loop
 loop-again c =
     let at1 = c .before .before .before in let n = at1 .before in let out = n .before .before .before in let turn = out .before .before in
     let i = turn .before .loop .inv in
-    goes-on i (omega (arith, turn .loop-test .taken)) _ _ (out .decide-at .ensures) _ (n .number-of .ensures) (at1 .if1 .left) (out .decide-at .kept .1 .1 .1 .1 .1 .0) _ (c .with-process .ensures)
+    goes-on i (omega (arith, turn .loop-test .taken)) _ _ (out .decide-at .ensures) _ (n .number-of .ensures) (at1 .if1 .left) (out .decide-at .kept .1 .1 .1 .1 .1 .0) _ (c .with-lent .ensures)
 
 left-with-requires-2 : tie.Need-left-with-requires-2 Inv-loop μ-loop
 left-with-requires-2 c κs = search needs
@@ -89,7 +89,7 @@ run-records-spec =
     left-with-requires
     same-length
     returns
-    with-process-requires
+    with-lent-requires
     add-at
     sub-left
     add-done

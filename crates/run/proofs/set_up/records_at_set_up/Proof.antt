@@ -15,8 +15,8 @@ abbrev μ-loop : tie.MeasureT-loop
 loop-holds : tie.Need-loop-holds Inv-loop μ-loop
 loop-holds c = (refl, omega arith)
 
-cast-t7 : tie.Need-cast-t7 Inv-loop μ-loop
-cast-t7 c = omega (arith, c .loop-test .taken, c .before .before .pre)
+cast-t8 : tie.Need-cast-t8 Inv-loop μ-loop
+cast-t8 c = omega (arith, c .loop-test .taken, c .before .before .pre)
 
 record-at-set-up-requires : tie.Need-record-at-set-up-requires Inv-loop μ-loop
 record-at-set-up-requires c κs = (c .before .before .pre, omega (arith, c .loop-test .taken, c .before .before .pre))
@@ -48,7 +48,7 @@ records-at-set-up-spec =
     Inv-loop
     μ-loop
     loop-holds
-    cast-t7
+    cast-t8
     record-at-set-up-requires
     with-record-requires
     add-p
