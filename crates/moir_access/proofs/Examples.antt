@@ -16,7 +16,8 @@ use Rattle.moir_model.proofs.Schedules.{l, v, s, steps, dirty}
 use Rattle.listing.specs.Quoted.{quoted}
 use Rattle.listing.specs.Decimal.{digits, decimal}
 use Rattle.moir_access.specs.Accesses.{accessOf}
-use Rattle.moir_access.specs.TraceParts.{spaced, bracketed, itemText, valuesText, truthText, actText, shown}
+use Rattle.moir_access.specs.TraceParts.{spaced, bracketed, itemText, pairText, valuesText, truthText}
+use Rattle.moir_access.specs.TraceParts.{casText, actText, shown}
 
 -- of a step of p: p and the access, on a line of its own
 lineOf : ℕ → Order → Memory → List ℕ
@@ -33,7 +34,8 @@ traced m (c ∷ cs) = lineOf (c .process) (c .order) m ++ traced (command m (c .
 
 -- `2 1 5`, `0l 0! 0s7 0! 1l 1! 0v 0!`
 first-steps :
-    traced (setUp dirty 2 1 (5 ∷ []) .1) (l 0 ++ steps 3 0 ++ s 1 0 7 ++ steps 8 0 ++ l 1 ++ steps 3 1 ++ v 0 ++ steps 1 0)
+    traced (setUp dirty 2 1 (5 ∷ []) .1)
+    (l 0 ++ steps 3 0 ++ s 1 0 7 ++ steps 8 0 ++ l 1 ++ steps 3 1 ++ v 0 ++ steps 1 0)
     ≡ quoted "0 10 hdr read 0 0\n"
     ++ quoted "0 2 data[0] read 0 5\n"
     ++ quoted "0 7 hdr read 0 0\n"
@@ -50,14 +52,14 @@ first-steps :
     ++ quoted "1 7 hdr read 1 0\n"
     ++ quoted "0 13 hdr read 1 0\n"
 unfolding traced lineOf command refusal inRange obey stepAt accessOf setUp setUpRefusal spaced bracketed itemText
-    valuesText truthText actText shown decimal digits
+    pairText valuesText truthText casText actText shown decimal digits
 first-steps = refl
 
 -- `2 1 5`, `0l 0! 0s6 5(0.) 1l 2(1.) 0! 0l 0! 0s7 2(0.) 1! 1s8 1! 0!`: a CAS on the segment and one on the header fail
 second-read :
     traced (setUp dirty 2 1 (5 ∷ []) .1)
-    (l 0 ++ steps 3 0 ++ s 1 0 6 ++ steps 5 0 ++ l 1 ++ steps 2 1 ++ steps 3 0 ++ l 0 ++ steps 3 0 ++ s 1 0 7 ++ steps 2 0 ++ steps 4 1
-    ++ s 1 1 8 ++ steps 8 1 ++ steps 1 0)
+    (l 0 ++ steps 3 0 ++ s 1 0 6 ++ steps 5 0 ++ l 1 ++ steps 2 1 ++ steps 3 0 ++ l 0 ++ steps 3 0 ++ s 1 0 7
+    ++ steps 2 0 ++ steps 4 1 ++ s 1 1 8 ++ steps 8 1 ++ steps 1 0)
     ≡ quoted "0 10 hdr read 0 0\n"
     ++ quoted "0 2 data[0] read 0 5\n"
     ++ quoted "0 7 hdr read 0 0\n"
@@ -90,7 +92,7 @@ second-read :
     ++ quoted "1 7 hdr read 2 1\n"
     ++ quoted "0 19 hdr CAS 1 0 2 0 false\n"
 unfolding traced lineOf command refusal inRange obey stepAt accessOf setUp setUpRefusal spaced bracketed itemText
-    valuesText truthText actText shown decimal digits
+    pairText valuesText truthText casText actText shown decimal digits
 second-read = refl
 
 -- `2 2 5`, `0l 0! 0s6 12(0.)`: the tags of the two segments differ between the copies of word 0 and of word 1
@@ -114,5 +116,5 @@ two-words :
     ++ quoted "0 4 A[0][1] read 6\n"
     ++ quoted "0 5 data[1] CAS 0 5 1 6 true\n"
 unfolding traced lineOf command refusal inRange obey stepAt accessOf setUp setUpRefusal spaced bracketed itemText
-    valuesText truthText actText shown decimal digits
+    pairText valuesText truthText casText actText shown decimal digits
 two-words = refl

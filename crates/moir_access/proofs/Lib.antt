@@ -1,3 +1,6 @@
 pub mod Examples
 pub mod PlaceLaws
 pub mod Theorems
+pub mod TextLaws
+pub mod Lengths
+pub mod SmallLaws

@@ -40,19 +40,22 @@ pub own-put : (b : Bench) (ws : List ℕ) (r k v : ℕ) → k < b .w → b .n < 
     → itemAt i b (set ws (r * b .w + k) v) ≡ itemAt i b ws
 own-put b ws r k v hk hr Hdr there = refl
 own-put b ws r k v hk hr (Data j) there =
-    ap (λ (x : ℕ). record { first = getD (b .tags) j 0; second = x }) (row-stays b ws r k v hk (b .n) j there (λ e. omega arith))
-own-put b ws r k v hk hr (Announced q j) there = ap wordContent (row-stays b ws r k v hk (q .0) j (there .1) (λ e. omega (arith, there .0)))
+    ap (λ (x : ℕ). record { first = getD (b .tags) j 0; second = x })
+    (row-stays b ws r k v hk (b .n) j there (λ e. omega arith))
+own-put b ws r k v hk hr (Announced q j) there =
+    ap wordContent (row-stays b ws r k v hk (q .0) j (there .1) (λ e. omega (arith, there .0)))
 
 -- a word of A is put
-pub word-there : (b : Bench) (ws : List ℕ) (p : ProcessNumber) (k v : ℕ) → p .0 < b .n → k < b .w → lentWords (b .n) (b .w) ≤ length ws
-    → itemAt (Announced p k) b (set ws (p .0 * b .w + k) v) ≡ wordContent v
+pub word-there : (b : Bench) (ws : List ℕ) (p : ProcessNumber) (k v : ℕ) → p .0 < b .n → k < b .w
+    → lentWords (b .n) (b .w) ≤ length ws → itemAt (Announced p k) b (set ws (p .0 * b .w + k) v) ≡ wordContent v
 word-there b ws p k v hp hk lent = ap wordContent (getD-set-same ws (p .0 * b .w + k) v 0 (lies (b .n) (omega (arith, hp)) hk lent))
 
 pub word-elsewhere : (b : Bench) (ws : List ℕ) (p : ProcessNumber) (k v : ℕ) → p .0 < b .n → k < b .w → (i : Item) → InBench b i
     → i ≢ Announced p k → itemAt i b (set ws (p .0 * b .w + k) v) ≡ itemAt i b ws
 word-elsewhere b ws p k v hp hk Hdr there ne = refl
 word-elsewhere b ws p k v hp hk (Data j) there ne =
-    ap (λ (x : ℕ). record { first = getD (b .tags) j 0; second = x }) (row-stays b ws (p .0) k v hk (b .n) j there (λ e. omega (arith, hp)))
+    ap (λ (x : ℕ). record { first = getD (b .tags) j 0; second = x })
+    (row-stays b ws (p .0) k v hk (b .n) j there (λ e. omega (arith, hp)))
 word-elsewhere b ws p k v hp hk (Announced q j) there ne =
     ap wordContent (getD-set-other ws (p .0 * b .w + k) (q .0 * b .w + j) v 0 (λ e. ne (same (row-and-place (there .1) hk e))))
   where
@@ -60,8 +63,8 @@ word-elsewhere b ws p k v hp hk (Announced q j) there ne =
     same e = ap₂ (λ (x y : ℕ). Announced (record { 0 = x }) y) (e .0) (e .1)
 
 -- a segment is put: its tag and its word
-pub segment-there : (b : Bench) (ws : List ℕ) (k t v : ℕ) → k < b .w → b .w ≤ length (b .tags) → lentWords (b .n) (b .w) ≤ length ws
-    → itemAt (Data k) (putTag b k t) (putValue b ws k v) ≡ record { first = t; second = v }
+pub segment-there : (b : Bench) (ws : List ℕ) (k t v : ℕ) → k < b .w → b .w ≤ length (b .tags)
+    → lentWords (b .n) (b .w) ≤ length ws → itemAt (Data k) (putTag b k t) (putValue b ws k v) ≡ record { first = t; second = v }
 segment-there b ws k t v hk tags lent =
     ap₂ (λ (x y : ℕ). record { first = x; second = y }) (getD-set-same (b .tags) k t 0 (omega (arith, hk, tags)))
     (getD-set-same ws (segmentWord (b .n) (b .w) k) v 0 (lies (b .n) (omega arith) hk lent))
@@ -71,5 +74,7 @@ pub segment-elsewhere : (b : Bench) (ws : List ℕ) (k t v : ℕ) → k < b .w �
 segment-elsewhere b ws k t v hk Hdr there ne = refl
 segment-elsewhere b ws k t v hk (Data j) there ne =
     let other : j ≢ k = λ e. ne (ap Data e) in
-    ap₂ (λ (x y : ℕ). record { first = x; second = y }) (getD-set-other (b .tags) k j t 0 other) (place-stays b ws (b .n) k v hk (b .n) j there other)
-segment-elsewhere b ws k t v hk (Announced q j) there ne = ap wordContent (row-stays b ws (b .n) k v hk (q .0) j (there .1) (λ e. omega (arith, there .0)))
+    ap₂ (λ (x y : ℕ). record { first = x; second = y }) (getD-set-other (b .tags) k j t 0 other)
+    (place-stays b ws (b .n) k v hk (b .n) j there other)
+segment-elsewhere b ws k t v hk (Announced q j) there ne =
+    ap wordContent (row-stays b ws (b .n) k v hk (q .0) j (there .1) (λ e. omega (arith, there .0)))

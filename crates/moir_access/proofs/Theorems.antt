@@ -36,13 +36,16 @@ use Rattle.moir_access.specs.Truth.{TellsTruth, casReply, Gets, Stepped}
 use Rattle.moir_access.proofs.PlaceLaws.{own-put, word-there, word-elsewhere, segment-there, segment-elsewhere}
 
 -- two pairs of numbers are compared one number after the other
-pair-same : {t v t′ v′ : ℕ} → eqb t t′ && eqb v v′ ≡ true → _≡_ {A = Content} (record { first = t; second = v }) (record { first = t′; second = v′ })
+pair-same : {t v t′ v′ : ℕ} → eqb t t′ && eqb v v′ ≡ true
+    → _≡_ {A = Content} (record { first = t; second = v }) (record { first = t′; second = v′ })
 pair-same {t} {v} {t′} {v′} e =
     let first = eqb-true t t′ (left (eqb t t′) (eqb v v′) e) in let second = eqb-true v v′ (right (eqb t t′) (eqb v v′) e) in
     ap₂ (λ (x y : ℕ). record { first = x; second = y }) first second
 
-pair-differs : {t v t′ v′ : ℕ} → eqb t t′ && eqb v v′ ≡ false → _≢_ {A = Content} (record { first = t; second = v }) (record { first = t′; second = v′ })
-pair-differs {t} {v} {t′} {v′} e z = contra (and-both (eq-eqb t t′ (ap (λ (c : Content). c .first) z)) (eq-eqb v v′ (ap (λ (c : Content). c .second) z))) e
+pair-differs : {t v t′ v′ : ℕ} → eqb t t′ && eqb v v′ ≡ false
+    → _≢_ {A = Content} (record { first = t; second = v }) (record { first = t′; second = v′ })
+pair-differs {t} {v} {t′} {v′} e z =
+    contra (and-both (eq-eqb t t′ (ap (λ (c : Content). c .first) z)) (eq-eqb v v′ (ap (λ (c : Content). c .second) z))) e
 
 -- a read leaves every item as it was
 read-tells : (line : ℕ) (i : Item) {v : Content} (b : Bench) (ws : List ℕ) → InBench b i → itemAt i b ws ≡ v
@@ -50,7 +53,8 @@ read-tells : (line : ℕ) (i : Item) {v : Content} (b : Bench) (ws : List ℕ) �
 read-tells line i b ws there e = record { there = there; item = (e, refl); others = λ j inside ne. refl }
 
 -- the header is put
-header-elsewhere : (b : Bench) (h : Header) (ws : List ℕ) (i : Item) → InBench b i → i ≢ Hdr → itemAt i (putHeader b h) ws ≡ itemAt i b ws
+header-elsewhere : (b : Bench) (h : Header) (ws : List ℕ) (i : Item) → InBench b i → i ≢ Hdr
+    → itemAt i (putHeader b h) ws ≡ itemAt i b ws
 header-elsewhere b h ws Hdr there ne = absurd (ne refl)
 header-elsewhere b h ws (Data k) there ne = refl
 header-elsewhere b h ws (Announced q k) there ne = refl
@@ -63,8 +67,13 @@ module _ {b : Bench} {q : Process} {p : ProcessNumber} {ws : List ℕ} (s : Step
   tags-in = omega (arith, s .tags, s .ready .standing .w-most)
 
   -- line 7 in a WLL, with line 8, which writes to the own return area
-  saved : (t : Bool) → TellsTruth (headerRead 7 (b .header)) b ws b (cond t (set ws (returnWord (b .n) (b .w) p (q .word)) (q .y .val)) ws)
-  saved true = record { there = tt; item = (refl, refl); others = λ i inside ne. own-put b ws (b .n + 1 + p .0) (q .word) (q .y .val) k-in (omega arith) i inside }
+  saved : (t : Bool)
+      → TellsTruth (headerRead 7 (b .header)) b ws b (cond t (set ws (returnWord (b .n) (b .w) p (q .word)) (q .y .val)) ws)
+  saved true = record {
+    there = tt;
+    item = (refl, refl);
+    others = λ i inside ne. own-put b ws (b .n + 1 + p .0) (q .word) (q .y .val) k-in (omega arith) i inside;
+  }
   saved false = read-tells 7 Hdr b ws tt refl
 
   -- line 5, shown as done or not done
@@ -73,8 +82,8 @@ module _ {b : Bench} {q : Process} {p : ProcessNumber} {ws : List ℕ} (s : Step
 
   abbrev SegmentCas : Bool → Bool → Type 0
   SegmentCas told done =
-      TellsTruth (record { line = 5; item = Data (q .word); act = Cas told; values = segmentContent (q .y); new = segmentContent (q .z) }) b ws
-      (putTag b (q .word) (cond done (q .z) g .tag)) (putValue b ws (q .word) (cond done (q .z) g .val))
+      TellsTruth (record { line = 5; item = Data (q .word); act = Cas told; values = segmentContent (q .y); new = segmentContent (q .z) })
+      b ws (putTag b (q .word) (cond done (q .z) g .tag)) (putValue b ws (q .word) (cond done (q .z) g .val))
 
   segment-cas : (t : Bool) → sameSegment g (q .y) ≡ t → SegmentCas t t
   segment-cas true e = record {
@@ -94,14 +103,15 @@ module _ {b : Bench} {q : Process} {p : ProcessNumber} {ws : List ℕ} (s : Step
   -- line 19, likewise
   abbrev HeaderCas : Bool → Bool → Type 0
   HeaderCas told done =
-      TellsTruth (record { line = 19; item = Hdr; act = Cas told; values = headerContent (q .oldhdr); new = headerContent (q .newhdr) }) b ws
-      (putHeader b (cond done (q .newhdr) (b .header))) ws
+      TellsTruth (record { line = 19; item = Hdr; act = Cas told; values = headerContent (q .oldhdr); new = headerContent (q .newhdr) })
+      b ws (putHeader b (cond done (q .newhdr) (b .header))) ws
 
   header-cas : (t : Bool) → sameHeader (b .header) (q .oldhdr) ≡ t → HeaderCas t t
   header-cas true e = record { there = tt; item = (pair-same e, refl); others = header-elsewhere b (q .newhdr) ws }
   header-cas false e = record { there = tt; item = (pair-differs e, refl); others = header-elsewhere b (b .header) ws }
 
-  header-tells : {told : Bool} → sameHeader (b .header) (q .oldhdr) ≡ told → HeaderCas told (sameHeader (b .header) (q .oldhdr))
+  header-tells : {told : Bool} → sameHeader (b .header) (q .oldhdr) ≡ told
+      → HeaderCas told (sameHeader (b .header) (q .oldhdr))
   header-tells {told} e = subst (HeaderCas told) (sym e) (header-cas told e)
 
   -- lines 4 and 17
@@ -112,8 +122,8 @@ module _ {b : Bench} {q : Process} {p : ProcessNumber} {ws : List ℕ} (s : Step
   new-in = (s .ready .new-pid, k-in)
 
   word-written : (v : ℕ)
-      → TellsTruth (record { line = 17; item = Announced p (q .word); act = Write; values = wordContent v; new = noContent }) b ws b
-      (set ws (announcedWord (b .w) p (q .word)) v)
+      → TellsTruth (record { line = 17; item = Announced p (q .word); act = Write; values = wordContent v; new = noContent })
+      b ws b (set ws (announcedWord (b .w) p (q .word)) v)
   word-written v = record {
     there = (s .ready .process, k-in);
     item = word-there b ws p (q .word) v (s .ready .process) k-in (s .ready .standing .words);
@@ -143,7 +153,8 @@ module _ {b : Bench} {q : Process} {p : ProcessNumber} {ws : List ℕ} (s : Step
 
 -- lines 2, 7, 14 and 19 go on by what they read; what they set is the same either way
 y-set : (k j : ℕ) (hdr : Header) (g : Segment) (q : Process) → segmentContent (doLine2 k j hdr g q .y) ≡ segmentContent g
-y-set k j hdr g q = by-test (λ (r : Process). segmentContent (r .y) ≡ segmentContent g) (eqb (g .tag) (previousTag (hdr .tag))) (λ e. refl) (λ e. refl)
+y-set k j hdr g q =
+    by-test (λ (r : Process). segmentContent (r .y) ≡ segmentContent g) (eqb (g .tag) (previousTag (hdr .tag))) (λ e. refl) (λ e. refl)
 
 module _ (h : Header) (q : Process) where
   abbrev HSet : LineStep → Type 0
@@ -153,21 +164,25 @@ module _ (h : Header) (q : Process) where
   h-set w = by-test HSet (saves h q) (λ e. by-test HSet (ltb (q .word + 1) w) (λ f. refl) (λ f. refl)) (λ e. refl)
 
   h-set-copy : (w : ℕ) → HSet (doLine7Copy w h q)
-  h-set-copy w = by-test HSet (sameHeader h (q .newhdr)) (λ e. by-test HSet (ltb (q .word + 1) w) (λ f. refl) (λ f. refl)) (λ e. refl)
+  h-set-copy w =
+      by-test HSet (sameHeader h (q .newhdr)) (λ e. by-test HSet (ltb (q .word + 1) w) (λ f. refl) (λ f. refl)) (λ e. refl)
 
   old-set : headerContent (doLine14 h q .process .oldhdr) ≡ headerContent h
-  old-set = by-test (λ (s : LineStep). headerContent (s .process .oldhdr) ≡ headerContent h) (eqb (h .tag) (q .keep)) (λ e. refl) (λ e. refl)
+  old-set =
+      by-test (λ (s : LineStep). headerContent (s .process .oldhdr) ≡ headerContent h) (eqb (h .tag) (q .keep)) (λ e. refl) (λ e. refl)
 
   cas-told : doLine19 h q .reply ≡ casReply (Cas (sameHeader h (q .oldhdr))) (q .count + 1)
   cas-told = by (sameHeader h (q .oldhdr))
     where
       by : (t : Bool)
-          → cond t (goesOn (to sc2 q)) (record { process = rest q; reply = ScAnswered false (q .count + 1) }) .reply ≡ casReply (Cas t) (q .count + 1)
+          → cond t (goesOn (to sc2 q)) (record { process = rest q; reply = ScAnswered false (q .count + 1) }) .reply
+          ≡ casReply (Cas t) (q .count + 1)
       by true = refl
       by false = refl
 
 -- what is shown as read is what the process gets, and the truth of line 19's CAS is what it goes by
-pub process-gets : (y : Point) (p : ProcessNumber) (b : Bench) (q : Process) (ws : List ℕ) → Gets y (accessOf y p b q ws) q (stepAt y p b q ws .0)
+pub process-gets : (y : Point) (p : ProcessNumber) (b : Bench) (q : Process) (ws : List ℕ)
+    → Gets y (accessOf y p b q ws) q (stepAt y p b q ws .0)
 unfolding accessOf stepAt
 process-gets idle p b q ws = tt
 process-gets ll10 p b q ws = (refl, refl)

@@ -27,14 +27,24 @@ headerRead line h = record { line = line; item = Hdr; act = Read; values = heade
 
 -- Line 19: CAS(addr, oldhdr, newhdr), done where the header h is the one expected.
 abbrev pub headerCas : Header → Process → Access
-headerCas h q =
-    record { line = 19; item = Hdr; act = Cas (sameHeader h (q .oldhdr)); values = headerContent (q .oldhdr); new = headerContent (q .newhdr) }
+headerCas h q = record {
+  line = 19;
+  item = Hdr;
+  act = Cas (sameHeader h (q .oldhdr));
+  values = headerContent (q .oldhdr);
+  new = headerContent (q .newhdr);
+}
 
 -- Lines 2 and 6: segment i is read. Line 2: y := addr->data[i]. Line 6: "a further step reads the segment again
 -- into y" (02, CR 8).
 abbrev pub segmentRead : ℕ → Bench → Process → List ℕ → Access
-segmentRead line b q ws =
-    record { line = line; item = Data (q .word); act = Read; values = segmentContent (segmentAt b ws (q .word)); new = noContent }
+segmentRead line b q ws = record {
+  line = line;
+  item = Data (q .word);
+  act = Read;
+  values = segmentContent (segmentAt b ws (q .word));
+  new = noContent;
+}
 
 -- Line 5: CAS(addr->data[i], y, z), done where the segment is the one expected.
 abbrev pub segmentCas : Bench → Process → List ℕ → Access

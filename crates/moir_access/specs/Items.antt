@@ -1,5 +1,5 @@
--- The shared items of Moir's bench, the header, a segment, a word of the array A (02, CR 8: "one whole access to a step: a
--- CAS, a header read, a segment read or a word of the array A"), and what each holds, as a trace names it.
+-- The shared items of Moir's bench, the header, a segment, a word of the array A (02, CR 8: "one whole access to a step:
+-- a CAS, a header read, a segment read or a word of the array A"), and what each holds, as a trace names it.
 use Prim.Native.Nat.{ℕ, _<_}
 use mathlib.Core.List.{List}
 use lib.ListN.{getD}

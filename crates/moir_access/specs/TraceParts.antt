@@ -26,21 +26,28 @@ itemText Hdr = quoted " hdr"
 itemText (Data k) = quoted " data" ++ bracketed k
 itemText (Announced q k) = quoted " A" ++ (bracketed (q .0) ++ bracketed k)
 
+unfoldable pub pairText : Content → List ℕ
+pairText v = spaced (v .first) ++ spaced (v .second)
+
 -- the header is named by a tag and a process, a segment by a tag and a word, a word of A by the word
 unfoldable pub valuesText : Item → Content → List ℕ
-valuesText Hdr v = spaced (v .first) ++ spaced (v .second)
-valuesText (Data k) v = spaced (v .first) ++ spaced (v .second)
+valuesText Hdr v = pairText v
+valuesText (Data k) v = pairText v
 valuesText (Announced q k) v = spaced (v .first)
 
 unfoldable pub truthText : Bool → List ℕ
 truthText true = quoted " true"
 truthText false = quoted " false"
 
--- "`read values`", "`write word`", "`CAS expected new true`" and "`CAS expected new false`"
+-- "`CAS expected new true`" and "`CAS expected new false`"
+unfoldable pub casText : Item → Content → Content → Bool → List ℕ
+casText item v u t = quoted " CAS" ++ (valuesText item v ++ (valuesText item u ++ truthText t))
+
+-- "`read values`", "`write word`", or a CAS
 unfoldable pub actText : Act → Item → Content → Content → List ℕ
 actText Read item v u = quoted " read" ++ valuesText item v
 actText Write item v u = quoted " write" ++ valuesText item v
-actText (Cas t) item v u = quoted " CAS" ++ (valuesText item v ++ (valuesText item u ++ truthText t))
+actText (Cas t) item v u = casText item v u t
 
 -- "The line is Figure 6's", then the item, then the act
 unfoldable pub shown : Access → List ℕ

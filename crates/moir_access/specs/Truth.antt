@@ -21,8 +21,8 @@ use Rattle.moir_access.specs.declared.Content.{Content}
 use Rattle.moir_access.specs.declared.Access.{Access}
 use Rattle.moir_access.specs.Items.{headerContent, segmentContent, wordContent, itemAt, InBench}
 
--- What an act with the values v and the new values u says of its item, which held `old` before the step and holds `left`
--- after it (docs/TRACE.md's table).
+-- What an act with the values v and the new values u says of its item, which held `old` before the step and holds
+-- `left` after it (docs/TRACE.md's table).
 abbrev pub Says : Act → Content → Content → Content → Content → Type 0
 -- "what was read": the item held it, and stays as it was
 Says Read v u old left = (old ≡ v) × (left ≡ old)

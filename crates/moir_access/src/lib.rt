@@ -2,6 +2,14 @@
 // them.
 use llsc::ProcessNumber;
 
+pub mod access_of;
+mod contents;
+mod on_array;
+mod on_header;
+mod on_segment;
+mod texts;
+pub mod write_access;
+
 // A shared item: the header `hdr`, segment k, `data[k]`, or word k of process q's row of A, `A[q][k]`.
 pub enum Item {
     Hdr,
@@ -23,8 +31,8 @@ pub struct Content {
     pub second: u64,
 }
 
-// An access: the line of Figure 6, the item, the act; the values that were read, are written or, in a CAS, expected; and
-// the new values of a CAS, 0 elsewhere.
+// An access: the line of Figure 6, the item, the act; the values that were read, are written or, in a CAS, expected;
+// and the new values of a CAS, 0 elsewhere.
 pub struct Access {
     pub line: u8,
     pub item: Item,
