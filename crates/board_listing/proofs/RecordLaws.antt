@@ -17,12 +17,14 @@ use Rattle.notation.specs.declared.Entry.the-variants.{StartLl, StartVl, StartS
 use Rattle.notation.specs.Grammar.{largest}
 use Rattle.notation.specs.EntryWords.{entryIn, keptEntry}
 use Rattle.boards.specs.Files.{BoardRecord}
-use Rattle.carrying.specs.Carried.{entriesIn, Carries}
-use Rattle.semantics.proofs.KeptLaws.{kept-run}
+use Rattle.text_runs.specs.KeptEntries.{entriesIn}
+use Rattle.carrying.specs.Carried.{Carries}
+use Rattle.text_runs.proofs.KeptLaws.{kept-run}
+use Rattle.semantics.proofs.FarLaws.{far-refused}
 use Rattle.text_runs.specs.TextRun.{mostEntries, roomNeeded, processOf, orderOf, valueOf}
 use Rattle.text_runs.specs.TextRun as TR
-use Rattle.semantics.specs.TextRun.{Progress, stopped, lineOf, linesOf, traceLine, counted, commanded, single, carry, carryAll}
-use Rattle.semantics.proofs.SingleEntries.{outcome}
+use Rattle.semantics.specs.TextRun.{figure2, Progress, stopped, lineOf, linesOf, traceLine, counted, commanded, single, carry, carryAll}
+use Rattle.text_runs.proofs.SingleEntries.{outcome}
 use Rattle.entry.specs.RunState.{RunState, stateOf, progress, Ready, Small, Becomes, answerLine}
 use Rattle.entry.proofs.WordLaws.{Below}
 use Rattle.entry.proofs.CommandLaws.{Decides, decides}
@@ -48,7 +50,7 @@ module _ (e : Entry) (s : Progress) (z : s .stop ≡ 0) (none : s .entries ≡ 0
   tight = ltb (length (s .listing) - s .written) (roomNeeded false)
 
   abbrev out : Reply × Memory
-  out = outcome e s
+  out = outcome figure2 e s
 
   abbrev accepted : Bool
   accepted = eqb (numberOf (out .0)) 0
@@ -155,7 +157,7 @@ pub only-entry : {h h′ : RunState} {at : ℕ} (word : ℕ) (e : Entry) → Bet
     → Carries 16 (entriesIn 1 (word ∷ [])) h h′ at → Becomes 16 (carry e) h h′
 unfolding TR.carryAll
 only-entry {h} word e b w x = record {
-  same = x .becomes .same ∙ ap (λ (y : Entry). carryAll (y ∷ []) (progress 16 h)) w ∙ kept-run (e ∷ []) (progress 16 h) (b .none);
+  same = x .becomes .same ∙ ap (λ (y : Entry). carryAll (y ∷ []) (progress 16 h)) w ∙ kept-run figure2 far-refused (e ∷ []) (progress 16 h) (b .none);
   kept = x .becomes .kept;
 }
 

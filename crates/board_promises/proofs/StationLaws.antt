@@ -25,8 +25,8 @@ use Rattle.board_commands.specs.declared.FileRun.{FileRun}
 use Rattle.board_commands.specs.BoardRun.{orderOf, runRecords}
 use Rattle.semantics.specs.TextRun as text
 use Rattle.text_runs.specs.TextRun.{roomNeeded, processOf, valueOf}
-use Rattle.semantics.specs.TextRun.{Progress, stopped, linesOf, counted}
-use Rattle.semantics.proofs.SingleEntries.{outcome}
+use Rattle.semantics.specs.TextRun.{figure2, Progress, stopped, linesOf, counted}
+use Rattle.text_runs.proofs.SingleEntries.{outcome}
 use Rattle.board_listing.specs.BoardListing.{entryOf, obeyAll}
 
 -- The entry of a record is its command: only an SC's value is looked at.
@@ -64,7 +64,7 @@ module _ (r : BoardRecord) (rs : List BoardRecord) (s : StationMemory) (m : Memo
   out = stationCommand s (onTheOne c)
 
   abbrev mine : Reply × Memory
-  mine = outcome (entryOf r) p
+  mine = outcome figure2 (entryOf r) p
 
   alike : mine ≡ command m (r .process) (orderOf (r .order)) (replicate (s .w) (r .value))
   alike =

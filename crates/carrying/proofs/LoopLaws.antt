@@ -6,7 +6,7 @@ use Prim.Native.Nat.{ℕ, _+_, _-_, _≤_, _<_}
 use native.Mathlib.Omega.{arith}
 use lib.Dec.{eqb, ltb}
 use lib.ListN.{length, getD, set, take, length-map, length-take, List·getD-map}
-use lib.Seq.{getD-take, getD-set-other}
+use lib.Seq.{getD-take}
 use borrow.Author.Tests.{ltb-true}
 use Rattle.model.specs.declared.SequenceNumber.{SequenceNumber}
 use Rattle.llsc.specs.declared.ProcessNumber.{ProcessNumber}
@@ -31,7 +31,8 @@ use Rattle.text_runs.specs.TextRun.{roomNeeded, processOf, orderOf}
 use Rattle.semantics.specs.TextRun.{single}
 use Rattle.entry.specs.RunState.{RunState, stateOf, stoppedRun, Sound, Becomes, Small}
 use Rattle.entry.specs.Turned.{refusalOf, placeOf, Turnable, Turns, staysAt}
-use Rattle.carrying.specs.Carried.{entriesIn, Carrying, OthersKept, Carries}
+use Rattle.text_runs.specs.KeptEntries.{entriesIn}
+use Rattle.carrying.specs.Carried.{Carrying, Carries}
 use Rattle.entry.proofs.EntryLaws.{entry-refused, entry-ready, process-small, place-same, one-more-small, entry-turnable, entry-made, own-line}
 use Rattle.carrying.proofs.CarryingLaws.{carrying-none, carrying-all, ends-refused, goes-over, goes-further}
 
@@ -75,8 +76,6 @@ pub record Head (count : ℕ) (entries : List ℕ) (len n w needed : ℕ) (h : R
   pub w-is : w ≡ h₁ .run .bench .w
   pub w-most : w ≤ 64
   pub needed-is : needed ≡ roomNeeded (h₁ .run .traced)
-  pub first-n : n ≡ h .run .bench .n
-  pub others : OthersKept h h₁
 
 -- a run is the one that goes on
 pub from-run : {len : ℕ} {r : Run} {ws list : List ℕ} {es : List Entry} {h : RunState} {at : ℕ} → r .stop ≡ 0
@@ -93,13 +92,11 @@ first-head {len} {count} {entries = entries} {r = r} {ws = ws} {list = list} l s
   w-is = ew;
   w-most = omega (arith, ew, s .going z .width);
   needed-is = er;
-  first-n = en;
-  others = λ j m. refl;
 }
 
 -- behind the last entry
 pub head-all : {len count n w needed at : ℕ} {entries : List ℕ} {h h₁ : RunState} → Head count entries len n w needed h at h₁ → count ≤ at → Carries len (entriesIn count entries) h h₁ at
-head-all {count = count} {entries = entries} x l = carrying-all (x .carrying) (x .others) (omega (arith, l, count-entries count entries (x .fits)))
+head-all {count = count} {entries = entries} x l = carrying-all (x .carrying) (omega (arith, l, count-entries count entries (x .fits)))
 
 -- with an entry to carry out: what the code has in its hands
 pub record Looking (count : ℕ) (entries : List ℕ) (len n w needed : ℕ) (h : RunState) (at : ℕ) (h₁ : RunState) (e : Entry) (p k : ℕ) (q : Process) (o : Order) : Type 0 where
@@ -154,7 +151,7 @@ module _ {count : ℕ} {entries : List ℕ} {len n w needed at p k : ℕ} {h h�
   same-refusal = rw (x .order-is, x .record-is, x .place-is, x .process-is, x .head .n-is)
 
   pub loop-refused : {stop : ℕ} → stop ≡ refusal → (stop ≡ 0 → ⊥) → Carries len es h (stateOf (stoppedRun (h₁ .run) stop) (h₁ .words) (h₁ .listing)) at
-  loop-refused {stop} f y = ends-refused c inside (entryIn 0) (this (entry-refused e small s (c .goes) (x .head .needed-is) stop (f ∙ same-refusal) y)) (x .head .others) y
+  loop-refused {stop} f y = ends-refused c inside (entryIn 0) (this (entry-refused e small s (c .goes) (x .head .needed-is) stop (f ∙ same-refusal) y)) y
 
   module _ (f : refusal ≡ 0) where
     free : looked ≡ 0
@@ -228,11 +225,6 @@ module _ {count : ℕ} {entries : List ℕ} {len n w needed at p k : ℕ} {h h�
           same-stay : staysAt (getD es at (entryIn 0)) (r .process .line) ≡ staysAt e (r .process .line)
           same-stay = ap (λ (d : Entry). staysAt d (r .process .line)) (entry-at count at entries (x .more) ∙ sym (x .entry-is))
 
-          others-kept : OthersKept h (afterAt (processOf e))
-          others-kept j m =
-              let apart : processOf e < h .run .bench .n = omega (arith, x .head .first-n, x .head .n-is, ready .lent .process) in
-              getD-set-other list (processOf e) j (r .process) noProcess (λ z. omega (arith, z)) ∙ x .head .others j m
-
           headed : {at′ : ℕ} → Carrying len es h at′ (afterAt (processOf e)) → Head count entries len n w needed h at′ (afterAt k)
           headed {at′} y = stored (λ d. Head count entries len n w needed h at′ d)
               (record {
@@ -242,8 +234,6 @@ module _ {count : ℕ} {entries : List ℕ} {len n w needed at p k : ℕ} {h h�
                 w-is = x .head .w-is;
                 w-most = x .head .w-most;
                 needed-is = x .head .needed-is;
-                first-n = x .head .first-n;
-                others = others-kept;
               })
 
           pub loop-over : staysAt e (r .process .line) ≡ false → Head count entries len n w needed h (at + 1) (afterAt k)

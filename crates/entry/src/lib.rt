@@ -1,6 +1,6 @@
 // One entry of a text run, by value, on the places taken out for it. Every function is inner; the loop over them is in
 // `run`.
-pub mod answers;
+pub mod answer_lines;
 pub mod entries;
 pub mod limits;
 pub mod refusals;

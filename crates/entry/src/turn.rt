@@ -1,6 +1,6 @@
 // One accepted entry, on the places taken out for it: its access, its order obeyed, its lines.
 ghost use Rattle.entry.specs.Turned.{Turnable, Turns};
-use crate::answers;
+use crate::answer_lines;
 use crate::entries;
 use crate::traces;
 use llsc::ProcessNumber;
@@ -40,7 +40,7 @@ pub fn carry(
     let stepped = orders::obey_taken(order, n, w, own, process, taken, words);
     let reply = stepped.reply;
     let shown = traces::trace_line(traced, k, access, e, reply, list, at);
-    let written = answers::answer_line(reply, p, n, w, words, list, shown);
+    let written = answer_lines::answer_line(reply, p, n, w, words, list, shown);
     let left = stepped.taken;
     let next = stepped.process;
     Turn {

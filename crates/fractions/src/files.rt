@@ -1,5 +1,5 @@
 // A file of the season.
-use crate::messages;
+use crate::notices;
 
 // The file that argument i names, added to the sums; where it can't be read the sums stay.
 pub fn add_file(sums: sums::Sums, i: usize) -> sums::Sums {
@@ -30,7 +30,7 @@ fn add_open(sums: sums::Sums, file: i32, name: &[u8]) -> sums::Sums {
     }
     let out = sums::add_listing(sums, &text[..got]);
     if out.number != 0 {
-        messages::file_refused(name, out.number, &text[..got], out.at);
+        notices::file_refused(name, out.number, &text[..got], out.at);
     }
     out.sums
 }

@@ -2,34 +2,34 @@
 // to standard output. A file that can't be read or is refused is told on standard error, and the sums stay.
 mod arguments;
 mod files;
-mod messages;
+mod notices;
 
 use libc::STDOUT_FILENO;
 
 fn main() {
     let count = os::arg_count();
     if count < 4 {
-        messages::usage();
+        notices::usage();
         return;
     }
     let n = arguments::number_argument(1);
     let w = arguments::number_argument(2);
     if arguments::LARGEST < n {
-        messages::usage();
+        notices::usage();
         return;
     }
     if arguments::LARGEST < w {
-        messages::usage();
+        notices::usage();
         return;
     }
     let empty = sums::empty_sums(n, w);
     let number = sums::table_of(empty).number;
     if number != 0 {
-        messages::refused(STDOUT_FILENO, number);
+        notices::refused(STDOUT_FILENO, number);
         return;
     }
     let sums = season(empty, count);
-    messages::taken(sums.taken, count);
+    notices::taken(sums.taken, count);
     let table = sums::table_of(sums);
     let rows = table.rows;
     print_rows(rows, n as usize);
@@ -43,7 +43,7 @@ fn season(empty: sums::Sums, count: usize) -> sums::Sums {
         let next = files::add_file(sums, i);
         sums = next;
         i += 1;
-        messages::progress(i, count);
+        notices::progress(i, count);
     }
     sums
 }

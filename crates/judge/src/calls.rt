@@ -1,7 +1,7 @@
 // The calls of a log, by their index, as a message shows them.
 ghost use Prim.Native.Nat.{_≤_};
 use crate::say;
-use logtext::places;
+use logtext::number_places;
 
 pub const PROCESS: usize = 0;
 
@@ -54,7 +54,10 @@ pub fn part(numbers: &[u64], call: usize, k: usize) -> u64
 
 // The line in which a call begins.
 pub fn line(numbers: &[u64], call: usize, text: &[u8]) {
-    say::line(text, places::number_place(text, first_of(numbers, call)));
+    say::line(
+        text,
+        number_places::number_place(text, first_of(numbers, call)),
+    );
 }
 
 // A call by its process and kind.

@@ -1,6 +1,6 @@
 // Why a text is no log, and where.
 use crate::say;
-use logtext::places;
+use logtext::number_places;
 
 pub fn too_long() {
     say::say(b"the text has 2,097,152 bytes or more; nothing was judged\n");
@@ -15,13 +15,13 @@ pub fn lacks_n_and_w(count: usize) {
 // The fault, and how many numbers were read before it.
 pub fn tell(fault: u8, count: usize, text: &[u8]) {
     match fault {
-        logtext::STRAY_BYTE => stray(places::stray_place(text), text),
+        logtext::STRAY_BYTE => stray(number_places::stray_place(text), text),
         logtext::TOO_LARGE => {
-            say::position(text, places::number_place(text, count));
+            say::position(text, number_places::number_place(text, count));
             say::say(b": a number of 2^64 or more");
         }
         _ => {
-            say::position(text, places::number_place(text, count));
+            say::position(text, number_places::number_place(text, count));
             say::say(b": the text has more than 65,536 numbers");
         }
     }

@@ -3,7 +3,7 @@
 // no log, which gets no verdict.
 mod calls;
 mod faults;
-mod lines;
+mod log_lines;
 mod refusals;
 mod say;
 mod why;

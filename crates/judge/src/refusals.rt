@@ -1,7 +1,7 @@
 // Why a log is refused, and where.
 use crate::calls;
 use crate::say;
-use logtext::places;
+use logtext::number_places;
 use verdicts::Reason;
 
 pub fn refused(number: u8, reason: Reason, numbers: &[u64], text: &[u8]) {
@@ -21,7 +21,7 @@ pub fn refused(number: u8, reason: Reason, numbers: &[u64], text: &[u8]) {
 
 // N or W, the number of an index, is not in its range.
 fn range(index: usize, name: &[u8], most: &[u8], numbers: &[u64], text: &[u8]) {
-    say::line(text, places::number_place(text, index));
+    say::line(text, number_places::number_place(text, index));
     say::say(b": ");
     say::say(name);
     say::say(b" is ");

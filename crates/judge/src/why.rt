@@ -1,6 +1,6 @@
 // Why the verdict is not yes.
 use crate::calls;
-use crate::lines;
+use crate::log_lines;
 use crate::refusals;
 use crate::say;
 use verdicts::Judgement;
@@ -14,11 +14,11 @@ pub fn explain(judgement: Judgement, numbers: &[u64], text: &[u8]) {
         Verdict::Yes => {}
         Verdict::No => {
             no(reason, numbers, text);
-            lines::remark(numbers, text);
+            log_lines::remark(numbers, text);
         }
         Verdict::Refused(number) => {
             refusals::refused(number, reason, numbers, text);
-            lines::remark(numbers, text);
+            log_lines::remark(numbers, text);
         }
     }
 }

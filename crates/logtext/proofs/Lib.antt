@@ -1,3 +1,4 @@
+pub mod ReadingExamples
 pub mod ReadingLaws
 pub mod PlaceLaws
 pub mod PlaceExamples

@@ -1,11 +1,11 @@
 // The text of a log: its numbers, read into lent memory, where they stand, and what the judge says of them.
-pub mod places;
+pub mod number_places;
 
 ghost use mathlib.Core.Path.{_≡_};
 ghost use Prim.Native.Nat.{_≤_, _<_};
 ghost use lib.ListN.{length};
 ghost use Rattle.logtext.specs.Numbers.{isGap, judgedNumbers};
-ghost use Rattle.logtext.specs.Readings.{Closed, ByteRead, TextRead, stoppedAt, digitRead};
+ghost use Rattle.logtext.specs.Readings.{textInto, stoppedAt, digitRead, closedInto, byteInto};
 use verdicts::Judgement;
 
 pub const STRAY_BYTE: u8 = 1;
@@ -61,7 +61,7 @@ fn digit(r: Reading, d: u64) -> Reading
 // The number being read, if there is one, ends here.
 fn close(r: Reading, numbers: &mut [u64]) -> Reading
     requires { ⌜ r .count ≤ length (now numbers) ⌝ }
-    ensures { λ s. ⌜ Closed r (now (numbers .entry)) s (now (numbers .exit)) ⌝ }
+    ensures { λ s. ⌜ (s, now (numbers .exit)) ≡ closedInto r (now (numbers .entry)) ⌝ }
 {
     if !r.inside {
         return r;
@@ -97,7 +97,7 @@ pub fn is_gap(b: u8) -> bool
 // One byte more.
 fn byte(r: Reading, b: u8, numbers: &mut [u64]) -> Reading
     requires { ⌜ r .count ≤ length (now numbers) ⌝ }
-    ensures { λ s. ⌜ ByteRead r b (now (numbers .entry)) s (now (numbers .exit)) ⌝ }
+    ensures { λ s. ⌜ (s, now (numbers .exit)) ≡ byteInto b r (now (numbers .entry)) ⌝ }
 {
     if b < b'0' {
         if is_gap(b) {
@@ -111,9 +111,9 @@ fn byte(r: Reading, b: u8, numbers: &mut [u64]) -> Reading
     stopped(r, STRAY_BYTE)
 }
 
-// The numbers of a text, as many as there is room for.
+// The numbers of a text, as many as there is room for; what lies behind them in the lent list stays.
 pub fn read(text: &[u8], numbers: &mut [u64]) -> Reading
-    ensures { λ s. ⌜ TextRead (now (text .entry)) (now (numbers .entry)) s (now (numbers .exit)) ⌝ }
+    ensures { λ s. ⌜ (s, now (numbers .exit)) ≡ textInto (now (text .entry)) (now (numbers .entry)) ⌝ }
 {
     let mut r = Reading {
         fault: 0,

@@ -5,7 +5,7 @@ use mathlib.Core.List.{List}
 use lib.ListN.{length}
 use Rattle.moir_model.specs.declared.Bench.{Bench}
 use Rattle.moir_model.specs.Machine.{Memory}
-use Rattle.moir_machine.specs.declared.setup.Prepared.{Prepared}
+use Rattle.moir_machine.specs.declared.setting_up.Prepared.{Prepared}
 use Rattle.moir_machine.specs.SetUpByValue.{prepared}
 use Rattle.moir_bench.specs.declared.NewSetUp.{NewSetUp}
 use Rattle.moir_bench.specs.Lent.{memory, recordsToWrite, recordsWritten}

@@ -9,7 +9,7 @@ use moir_model::Bench;
 use moir_model::Process;
 use moir_model::Reply;
 
-mod lent;
+mod lent_records;
 
 // Process `process`, any number, is given an order, with the words of `value` where it starts an SC. The start of an LL is
 // one of a WLL.
@@ -29,11 +29,11 @@ pub fn command(
     let b = *bench;
     let len = records.len();
     let none = moir_rows::records::no_process();
-    let all = lent::gather(records, none);
+    let all = lent_records::gather(records, none);
     let out = moir_machine::decide(b, all, len, process, order, value, words);
     *bench = out.bench;
     // A refusal names a place past the end, and there nothing is stored.
-    lent::store_at(records, out.at, out.process);
+    lent_records::store_at(records, out.at, out.process);
     out.reply
 }
 
@@ -55,10 +55,10 @@ fn set_up_by_value(
 ) -> NewSetUp
     ensures { λ r. ⌜ (r, now (words .exit)) ≡ setUpByValue bench len n w (now (value .entry)) (now (words .entry)) ⌝ }
 {
-    let out = moir_machine::setup::prepare(bench, len, n, w, value, words);
+    let out = moir_machine::setting_up::prepare(bench, len, n, w, value, words);
     let number = out.number;
     let next = out.bench;
-    let count = lent::records_to_write(number, n);
+    let count = lent_records::records_to_write(number, n);
     NewSetUp {
         number,
         bench: next,
@@ -85,6 +85,6 @@ pub fn set_up(
     let len = records.len();
     let out = set_up_by_value(b, len, n, w, value, words);
     *bench = out.bench;
-    lent::set_up_records(records, out.count);
+    lent_records::set_up_records(records, out.count);
     out.number
 }

@@ -40,4 +40,5 @@ pub mod InRange
 pub mod HeaderChanges
 pub mod CommandSimulation
 pub mod SetUpSimulation
+pub mod ShortRunLaws
 pub mod Theorems

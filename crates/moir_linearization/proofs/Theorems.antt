@@ -12,6 +12,7 @@ use Rattle.moir_model.specs.History.{events}
 use Rattle.moir_linearization.specs.Bound.{successLimit, Bounded}
 use Rattle.moir_linearization.specs.Linearizable.{Claim, Always, MoirOrder, MoirAlways}
 use Rattle.moir_linearization.specs.OwnDoing.{NeverForItsOwnDoing}
+use Rattle.moir_linearization.specs.ShortRuns.{ShortOrder}
 use Rattle.moir_linearization.proofs.GhostRuns as G
 use Rattle.moir_linearization.proofs.GhostEvents as E
 use Rattle.moir_linearization.proofs.Ranges.{setup-sound}
@@ -19,6 +20,7 @@ use Rattle.moir_linearization.proofs.Relation.{Related}
 use Rattle.moir_linearization.proofs.SetUpSimulation.{Admitted, set-up-admits, set-up-related}
 use Rattle.moir_linearization.proofs.CommandSimulation.{events-same, sound-along}
 use Rattle.moir_linearization.proofs.EventClaims.{claim, always}
+use Rattle.moir_linearization.proofs.ShortRunLaws.{short-are-bounded}
 
 module _ (m : Memory) (shaped : Shaped m) (n w : ℕ) (value : List ℕ) (cs : List Command) (e : setUp m n w value .0 ≡ 0) where
   abbrev v0 : ℕ → ℕ
@@ -45,6 +47,10 @@ module _ (m : Memory) (shaped : Shaped m) (n w : ℕ) (value : List ℕ) (cs : L
 -- The Figure 1 order, over every list of commands after every accepted set-up, under CR 8's bound.
 pub moir-order : MoirOrder
 moir-order m shaped n w value cs e b = order m shaped n w value cs e b
+
+-- The same with no bound to look after: over every list of fewer than 65,535 commands after every accepted set-up.
+pub short-order : ShortOrder
+short-order m shaped n w value cs e short = moir-order m shaped n w value cs e (short-are-bounded _ n cs short)
 
 -- Without the bound: counts of own steps, a named process wrote during its WLL, no SC or VL is wrongly false.
 pub moir-always : MoirAlways

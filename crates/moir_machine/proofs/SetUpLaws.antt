@@ -16,7 +16,7 @@ use Rattle.moir_model.specs.Words.{putTag}
 use Rattle.moir_model.specs.Machine.{Memory}
 use Rattle.moir_model.specs.Refusals.{row3}
 use Rattle.moir_model.specs.SetUp.{benchAtSetUp, wordsAtSetUp, setUp, setUpRefusal}
-use Rattle.moir_machine.specs.declared.setup.Prepared.{Prepared}
+use Rattle.moir_machine.specs.declared.setting_up.Prepared.{Prepared}
 use Rattle.moir_machine.specs.SetUpByValue.{setUpNumber, set-up-number, tagsSet, Accepted, prepared, recordsSet}
 use Rattle.laws.proofs.ListLaws.{sets-append, sets-replicate}
 use Rattle.rows.proofs.RowLaws.{cleared, n-in, w-in, neither}

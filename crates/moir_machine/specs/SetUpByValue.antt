@@ -15,7 +15,7 @@ use Rattle.llsc.specs.Rows.{first}
 use Rattle.moir_model.specs.Refusals.{setUpRowsOf}
 use Rattle.moir_model.specs.Machine.{Memory}
 use Rattle.moir_model.specs.SetUp.{benchAtSetUp, recordsAtSetUp, wordsAtSetUp, setUpRefusal}
-use Rattle.moir_machine.specs.declared.setup.Prepared.{Prepared}
+use Rattle.moir_machine.specs.declared.setting_up.Prepared.{Prepared}
 
 -- a set-up's refusal by the lengths of what is lent
 unfoldable pub setUpNumber : ℕ → ℕ → ℕ → ℕ → ℕ → ℕ

@@ -1,4 +1,4 @@
-// The whole command by value: the refusal table in row order, or the order obeyed; the set-up is in `setup`.
+// The whole command by value: the refusal table in row order, or the order obeyed; the set-up is in `setting_up`.
 ghost use mathlib.Core.Path.{_≡_};
 ghost use lib.ListN.{length};
 ghost use Rattle.moir_rows.specs.CommandRows.{decisionNumber};
@@ -14,7 +14,7 @@ use moir_rows::records::Records;
 use moir_rows::table;
 use moir_steps::orders;
 
-pub mod setup;
+pub mod setting_up;
 
 // What a command comes to. The caller stores `process` at place `at`; a refusal names the place after the last record,
 // where a store does nothing.

@@ -4,7 +4,7 @@ use crate::carrying;
 use crate::carrying::Run;
 use crate::reports;
 use crate::writing;
-use moir_machine::setup;
+use moir_machine::setting_up;
 use moir_rows::records;
 use moir_rows::records::Records;
 use notation::Header;
@@ -83,7 +83,7 @@ fn started(
     let value = [initial; 64];
     let mut run = fresh(0, traced);
     let k = carrying::wide(w as usize);
-    let out = setup::prepare(
+    let out = setting_up::prepare(
         run.bench,
         16,
         n as usize,

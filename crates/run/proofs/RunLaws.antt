@@ -5,7 +5,7 @@ use mathlib.Core.List.{List, map}
 use Prim.Native.Nat.{ℕ, _≤_, _<_}
 use native.Mathlib.Omega.{arith}
 use lib.Dec.{eqb}
-use lib.ListN.{length, getD, take, replicate}
+use lib.ListN.{length, take, replicate}
 use borrow.Author.Tests.{eq-eqb, ne-eqb, lt-ltb, le-ltb}
 use Rattle.model.specs.declared.Bench.{Bench}
 use Rattle.model.specs.declared.Process.{Process}
@@ -34,8 +34,8 @@ use Rattle.semantics.specs.TextRun.{Progress, Ended, ended, begun, carryAll, ca
 use Rattle.positions.specs.declared.StopReport.{StopReport}
 use Rattle.semantics.specs.StopPlaces.{StopsAt}
 use Rattle.entry.specs.RunState.{RunState, stateOf, progress, Filled, Sound, Kept, Becomes}
-use Rattle.carrying.specs.Carried.{entriesIn}
-use Rattle.run.specs.Finished.{closed, Closable, memoryOf, atMostSixteen, Others, endOf, Answers, Lending, TextRan, refusedWith, startedWith, saysAfter}
+use Rattle.text_runs.specs.KeptEntries.{entriesIn}
+use Rattle.run.specs.Finished.{closed, Closable, memoryOf, atMostSixteen, endOf, Answers, Lending, TextRan, refusedWith, startedWith, saysAfter}
 use Rattle.entry.proofs.FilledLaws.{gathered-filled, filled-gathered}
 use Rattle.run.proofs.RecordLaws.{sixteen-most, take-sixteen, filled-sixteen, sixteen-filled}
 use Rattle.semantics.proofs.KeptLaws.{kept-run}
@@ -46,24 +46,22 @@ pub sound-closable : {len : ℕ} {h : RunState} → Sound len h → Closable (h 
 sound-closable s = record { entries = s .entries; stop = s .stop; room = s .room }
 
 -- with its last line a run is ended
-pub closed-answers : {len stored : ℕ} {report : StopReport} {all : Records} {list′ : List ℕ} {out : Finished} (r : Run) (ws list : List ℕ) → Filled len (r .all .list)
-    → ((j : ℕ) → stored ≤ j → getD (r .all .list) j noProcess ≡ getD (all .list) j noProcess)
-    → _≡_ {A = Finished × List ℕ} (out, list′) (closed r stored report list) → Answers len all out ws list′ (ended (progress len (stateOf r ws list)))
-closed-answers {len} {stored} {report} {all} {out = out} r ws list f o e = record {
+pub closed-answers : {len : ℕ} {report : StopReport} {list′ : List ℕ} {out : Finished} (r : Run) (ws list : List ℕ) → Filled len (r .all .list)
+    → _≡_ {A = Finished × List ℕ} (out, list′) (closed r report list) → Answers len out ws list′ (ended (progress len (stateOf r ws list)))
+closed-answers {len} {report} {out = out} r ws list f e = record {
   same = ap (λ (x : Finished × List ℕ). record { number = x .0 .number; entries = x .0 .entries; written = x .0 .written; memory = memoryOf (x .0 .bench) (x .0 .all) len ws; listing = x .1 }) e;
   filled = subst (λ (x : Finished). Filled len (x .all .list)) (sym same) f;
-  others = subst (Others all) (sym same) o;
 }
   where
-    same : out ≡ closed r stored report list .0
+    same : out ≡ closed r report list .0
     same = ap (λ (x : Finished × List ℕ). x .0) e
 
-pub closed-report : {stored : ℕ} {report : StopReport} {list′ : List ℕ} {out : Finished} (r : Run) (list : List ℕ)
-    → _≡_ {A = Finished × List ℕ} (out, list′) (closed r stored report list) → out .report ≡ report
+pub closed-report : {report : StopReport} {list′ : List ℕ} {out : Finished} (r : Run) (list : List ℕ)
+    → _≡_ {A = Finished × List ℕ} (out, list′) (closed r report list) → out .report ≡ report
 closed-report r list e = ap (λ (x : Finished × List ℕ). x .0 .report) e
 
-pub answers-as : {len : ℕ} {all : Records} {out : Finished} {ws list : List ℕ} {a b : Ended} → Answers len all out ws list a → a ≡ b → Answers len all out ws list b
-answers-as x e = record { same = x .same ∙ e; filled = x .filled; others = x .others }
+pub answers-as : {len : ℕ} {out : Finished} {ws list : List ℕ} {a b : Ended} → Answers len out ws list a → a ≡ b → Answers len out ws list b
+answers-as x e = record { same = x .same ∙ e; filled = x .filled }
 
 -- a set-up that is refused, and one that is not
 pub not-begun : {A : Type 0} (k : ℕ) (F : Memory → A) (x m : Memory) (e : A) → (k ≡ 0 → ⊥) → cond (eqb k 0) (F (cond (eqb k 0) x m)) e ≡ e
@@ -169,8 +167,8 @@ module _ (t : Bool) (m : Memory) (text list : List ℕ) where
 -- over all lent records
 pub answered : {k : ℕ} {out : Finished} {ws′ list′ : List ℕ} (len : ℕ) (b : Bench) (all : Records) (ws : List ℕ)
     (g : Memory → Ended) → k ≡ atMostSixteen len → all ≡ gathered (take len (all .list)) noProcess 16
-    → Answers k all out ws′ list′ (g (memoryOf b all k ws))
-    → (endOf len out ws′ list′ ≡ g (memoryOf b all len ws)) × (out .all ≡ gathered (take len (out .all .list)) noProcess 16) × Others all out
+    → Answers k out ws′ list′ (g (memoryOf b all k ws))
+    → (endOf len out ws′ list′ ≡ g (memoryOf b all len ws)) × (out .all ≡ gathered (take len (out .all .list)) noProcess 16)
 answered {k} {out} {ws′} {list′} len b all ws g e q x =
     let f : Filled (atMostSixteen len) (out .all .list) = subst (λ (j : ℕ). Filled j (out .all .list)) e (x .filled) in
     let a : take k (all .list) ≡ take len (all .list) = ap (λ (j : ℕ). take j (all .list)) e ∙ take-sixteen len (all .list) (gathered-filled len all q .sixteen) in
@@ -184,12 +182,11 @@ answered {k} {out} {ws′} {list′} len b all ws g e q x =
       }) o ∙ x .same
           ∙ ap (λ (l : List Process). g (record { bench = b; records = l; words = ws })) a,
       filled-gathered len (out .all) (sixteen-filled f),
-      x .others,
     )
 
 -- with where the run stopped
 pub ended-as : {t : Bool} {b : Bench} {all : Records} {len : ℕ} {ws text list : List ℕ} {r : Finished} {ws′ list′ : List ℕ} {e : Ended}
-    → (endOf len r ws′ list′ ≡ e) × (r .all ≡ gathered (take len (r .all .list)) noProcess 16) × Others all r
+    → (endOf len r ws′ list′ ≡ e) × (r .all ≡ gathered (take len (r .all .list)) noProcess 16)
     → e ≡ runWith t (memoryOf b all len ws) text list → StopsAt t (memoryOf b all len ws) text list (r .report)
     → TextRan t b all len ws text list r ws′ list′
-ended-as x e s = record { same = x .0 ∙ e; again = x .1; others = x .2; stops = s }
+ended-as x e s = record { same = x .0 ∙ e; again = x .1; stops = s }

@@ -6,7 +6,7 @@ use Prim.Native.Nat.{ℕ, zero, suc, _+_, _-_, _*_, _≤_, _<_}
 use native.Mathlib.Omega.{arith}
 use lib.Dec.{ltb}
 use lib.ListN.{length, getD, set, take, drop, replicate, length-append, length-replicate, List·getD-append}
-use lib.Seq.{sets, sets-eq, take-set-lt, getD-set-other}
+use lib.Seq.{sets, sets-eq, take-set-lt}
 use borrow.Author.Tests.{ltb-false}
 use Rattle.model.specs.declared.Bench.{Bench}
 use Rattle.model.specs.declared.Process.{Process}
@@ -20,10 +20,8 @@ use Rattle.model.specs.Refusals.{row3}
 use Rattle.setup.specs.SetUpByValue.{setUpNumber, set-up-number, Accepted}
 use Rattle.rows.proofs.RowLaws.{cleared, neither}
 use Rattle.setup.proofs.SetUpLaws.{first-row, set-up-fits}
-use Rattle.notation.specs.declared.Entry.{Entry}
 use Rattle.notation.specs.Grammar.{largest}
 use Rattle.entry.specs.RunState.{RunState, stateOf, progress, Filled, Sound}
-use Rattle.carrying.specs.Carried.{Carries}
 use Rattle.semantics.specs.Reached.{Reached}
 use Rattle.semantics.specs.TextRun.{Progress, begun}
 use Rattle.run.specs.Finished.{freshRun, memoryOf, Lending}
@@ -66,10 +64,6 @@ filled-sets list i (q ∷ vs) h f = filled-sets (set list i q) (suc i) vs (omega
 take-sets : (len : ℕ) (list : List Process) (i : ℕ) (vs : List Process) → i + length vs ≤ len → take len (sets list i vs) ≡ sets (take len list) i vs
 take-sets len list i [] h = refl
 take-sets len list i (q ∷ vs) h = take-sets len (set list i q) (suc i) vs (omega arith) ∙ ap (λ (l : List Process). sets l (suc i) vs) (take-set-lt len list i q (omega arith))
-
-sets-above : (list : List Process) (i : ℕ) (vs : List Process) (j : ℕ) → i + length vs ≤ j → getD (sets list i vs) j noProcess ≡ getD list j noProcess
-sets-above list i [] j h = refl
-sets-above list i (q ∷ vs) j h = sets-above (set list i q) (suc i) vs j (omega arith) ∙ getD-set-other list i j q noProcess (λ e. omega (arith, e))
 
 every-append : (a b : List ℕ) → Every a → Every b → Every (a ++ b)
 every-append a b p q = record { at = all a (p .at) }
@@ -136,9 +130,3 @@ module _ {len : ℕ} {all : Records} {list : List ℕ} (t : Bool) (b : Bench) (w
     first-state {value = value} er eb ea ew ev =
         let v : take w value ≡ replicate w k = ap (take w) ev ∙ take-replicate w 64 k (accepted .w-most) in
         rw (er, eb, ea, ew, v)
-
-    -- and what the entries leave of the records from n on
-    pub others-left : {h h′ : RunState} {es : List Entry} {at : ℕ} → h ≡ first → Carries len es h h′ at → (j : ℕ) → n ≤ j → getD (h′ .run .all .list) j noProcess ≡ getD (all .list) j noProcess
-    others-left {h} {h′} e x j l =
-        let above : n ≤ j = l in
-        x .others j (rw e above) ∙ ap (λ (y : RunState). getD (y .run .all .list) j noProcess) e ∙ sets-above (all .list) 0 newRecords j (omega (arith, mapped-length (2 * n) n))

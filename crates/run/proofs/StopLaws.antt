@@ -38,7 +38,8 @@ use Rattle.semantics.specs.TextRun.{Progress, begun, carry, carryAll}
 use Rattle.text_runs.specs.StopPlaces.{reportedProcess, atNoItem, atPlace, atEntry}
 use Rattle.semantics.specs.StopPlaces.{stopIndex, itemReport, startedReport, StopInText, StopsAt}
 use Rattle.entry.specs.RunState.{RunState, progress}
-use Rattle.carrying.specs.Carried.{entriesIn, placesIn, Carries}
+use Rattle.text_runs.specs.KeptEntries.{entriesIn, placesIn}
+use Rattle.carrying.specs.Carried.{Carries}
 use Rattle.run.specs.Finished.{memoryOf, atMostSixteen, Lending, wordReport, saidWith, reportWith}
 use Rattle.entry.proofs.FilledLaws.{gathered-filled}
 use Rattle.run.proofs.RecordLaws.{take-sixteen}

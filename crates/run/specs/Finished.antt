@@ -5,7 +5,7 @@ use mathlib.Core.Bool.{Bool, false, cond}
 use Prim.Native.Nat.{ℕ, _+_, _≤_}
 use mathlib.Core.List.{List, []}
 use lib.Dec.{eqb, ltb}
-use lib.ListN.{length, getD, take, drop, replicate}
+use lib.ListN.{length, take, drop, replicate}
 use lib.Seq.{sets}
 use Rattle.model.specs.declared.Bench.{Bench}
 use Rattle.model.specs.Records.{noProcess}
@@ -33,17 +33,17 @@ use Rattle.entry.specs.RunState.{Filled, lastRoom}
 abbrev pub freshRun : Bench → Records → ℕ → Bool → Run
 freshRun b all k t = record { bench = b; all = all; written = 0; entries = 0; stop = k; traced = t }
 
-abbrev pub finishedOf : Run → ℕ → StopReport → ℕ → Finished
-finishedOf r stored report written =
-    record { bench = r .bench; all = r .all; stored = stored; number = r .stop; entries = r .entries; written = written; report = report }
+abbrev pub finishedOf : Run → StopReport → ℕ → Finished
+finishedOf r report written =
+    record { bench = r .bench; all = r .all; number = r .stop; entries = r .entries; written = written; report = report }
 
 -- the last line of a run
 abbrev pub lastOf : Run → List ℕ
 lastOf r = cond (eqb (r .stop) 0) (endLine (r .entries)) (refusedLine (r .stop) (r .entries))
 
 -- what a run comes to with its last line
-abbrev pub closed : Run → ℕ → StopReport → List ℕ → Finished × List ℕ
-closed r stored report list = (finishedOf r stored report (r .written + length (lastOf r)), sets list (r .written) (lastOf r))
+abbrev pub closed : Run → StopReport → List ℕ → Finished × List ℕ
+closed r report list = (finishedOf r report (r .written + length (lastOf r)), sets list (r .written) (lastOf r))
 
 -- there is room for the last line
 pub record Closable (r : Run) (list : List ℕ) : Type 0 where
@@ -59,19 +59,14 @@ memoryOf b all len words = record { bench = b; records = take len (all .list); w
 abbrev pub atMostSixteen : ℕ → ℕ
 atMostSixteen len = cond (ltb 16 len) 16 len
 
--- the records from `stored` on are what they were
-abbrev pub Others : Records → Finished → Type 0
-Others all r = (j : ℕ) → r .stored ≤ j → getD (r .all .list) j noProcess ≡ getD (all .list) j noProcess
-
 -- what a run returns and leaves, with the words and the listing after it
 abbrev pub endOf : ℕ → Finished → List ℕ → List ℕ → Ended
 endOf len r ws list = record { number = r .number; entries = r .entries; written = r .written; memory = memoryOf (r .bench) (r .all) len ws; listing = list }
 
--- what a part of a text run answers, with the memory and the listing after it, where `all` were lent
-pub record Answers (len : ℕ) (all : Records) (r : Finished) (ws list : List ℕ) (e : Ended) : Type 0 where
+-- what a part of a text run answers, with the memory and the listing after it
+pub record Answers (len : ℕ) (r : Finished) (ws list : List ℕ) (e : Ended) : Type 0 where
   pub same : endOf len r ws list ≡ e
   pub filled : Filled len (r .all .list)
-  pub others : Others all r
 
 -- what is lent to a part of a text run
 pub record Lending (len : ℕ) (all : Records) (list : List ℕ) : Type 0 where
@@ -80,12 +75,10 @@ pub record Lending (len : ℕ) (all : Records) (list : List ℕ) : Type 0 where
   pub room : roomNeeded false ≤ length list
 
 -- what a whole text run answers, in one of the two styles, where `all` holds the first sixteen of `len` lent records:
--- the run of `semantics`, at any lent memory, with the filler in its place again, the records from `stored` on as they
--- were, and where it stopped
+-- the run of `semantics`, at any lent memory, with the filler in its place again, and where it stopped
 pub record TextRan (t : Bool) (b : Bench) (all : Records) (len : ℕ) (ws text list : List ℕ) (r : Finished) (ws′ list′ : List ℕ) : Type 0 where
   pub same : endOf len r ws′ list′ ≡ runWith t (memoryOf b all len ws) text list
   pub again : r .all ≡ gathered (take len (r .all .list)) noProcess 16
-  pub others : Others all r
   pub stops : StopsAt t (memoryOf b all len ws) text list (r .report)
 
 -- the first line is read

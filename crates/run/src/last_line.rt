@@ -8,12 +8,11 @@ use model::Bench;
 use positions::StopReport;
 use tables::records::Records;
 
-// What a text run leaves of the bench and the records, how many of the records may differ from before, and what it
-// returns: its number, the entries done, the listing bytes written, and where it stopped.
+// What a text run leaves of the bench and the records, and what it returns: its number, the entries done, the listing
+// bytes written, and where it stopped.
 pub struct Finished {
     pub bench: Bench,
     pub all: Records,
-    pub stored: usize,
     pub number: u8,
     pub entries: usize,
     pub written: usize,
@@ -46,16 +45,15 @@ pub fn fresh(bench: Bench, all: Records, number: u8, traced: bool) -> Run
     }
 }
 
-// What a run returns that has written so many bytes; the first `stored` records are to be stored.
-pub fn returned(run: Run, stored: usize, report: StopReport, written: usize) -> Finished
-    ensures { λ r. ⌜ r ≡ finishedOf run stored report written ⌝ }
+// What a run returns that has written so many bytes.
+pub fn returned(run: Run, report: StopReport, written: usize) -> Finished
+    ensures { λ r. ⌜ r ≡ finishedOf run report written ⌝ }
 {
     let bench = run.bench;
     let all = run.all;
     Finished {
         bench,
         all,
-        stored,
         number: run.stop,
         entries: run.entries,
         written,
@@ -77,10 +75,10 @@ pub fn write(run: Run, list: &mut [u8]) -> usize
 }
 
 // A run with its last line.
-pub fn ended(run: Run, stored: usize, report: StopReport, list: &mut [u8]) -> Finished
+pub fn ended(run: Run, report: StopReport, list: &mut [u8]) -> Finished
     requires { ⌜ Closable run (now list) ⌝ }
-    ensures { λ r. ⌜ (r, now (list .exit)) ≡ closed run stored report (now (list .entry)) ⌝ }
+    ensures { λ r. ⌜ (r, now (list .exit)) ≡ closed run report (now (list .entry)) ⌝ }
 {
     let next = write(run, list);
-    returned(run, stored, report, next)
+    returned(run, report, next)
 }

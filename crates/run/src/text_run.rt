@@ -10,7 +10,7 @@ ghost use Rattle.tables.specs.Gathered.{gathered};
 ghost use Rattle.notation.specs.Grammar.{largest};
 ghost use Rattle.text_runs.specs.StopPlaces.{reportedProcess, atNoEntry, atNoItem};
 ghost use Rattle.semantics.specs.StopPlaces.{StopInText};
-ghost use Rattle.carrying.specs.Carried.{entriesIn, placesIn};
+ghost use Rattle.text_runs.specs.KeptEntries.{entriesIn, placesIn};
 ghost use Rattle.run.specs.Finished.{memoryOf, atMostSixteen, Answers, Lending, Headed, TextRan, startedWith, wordReport, reportWith, saysAfter, refusedWith};
 use crate::last_line;
 use crate::last_line::Finished;
@@ -48,12 +48,12 @@ fn refused(
 ) -> Finished
     requires { ⌜ (Lending len all (now list)) × (number ≤ 15) ⌝ }
     ensures { λ r. ⌜
-        Answers len all r (now (words .exit)) (now (list .exit)) (refusedWith number (memoryOf bench all len (now (words .entry))) (now (list .entry))) ×
+        Answers len r (now (words .exit)) (now (list .exit)) (refusedWith number (memoryOf bench all len (now (words .entry))) (now (list .entry))) ×
         (r .report ≡ atNoEntry n w place) ⌝ }
 {
     let run = last_line::fresh(bench, all, number, false);
     let report = last_line::at_no_entry(n, w, place);
-    last_line::ended(run, 0, report, list)
+    last_line::ended(run, report, list)
 }
 
 // N is at most 16, so that all above 15 are reported alike.
@@ -107,7 +107,7 @@ fn started(
 ) -> Finished
     requires { ⌜ (Lending len all (now list)) × (first .initial ≤ largest) × (count ≤ length (now entries)) ⌝ }
     ensures { λ r. ⌜
-        Answers len all r (now (words .exit)) (now (list .exit))
+        Answers len r (now (words .exit)) (now (list .exit))
         (startedWith traced first (entriesIn count (now (entries .entry))) (memoryOf bench all len (now (words .entry))) (now (list .entry))) ×
         (r .report ≡ reportWith traced first (entriesIn count (now (entries .entry))) (placesIn count (now (entries .entry)))
         (memoryOf bench all len (now (words .entry))) (now (list .entry))) ⌝ }
@@ -126,7 +126,7 @@ fn started(
     let carried = carrying::carry_out(run, len, entries, count, words, list);
     let done = carried.run;
     let report = stop_report(first.n, first.w, done.stop, entries, carried.at);
-    last_line::ended(done, n, report, list)
+    last_line::ended(done, report, list)
 }
 
 // Room for the list of a text's entries: 60,000, and the one that is 12 whatever it says.
@@ -149,7 +149,7 @@ fn checked(
 ) -> Finished
     requires { ⌜ (Lending len all (now list)) × (Headed (now text) first) ⌝ }
     ensures { λ r. ⌜
-        Answers len all r (now (words .exit)) (now (list .exit))
+        Answers len r (now (words .exit)) (now (list .exit))
         (saysAfter traced (now (text .entry)) first (memoryOf bench all len (now (words .entry))) (now (list .entry))) ×
         StopInText traced (memoryOf bench all len (now (words .entry))) (now (text .entry)) (now (list .entry)) (r .report) ⌝ }
 {
@@ -203,7 +203,7 @@ fn run_in_style(
     let lent = records_seen(len);
     if list.len() < state::room_needed(traced) {
         let run = last_line::fresh(bench, all, limits::NO_ROOM, traced);
-        return last_line::returned(run, 0, last_line::at_no_entry(0, 0, 0), 0);
+        return last_line::returned(run, last_line::at_no_entry(0, 0, 0), 0);
     }
     if limits::LONGEST_TEXT < text.len() {
         return refused(bench, all, lent, limits::TOO_MUCH, 0, 0, 0, words, list);

@@ -15,55 +15,38 @@ use Rattle.notation.specs.declared.Entry.the-variants.{Step}
 use Rattle.semantics.specs.Reached.{Reached}
 use Rattle.text_runs.specs.TextRun.{mostEntries}
 use Rattle.text_runs.specs.TextRun as TR
-use Rattle.semantics.specs.TextRun.{Progress, linesOf, counted, single, unanswered, steps, finish, carry}
+use Rattle.semantics.specs.TextRun.{figure2, Progress, linesOf, counted, single, unanswered, steps, finish, carry}
 use Rattle.semantics.specs.Finishing.{UntilAnswered, FinishBounded}
 use Rattle.semantics.proofs.ReachedLaws.{reached-command}
 use Rattle.semantics.proofs.AcceptedSteps.{unrefused, stepped-busy}
 use Rattle.semantics.proofs.OpenCalls.{Open, openIn, open-fewer, busy-open, reached-n, one-step-more}
-use Rattle.semantics.proofs.SingleEntries.{outcome, Made, single-made, single-stays, single-entries}
+use Rattle.text_runs.proofs.UntilAnswered as R
+use Rattle.text_runs.proofs.UntilAnswered.{busy-after}
+use Rattle.text_runs.proofs.SingleEntries.{outcome, Made, single-made, single-stays, single-entries}
 
 -- the run after an accepted step of p
 abbrev next : ℕ → Progress → Progress
-next p s = counted s (outcome (Step p) s .1) (linesOf s (Step p) (outcome (Step p) s))
+next p s = counted s (outcome figure2 (Step p) s .1) (linesOf s (Step p) (outcome figure2 (Step p) s))
 
 -- a further step follows: the step was accepted, and left p busy
 record Further (p : ℕ) (s : Progress) (r : Reached (s .memory)) : Type 0 where
-  made : Made (Step p) s
+  made : Made figure2 (Step p) s
   open-call : Open (openIn (reached-command r p order.Step []) p)
-
-busy-after : (p : ℕ) (s : Progress) → unanswered p s ≡ true → (s .stop ≡ 0) × (isIdle (recordAt (s .memory .records) (record { 0 = p })) ≡ false)
-busy-after p s e = by (eqb (s .stop) 0) refl (isIdle (recordAt (s .memory .records) (record { 0 = p }))) refl e
-  where
-    by : (a : Bool) → eqb (s .stop) 0 ≡ a → (b : Bool) → isIdle (recordAt (s .memory .records) (record { 0 = p })) ≡ b → (a && not b) ≡ true
-        → (s .stop ≡ 0) × (isIdle (recordAt (s .memory .records) (record { 0 = p })) ≡ false)
-    by true x false y h = (eqb-true (s .stop) 0 x, y)
-    by true x true y h = absurd (let zero-one : _≡_ {A = ℕ} 0 1 = ap (λ (t : Bool). cond t 1 0) h in let w : ⊥ = omega arith in w)
-    by false x b y h = absurd (let zero-one : _≡_ {A = ℕ} 0 1 = ap (λ (t : Bool). cond t 1 0) h in let w : ⊥ = omega arith in w)
 
 module _ (p : ℕ) (s : Progress) (r : Reached (s .memory)) (z : s .stop ≡ 0) where
   further : unanswered p (single (Step p) s) ≡ true → Further p s r
   unfolding reached-command
   further e =
-      let made = single-made (Step p) s z (busy-after p (single (Step p) s) e .0) in
-      let busy = busy-after p (next p s) (ap (unanswered p) (sym (made .is)) ∙ e) .1 in
+      let made = single-made figure2 (Step p) s z (busy-after figure2 p (single (Step p) s) e .0) in
+      let busy = busy-after figure2 p (next p s) (ap (unanswered p) (sym (made .is)) ∙ e) .1 in
       let r′ = reached-command r p order.Step [] in
       let below = stepped-busy r p (unrefused (s .memory) p order.Step [] (made .accepted)) .0 in
-      let sized : outcome (Step p) s .1 .bench .n ≡ s .memory .bench .n = reached-n r′ ∙ sym (reached-n r) in
+      let sized : outcome figure2 (Step p) s .1 .bench .n ≡ s .memory .bench .n = reached-n r′ ∙ sym (reached-n r) in
       record { made = made; open-call = busy-open r′ p (omega (arith, below, sized)) busy }
 
 -- a step, and where it did not answer, the same again
 pub until-answered : UntilAnswered
-unfolding TR.steps
-until-answered p s = by (unanswered p (single (Step p) s)) refl
-  where
-    by : (a : Bool) → unanswered p (single (Step p) s) ≡ a
-        → cond a (steps (mostEntries - s .entries) p (single (Step p) s)) (single (Step p) s) ≡ cond a (finish p (single (Step p) s)) (single (Step p) s)
-    by false e = refl
-    by true e =
-        let goes = busy-after p (single (Step p) s) e .0 in
-        let made = single-made (Step p) s (single-stays (Step p) s goes) goes in
-        let one : single (Step p) s .entries ≡ s .entries + 1 = ap (λ (t : Progress). t .entries) (made .is) in
-        ap (λ (k : ℕ). steps k p (single (Step p) s)) (let left : mostEntries - s .entries ≡ suc (mostEntries - single (Step p) s .entries) = omega (arith, one, made .fewer) in left)
+until-answered p s = R.until-answered figure2 p s
 
 open-counts : {m : Memory} (r : Reached m) (p : ℕ) (o : Open (openIn r p)) → o .steps < largest (r .w) (o .kind)
 open-counts r p o = subst (OpenCounted (r .w)) (o .is) (open-fewer r p)
@@ -77,7 +60,7 @@ steps-bounded (suc left) p s r z o = by (steps-bounded left p (next p s) (reache
     by : ((o′ : Open (openIn (reached-command r p order.Step []) p)) → steps left p (next p s) .entries + o′ .steps ≤ s .entries + 1 + largest (r .w) (o′ .kind))
         → (a : Bool) → unanswered p (single (Step p) s) ≡ a
         → cond a (steps left p (single (Step p) s)) (single (Step p) s) .entries + o .steps ≤ s .entries + largest (r .w) (o .kind)
-    by rest false e = omega (arith, open-counts r p o, single-entries (Step p) s)
+    by rest false e = omega (arith, open-counts r p o, single-entries figure2 (Step p) s)
     by rest true e =
         let f = further p s r z e in
         let more = one-step-more r p (unrefused (s .memory) p order.Step [] (f .made .accepted)) o (f .open-call) in

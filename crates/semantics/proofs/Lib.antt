@@ -1,12 +1,11 @@
 pub mod BenchRuns
 pub mod StopRuns
 pub mod ReachedLaws
-pub mod KeptLaws
+pub mod FarLaws
 pub mod CommandFrame
 pub mod TextFrame
 pub mod TableLengths
 pub mod AcceptedSteps
 pub mod OpenCalls
-pub mod SingleEntries
 pub mod FinishLaws
 pub mod TraceTruth

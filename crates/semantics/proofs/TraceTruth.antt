@@ -31,10 +31,10 @@ use Rattle.access.proofs.Theorems.{trace-is-true, step-depends}
 use Rattle.semantics.specs.Reached.{Reached}
 use Rattle.text_runs.specs.TextRun.{mostEntries, roomNeeded, processOf, orderOf, valueOf}
 use Rattle.text_runs.specs.TextRun as TR
-use Rattle.semantics.specs.TextRun.{Progress, stopped, lineOf, accessNow}
+use Rattle.semantics.specs.TextRun.{figure2, Progress, stopped, lineOf, accessNow}
 use Rattle.semantics.specs.TextRun.{traceLine, linesOf, counted, commanded, single, unanswered, steps, carry, carryAll, begun}
 use Rattle.semantics.proofs.ReachedLaws.{reached-set-up, reached-command}
-use Rattle.semantics.proofs.SingleEntries.{outcome, made-commanded}
+use Rattle.text_runs.proofs.SingleEntries.{outcome, made-commanded}
 use Rattle.semantics.proofs.AcceptedSteps.{unrefused, left-by, stepped, at-work}
 
 -- What the trace line of an entry says of its command, which found the memory m and left m′.
@@ -60,11 +60,11 @@ EntryTrue (Finish p) m m′ = StepTrue p m m′
 -- command found, and the line of its answer, if any; and the trace line is true of that memory and the one that the
 -- command left.
 pub record TrueLine (e : Entry) (s : Progress) : Type 0 where
-  pub accepted : numberOf (outcome e s .0) ≡ 0
+  pub accepted : numberOf (outcome figure2 e s .0) ≡ 0
   pub written : commanded e s .listing
-      ≡ sets (s .listing) (s .written) (traceLine (s .entries + 1) (s .memory) e (outcome e s .0) ++ lineOf (outcome e s .1) (processOf e) (outcome e s .0))
-  pub left : commanded e s .memory ≡ outcome e s .1
-  pub truth : EntryTrue e (s .memory) (outcome e s .1)
+      ≡ sets (s .listing) (s .written) (traceLine (s .entries + 1) (s .memory) e (outcome figure2 e s .0) ++ lineOf (outcome figure2 e s .1) (processOf e) (outcome figure2 e s .0))
+  pub left : commanded e s .memory ≡ outcome figure2 e s .1
+  pub truth : EntryTrue e (s .memory) (outcome figure2 e s .1)
 
 -- A traced run whose memory a set-up and commands have made.
 pub record Traced (s : Progress) : Type 0 where
@@ -123,22 +123,22 @@ module _ {s : Progress} (h : Traced s) where
   abbrev m : Memory
   m = s .memory
 
-  entry-true : (e : Entry) → numberOf (outcome e s .0) ≡ 0 → EntryTrue e m (outcome e s .1)
+  entry-true : (e : Entry) → numberOf (outcome figure2 e s .0) ≡ 0 → EntryTrue e m (outcome figure2 e s .1)
   entry-true (StartLl p) z = subst (StartTrue m) (sym (left-by m p order.StartLl [] z)) (start-ll-true m p [])
   entry-true (StartVl p) z = subst (StartTrue m) (sym (left-by m p order.StartVl [] z)) (start-vl-true m p [])
   entry-true (StartSc p k) z = let v = replicate (m .bench .w) k in subst (StartTrue m) (sym (left-by m p order.StartSc v z)) (start-sc-true m p v)
   entry-true (Step p) z = subst (StepTrue p m) (sym (left-by m p order.Step [] z)) (step-true (h .reached) p (unrefused m p order.Step [] z))
   entry-true (Finish p) z = subst (StepTrue p m) (sym (left-by m p order.Step [] z)) (step-true (h .reached) p (unrefused m p order.Step [] z))
 
-  module _ (e : Entry) (z : numberOf (outcome e s .0) ≡ 0) where
-    goes-on : commanded e s ≡ counted s (outcome e s .1) (linesOf s e (outcome e s))
-    goes-on = made-commanded e s z
+  module _ (e : Entry) (z : numberOf (outcome figure2 e s .0) ≡ 0) where
+    goes-on : commanded e s ≡ counted s (outcome figure2 e s .1) (linesOf s e (outcome figure2 e s))
+    goes-on = made-commanded figure2 e s z
 
     -- `trace-is-true` for a command of a text run
     pub line-is-true : TrueLine e s
     line-is-true =
-        let answer = lineOf (outcome e s .1) (processOf e) (outcome e s .0) in
-        let lines = ap (λ (t : Bool). cond t (traceLine (s .entries + 1) m e (outcome e s .0)) [] ++ answer) (h .traced) in
+        let answer = lineOf (outcome figure2 e s .1) (processOf e) (outcome figure2 e s .0) in
+        let lines = ap (λ (t : Bool). cond t (traceLine (s .entries + 1) m e (outcome figure2 e s .0)) [] ++ answer) (h .traced) in
         record {
           accepted = z;
           written = ap (λ (t : Progress). t .listing) goes-on ∙ ap (sets (s .listing) (s .written)) lines;
@@ -162,13 +162,13 @@ module _ {s : Progress} where
   halts k g = record { told = stops (g .told) k; traced = record { traced = g .traced .traced; reached = g .traced .reached } }
 
   command-told : (e : Entry) {t : Progress} → Goes s t → Goes s (commanded e t)
-  command-told e {t} g = by (numberOf (outcome e t .0)) refl
+  command-told e {t} g = by (numberOf (outcome figure2 e t .0)) refl
     where
-      by : (k : ℕ) → numberOf (outcome e t .0) ≡ k → Goes s (commanded e t)
+      by : (k : ℕ) → numberOf (outcome figure2 e t .0) ≡ k → Goes s (commanded e t)
       by zero z = record { told = writes (g .told) e (line-is-true (g .traced) e z); traced = still-traced (g .traced) e z }
       by (suc k) z =
-          let halted : commanded e t ≡ stopped (numberOf (outcome e t .0)) t = simp (ne-eqb (numberOf (outcome e t .0)) 0 (λ y. omega (arith, y, z))) in
-          subst (Goes s) (sym halted) (halts (numberOf (outcome e t .0)) g)
+          let halted : commanded e t ≡ stopped (numberOf (outcome figure2 e t .0)) t = simp (ne-eqb (numberOf (outcome figure2 e t .0)) 0 (λ y. omega (arith, y, z))) in
+          subst (Goes s) (sym halted) (halts (numberOf (outcome figure2 e t .0)) g)
 
   single-told : (e : Entry) {t : Progress} → Goes s t → Goes s (single e t)
   unfolding TR.single

@@ -5,4 +5,5 @@ pub mod RowLaws
 pub mod AddLaws
 pub mod Bytes
 pub mod Order
+pub mod TotalLaws
 pub mod Theorems

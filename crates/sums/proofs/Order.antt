@@ -77,14 +77,14 @@ module _ (s : Sums) (f : Fine s) (bs : List ℕ) where
   unfolding added addRefusal
   wrong e h = simp (fine-right s f, lt-ltb (s .taken) mostListings h, e)
 
-  takes : isRight (s .n) (s .w) bs ≡ true → s .taken < mostListings → added s bs .sums ≡ taking s bs
+  pub takes : isRight (s .n) (s .w) bs ≡ true → s .taken < mostListings → added s bs .sums ≡ taking s bs
   unfolding added addRefusal
   takes e h = simp (fine-right s f, lt-ltb (s .taken) mostListings h, e)
 
-  gains : (r : Right (s .n) (s .w) bs) → listingIn (s .n) (s .w) (s .each) bs .each ≡ gained (s .each) (r .shaped .answers)
+  pub gains : (r : Right (s .n) (s .w) bs) → listingIn (s .n) (s .w) (s .each) bs .each ≡ gained (s .each) (r .shaped .answers)
   gains r = ap (λ (x : Read). x .each) (reads-shaped (s .n) (s .w) (s .each) (f .fewN) (r .shaped))
 
-  taking-fine : isRight (s .n) (s .w) bs ≡ true → s .taken < mostListings → Fine (taking s bs)
+  pub taking-fine : isRight (s .n) (s .w) bs ≡ true → s .taken < mostListings → Fine (taking s bs)
   unfolding taking
   taking-fine e h =
       let r = right-of (s .n) (s .w) bs (f .fewN) e in

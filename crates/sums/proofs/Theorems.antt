@@ -7,10 +7,10 @@ use native.Mathlib.Omega.{arith}
 use native.Mathlib.Nat.{dvd-zero}
 use borrow.Author.Tests.{leb-true, lt-ltb, ne-eqb}
 use lib.Dec.{leb, eqb}
-use lib.ListN.{length, getD, replicate}
+use lib.ListN.{length, getD, replicate, getD-replicate, length-replicate}
 use Rattle.answers.specs.declared.Sum.{Sum}
-use Rattle.answers.specs.Shape.{Right}
-use Rattle.answers.specs.Gains.{noSum, gained}
+use Rattle.answers.specs.Shape.{Answer, ll, sc, vl, Right}
+use Rattle.answers.specs.Gains.{noSum, plus, gainOf, gained}
 use Rattle.answers.specs.Readers.{Read, listingIn}
 use Rattle.answers.proofs.Theorems.{reads-shaped}
 use Rattle.sums.specs.declared.Sums.{Sums}
@@ -19,10 +19,12 @@ use Rattle.sums.specs.declared.Row.{Row}
 use Rattle.sums.specs.declared.Table.{Table}
 use Rattle.sums.specs.Season.{emptySums, mostListings, allSmall, sumsRefusal, isRight, listingRefusal, addRefusal, taking, added, addAll}
 use Rattle.sums.specs.Fractions.{none, lowest, Exact, rowOf, noRow, rowsOf, table}
+use Rattle.sums.specs.SeasonTable.{Listing, bytesOf, answersOf, scSuccess, scAnswered, llSteps, llAnswered, total, Tabled, SeasonTable}
 use Rattle.sums.proofs.GcdLaws.{lowest-terms, no-calls}
 use Rattle.sums.proofs.RefusalLaws.{Passes, passes, and-true}
 use Rattle.sums.proofs.RowLaws.{row-below, row-past}
 use Rattle.sums.proofs.Order.{right-of, of-right, Fine, empty-fine, fine-right, all-fine, same-sums}
+use Rattle.sums.proofs.TotalLaws.{totals, all-gained}
 
 -- Row 18 is exact: a listing is taken exactly if it is of 01's shape, with N, W and numbers as CR 2 says,
 pub right-exactly : (n w : ℕ) (bs : List ℕ) → n ≤ 16 → (isRight n w bs ≡ true → Right n w bs) × (Right n w bs → isRight n w bs ≡ true)
@@ -136,3 +138,76 @@ exact-rows s p e h =
     let t : Sum = getD (s .each) p noSum in
     subst (λ (r : Row). Exact (t .successes) (t .scs) (r .successes) × Exact (t .steps) (t .lls) (r .steps)) (sym (own-row s p e h))
     (exact (t .successes) (t .scs), exact (t .steps) (t .lls))
+
+-- CR 2 in one statement: for up to 4,096 right listings of one N and W the table has, for each process, the fractions of
+-- the answers in all of them.
+module _ (n w : ℕ) (a : 1 ≤ n) (b : n ≤ 16) (c : 1 ≤ w) (d : w ≤ 64) (season : List (Listing n w)) (h : length season ≤ mostListings) where
+  abbrev end : Sums
+  end = addAll (emptySums n w) (bytesOf season)
+
+  abbrev answers : List Answer
+  answers = answersOf season
+
+  abbrev each : List Sum
+  each = gained (replicate 16 noSum) answers
+
+  end-is : end ≡ record { n = n; w = w; taken = 0 + length season; each = each }
+  unfolding emptySums
+  end-is = all-gained n w season 0 (replicate 16 noSum) (empty-fine n w a b c d) (omega arith)
+
+  number : table end .number ≡ 0
+  number = never-nine n w (bytesOf season) a b c d
+
+  -- one of the four sums of a process
+  total-is : (g : Sum → ℕ) (f : Answer → ℕ) (adds : (s t : Sum) → g (plus s t) ≡ g s + g t) (worth : (x : Answer) → g (gainOf x) ≡ f x)
+      → g noSum ≡ 0 → (p : ℕ) → p < n → g (getD (end .each) p noSum) ≡ total f p answers
+  total-is g f adds worth nought p k =
+      let x = ap (λ (s : Sums). g (getD (s .each) p noSum)) end-is in
+      let y = totals g f adds worth (replicate 16 noSum) answers p (omega (arith, length-replicate 16 noSum)) in
+      let z = ap g (getD-replicate 16 p noSum noSum (omega arith)) in
+      omega (arith, x, y, z, nought)
+
+  below-n : (p : ℕ) → p < n → p < end .n
+  below-n p k = omega (arith, ap (λ (s : Sums). s .n) end-is)
+
+  season-tabled : Tabled n answers (table end)
+  season-tabled = record {
+    number = number;
+    successes = λ p k.
+        let scs = total-is (λ (s : Sum). s .scs) scAnswered (λ s t. refl) of-scs refl p k in
+        let ones = total-is (λ (s : Sum). s .successes) scSuccess (λ s t. refl) of-successes refl p k in
+        rw (sym scs, sym ones) (exact-rows end p number (below-n p k) .0);
+    steps = λ p k.
+        let lls = total-is (λ (s : Sum). s .lls) llAnswered (λ s t. refl) of-lls refl p k in
+        let all = total-is (λ (s : Sum). s .steps) llSteps (λ s t. refl) of-steps refl p k in
+        rw (sym lls, sym all) (exact-rows end p number (below-n p k) .1);
+    others = λ p k q. other-row end p number (omega (arith, ap (λ (s : Sums). s .n) end-is)) q;
+  }
+    where
+      of-scs : (x : Answer) → gainOf x .scs ≡ scAnswered x
+      of-scs (ll p e ws) = refl
+      of-scs (sc p e t) = refl
+      of-scs (vl p e t) = refl
+
+      of-successes : (x : Answer) → gainOf x .successes ≡ scSuccess x
+      of-successes (ll p e ws) = refl
+      of-successes (sc p e t) = refl
+      of-successes (vl p e t) = refl
+
+      of-lls : (x : Answer) → gainOf x .lls ≡ llAnswered x
+      of-lls (ll p e ws) = refl
+      of-lls (sc p e t) = refl
+      of-lls (vl p e t) = refl
+
+      of-steps : (x : Answer) → gainOf x .steps ≡ llSteps x
+      of-steps (ll p e ws) = refl
+      of-steps (sc p e t) = refl
+      of-steps (vl p e t) = refl
+
+pub season-table : SeasonTable
+season-table n w a b c d season h =
+    let few : length season ≤ 4096 = omega arith in
+    record {
+      all-taken = ap (λ (s : Sums). s .taken) (end-is n w a b c d season few) ∙ omega arith;
+      tabled = season-tabled n w a b c d season few;
+    }

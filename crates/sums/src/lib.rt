@@ -5,7 +5,7 @@ ghost use Rattle.sums.specs.Season.{emptySums, added};
 ghost use Rattle.sums.specs.Fractions.{table};
 
 mod refusals;
-mod rows;
+mod table_rows;
 
 // The sums of the listings taken so far, of n processes and w words. Those of processes not below n are never looked
 // at.
@@ -119,13 +119,13 @@ pub fn table_of(sums: Sums) -> Table
 {
     let number = refusals::sums_refusal(sums);
     if number != 0 {
-        let none = rows::no_row();
+        let none = table_rows::no_row();
         return Table {
             number,
             rows: [none; 16],
         };
     }
     let each = sums.each;
-    let rows = rows::rows_of(each, sums.n as usize);
+    let rows = table_rows::rows_of(each, sums.n as usize);
     Table { number: 0, rows }
 }

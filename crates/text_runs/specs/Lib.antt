@@ -1,3 +1,4 @@
 pub mod Machines
 pub mod TextRun
 pub mod StopPlaces
+pub mod KeptEntries

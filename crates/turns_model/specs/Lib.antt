@@ -1,2 +1,3 @@
+pub mod TurnPromises
 pub mod TurnReplies
 pub mod Turns

@@ -7,7 +7,7 @@ use Rattle.fractions.proofs.season.Tie as tie
 use Rattle.fractions.proofs.season.Reads as reads
 use Rattle.fractions.proofs.season.Lts as lts
 use Rattle.fractions.proofs.files.add_file.Reads as add-file-reads
-use Rattle.fractions.proofs.messages.progress.Reads as progress-reads
+use Rattle.fractions.proofs.notices.progress.Reads as progress-reads
 
 abbrev Inv-loop : tie.InvT-loop
 Inv-loop count sums₀ i₀ sums i = 0 ≤ i

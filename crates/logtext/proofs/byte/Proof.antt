@@ -17,7 +17,7 @@ same-length c = search needs
 returns : tie.Need-returns
 returns c =
     let d = c .before .before .before .before in let a = d .before .before .before .before .args in
-    byte-gap (a .r) (a .numbers .now) (search needs) (a .b) (search needs) (sym (d .before .is-gap .ensures) ∙ d .if2 .taken) _ _ (c .before .before .close .ensures)
+    byte-gap (a .r) (a .numbers .now) (a .b) (search needs) (sym (d .before .is-gap .ensures) ∙ d .if2 .taken) _ _ (c .before .before .close .ensures)
 
 stopped-requires : tie.Need-stopped-requires
 stopped-requires c κs = search needs
@@ -25,7 +25,7 @@ stopped-requires c κs = search needs
 returns-2 : tie.Need-returns-2
 returns-2 c =
     let d = c .before in let a = d .before .before .before .before .args in
-    byte-low (a .r) (a .numbers .now) (search needs) (a .b) (search needs) (sym (d .before .is-gap .ensures) ∙ d .if2 .left) _ (c .stopped .ensures)
+    byte-low (a .r) (a .numbers .now) (a .b) (search needs) (sym (d .before .is-gap .ensures) ∙ d .if2 .left) _ (c .stopped .ensures)
 
 cast-digit : tie.Need-cast-digit
 cast-digit c = search needs
@@ -36,7 +36,7 @@ digit-requires c κs = search needs
 returns-3 : tie.Need-returns-3
 returns-3 c =
     let s = c .before .before .before .before in let a = s .args in
-    byte-digit (a .r) (a .numbers .now) (search needs) (a .b) (search needs) (search needs) _ (c .digit .ensures)
+    byte-digit (a .r) (a .numbers .now) (a .b) (search needs) (search needs) _ (c .digit .ensures)
 
 stopped-requires-2 : tie.Need-stopped-requires-2
 stopped-requires-2 c κs = search needs
@@ -44,7 +44,7 @@ stopped-requires-2 c κs = search needs
 returns-4 : tie.Need-returns-4
 returns-4 c =
     let s = c .before .before .before .before in let a = s .args in
-    byte-high (a .r) (a .numbers .now) (search needs) (a .b) (search needs) _ (c .stopped2 .ensures)
+    byte-high (a .r) (a .numbers .now) (a .b) (search needs) _ (c .stopped2 .ensures)
 
 pub byte-spec : {M : Type 1} → statement M
 byte-spec =

@@ -6,7 +6,7 @@ use Rattle.logtext.proofs.close.Statement.{statement}
 use Rattle.logtext.proofs.close.Tie as tie
 
 returns : tie.Need-returns
-returns c = close-none (c .before .before .before .args .r) (c .before .before .before .args .numbers .now) (search needs) (not-true _ (c .if1 .taken))
+returns c = close-none (c .before .before .before .args .r) (c .before .before .before .args .numbers .now) (not-true _ (c .if1 .taken))
 
 stopped-requires : tie.Need-stopped-requires
 stopped-requires c κs = search needs
@@ -14,7 +14,7 @@ stopped-requires c κs = search needs
 returns-2 : tie.Need-returns-2
 returns-2 c =
     let v = c .before .before in let s = v .before .before .before in
-    close-full (s .args .r) (s .args .numbers .now) (search needs) (not-false _ (v .if1 .left)) (search needs) _ (c .stopped .ensures)
+    close-full (s .args .r) (s .args .numbers .now) (not-false _ (v .if1 .left)) (search needs) _ (c .stopped .ensures)
 
 mul-numbers : tie.Need-mul-numbers
 mul-numbers c = search needs
@@ -29,7 +29,7 @@ same-length : tie.Need-same-length
 same-length c = search needs
 
 returns-3 : tie.Need-returns-3
-returns-3 c = close-put (c .before .before .before .before .args .r) (c .before .before .before .before .args .numbers .now) (search needs) (not-false _ (c .before .if1 .left)) (search needs)
+returns-3 c = close-put (c .before .before .before .before .args .r) (c .before .before .before .before .args .numbers .now) (not-false _ (c .before .if1 .left)) (search needs)
 
 pub close-spec : {M : Type 1} → statement M
 close-spec =

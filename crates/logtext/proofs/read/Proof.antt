@@ -3,12 +3,12 @@ use borrow.Author.Needs.{needs}
 use Prim.Native.Nat.{_-_}
 use native.Mathlib.Omega.{arith}
 use lib.ListN.{length}
-use Rattle.logtext.proofs.ReadingLaws.{ReadInv, read-begin, read-stop, read-go, read-end}
+use Rattle.logtext.proofs.ReadingLaws.{ReadInv, read-begin, read-stop, stop-long, read-go, read-end, end-long}
 use Rattle.logtext.proofs.read.Statement.{statement}
 use Rattle.logtext.proofs.read.Tie as tie
 
 abbrev Inv-loop : tie.InvT-loop
-Inv-loop text numbers₀ r₀ i₀ numbers r i = ReadInv text (length numbers₀) numbers r i
+Inv-loop text numbers₀ r₀ i₀ numbers r i = ReadInv text numbers₀ numbers r i
 
 abbrev μ-loop : tie.MeasureT-loop
 μ-loop text numbers₀ r₀ i₀ numbers r i = length text - i
@@ -23,7 +23,9 @@ byte-requires : tie.Need-byte-requires Inv-loop μ-loop
 byte-requires c κs = search needs
 
 same-length : tie.Need-same-length Inv-loop μ-loop
-same-length c = search needs
+same-length c =
+    let b = c .before .before .before .before in let v = b .before .before .before .before .loop .inv in
+    stop-long _ _ _ _ _ v (search needs) _ _ (b .byte .ensures) (c .if1 .taken)
 
 returns : tie.Need-returns Inv-loop μ-loop
 returns c =
@@ -45,7 +47,7 @@ close-requires : tie.Need-close-requires Inv-loop μ-loop
 close-requires c κs = search needs
 
 same-length-2 : tie.Need-same-length-2 Inv-loop μ-loop
-same-length-2 c = search needs
+same-length-2 c = end-long _ _ _ _ _ (c .before .before .before .before .before .loop .inv) (search needs) _ _ (c .before .before .close .ensures)
 
 returns-2 : tie.Need-returns-2 Inv-loop μ-loop
 returns-2 c = read-end _ _ _ _ _ (c .before .before .before .before .before .loop .inv) (search needs) _ _ (c .before .before .close .ensures)

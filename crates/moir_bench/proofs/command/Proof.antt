@@ -83,18 +83,18 @@ use Rattle.moir_rows.proofs.records.no_process.Symbol as none-def
 use Rattle.moir_rows.proofs.records.no_process.Symbol.{name as #moir-rows·records·no-process}
 use Rattle.moir_rows.proofs.records.no_process.Met as none-thm
 use Rattle.moir_bench.proofs.Locals.{Cell, room, holds, cell, locals, local, part, places, backward, frees-all, benchTy, recordTy, recordsTy, wordsTy}
-use Rattle.moir_bench.proofs.lent.gather as gather
-use Rattle.moir_bench.proofs.lent.gather.Symbol as gather-def
-use Rattle.moir_bench.proofs.lent.gather.Symbol.{name as #moir-bench·lent·gather}
-use Rattle.moir_bench.proofs.lent.gather.Met as gather-thm
+use Rattle.moir_bench.proofs.lent_records.gather as gather
+use Rattle.moir_bench.proofs.lent_records.gather.Symbol as gather-def
+use Rattle.moir_bench.proofs.lent_records.gather.Symbol.{name as #moir-bench·lent-records·gather}
+use Rattle.moir_bench.proofs.lent_records.gather.Met as gather-thm
 use Rattle.moir_machine.proofs.decide as decide
 use Rattle.moir_machine.proofs.decide.Symbol as decide-def
 use Rattle.moir_machine.proofs.decide.Symbol.{name as #moir-machine·decide}
 use Rattle.moir_machine.proofs.decide.Met as decide-thm
-use Rattle.moir_bench.proofs.lent.store_at as store-at
-use Rattle.moir_bench.proofs.lent.store_at.Symbol as store-at-def
-use Rattle.moir_bench.proofs.lent.store_at.Symbol.{name as #moir-bench·lent·store-at}
-use Rattle.moir_bench.proofs.lent.store_at.Met as store-at-thm
+use Rattle.moir_bench.proofs.lent_records.store_at as store-at
+use Rattle.moir_bench.proofs.lent_records.store_at.Symbol as store-at-def
+use Rattle.moir_bench.proofs.lent_records.store_at.Symbol.{name as #moir-bench·lent-records·store-at}
+use Rattle.moir_bench.proofs.lent_records.store_at.Met as store-at-thm
 use Rattle.moir_bench.proofs.command.Key.{name as #key}
 use Rattle.moir_bench.proofs.command as f
 use Rattle.moir_bench.proofs.command.Statement as stated
@@ -318,9 +318,9 @@ module _ {M : Type 1} (𝓤 : URA M) (H : Heap 𝓤) (A : Atoms 𝓤) (W : Given
 
   module _ (C : Calls 𝓤 H) (Λ : Loops 𝓤 H) (fm : FmC 𝓤 H (W .laws) C)
       (known-none : Triple 𝓤 (C #moir-rows·records·no-process) (NoneC 𝓤 H A at-mem run))
-      (known-gather : Triple 𝓤 (C #moir-bench·lent·gather) (GatherC 𝓤 H A at-mem run))
+      (known-gather : Triple 𝓤 (C #moir-bench·lent-records·gather) (GatherC 𝓤 H A at-mem run))
       (known-decide : Triple 𝓤 (C #moir-machine·decide) (DecideC 𝓤 H A at-mem run))
-      (known-store : Triple 𝓤 (C #moir-bench·lent·store-at) (StoreC 𝓤 H A at-mem run)) where
+      (known-store : Triple 𝓤 (C #moir-bench·lent-records·store-at) (StoreC 𝓤 H A at-mem run)) where
     module _ (l₀ l₁ l₂ l₃ l₄ l₅ l₆ l₇ l₈ l₉ l₁₀ l₁₁ l₁₂ l₁₃ l₁₄ l₁₅ l₁₆ l₁₇ l₁₈ : ℕ) where
       abbrev En : Env 𝓤 H
       En = (R′.mir, l₀) ∷ (benchTy (named 0) mut, l₁) ∷ (recordsTy (named 1) mut, l₂) ∷ (wordsTy (named 2) mut, l₃) ∷
@@ -488,8 +488,8 @@ module _ {M : Type 1} (𝓤 : URA M) (H : Heap 𝓤) (A : Atoms 𝓤) (W : Given
 module _ {M : Type 1} (𝓤 : URA M) (H : Heap 𝓤) (A : Atoms 𝓤) (W : Given 𝓤 H A) (at-mem : Memory → SProp 𝓤) (run : Routine → Fun 𝓤) where
   walks : (C : Calls 𝓤 H) (Λ : Loops 𝓤 H) → FmC 𝓤 H (W .laws) C
       → Triple 𝓤 (C #moir-rows·records·no-process) (NoneC 𝓤 H A at-mem run)
-      → Triple 𝓤 (C #moir-bench·lent·gather) (GatherC 𝓤 H A at-mem run)
-      → Triple 𝓤 (C #moir-machine·decide) (DecideC 𝓤 H A at-mem run) → Triple 𝓤 (C #moir-bench·lent·store-at) (StoreC 𝓤 H A at-mem run)
+      → Triple 𝓤 (C #moir-bench·lent-records·gather) (GatherC 𝓤 H A at-mem run)
+      → Triple 𝓤 (C #moir-machine·decide) (DecideC 𝓤 H A at-mem run) → Triple 𝓤 (C #moir-bench·lent-records·store-at) (StoreC 𝓤 H A at-mem run)
       → Walks 𝓤 H A f.ended stayed (WpFn 𝓤 H C Λ code.function) (f.clauses 𝓤 H A at-mem run)
   walks C Λ fm k₁ k₂ k₃ k₄ = walked 𝓤 H A f.ended stayed (f.clauses 𝓤 H A at-mem run) (WpFn 𝓤 H C Λ code.function)
       (λ κs. (ptr-vals, (slice-vals, (slice-vals, (uint-vals w64, (EL.vals Q.the-type Q′.the-laws, (slice-vals, tt)))))))
@@ -531,8 +531,8 @@ module _ {M : Type 1} (𝓤 : URA M) (H : Heap 𝓤) (A : Atoms 𝓤) (W : Given
 
 meets : {M : Type 1} (𝓤 : URA M) (H : Heap 𝓤) (A : Atoms 𝓤) → Given 𝓤 H A → (at-mem : Memory → SProp 𝓤) (run : Routine → Fun 𝓤) (𝓣 : Tables 𝓤 H)
     → Triple 𝓤 (𝓣 .C #moir-rows·records·no-process) (NoneC 𝓤 H A at-mem run)
-    → Triple 𝓤 (𝓣 .C #moir-bench·lent·gather) (GatherC 𝓤 H A at-mem run)
-    → Triple 𝓤 (𝓣 .C #moir-machine·decide) (DecideC 𝓤 H A at-mem run) → Triple 𝓤 (𝓣 .C #moir-bench·lent·store-at) (StoreC 𝓤 H A at-mem run)
+    → Triple 𝓤 (𝓣 .C #moir-bench·lent-records·gather) (GatherC 𝓤 H A at-mem run)
+    → Triple 𝓤 (𝓣 .C #moir-machine·decide) (DecideC 𝓤 H A at-mem run) → Triple 𝓤 (𝓣 .C #moir-bench·lent-records·store-at) (StoreC 𝓤 H A at-mem run)
     → Meets 𝓤 H A f.signature (WpFn 𝓤 H (𝓣 .C) (𝓣 .Λ) code.function) (f.spec 𝓤 H A at-mem run)
 meets 𝓤 H A W at-mem run 𝓣 k₁ k₂ k₃ k₄ = walk-meets 𝓤 H A f.ended stayed W (goes 𝓤 H A W at-mem run) (f.clauses 𝓤 H A at-mem run)
     (WpFn 𝓤 H (𝓣 .C) (𝓣 .Λ) code.function) (WpFn-mono 𝓤 H (W .laws) 𝓣 code.function)
@@ -546,9 +546,9 @@ command-spec 𝓤 H 𝓜 𝓖 𝓡 =
     (meets 𝓤 H (𝓖 .A) (givenOf 𝓤 H 𝓜 𝓖) (𝓜 .mem) (𝓡 .run) (tablesOf 𝓤 H 𝓜 (tables 𝓤 H 𝓜 𝓡 code.env))
     (cited 𝓤 H (NoneC 𝓤 H (𝓖 .A) (𝓜 .mem) (𝓡 .run)) 𝓜 𝓡 code.env #moir-rows·records·no-process none-def.routine
     code.calls-moir-rows·records·no-process (none-thm.met 𝓤 H 𝓜 𝓖 𝓡))
-    (cited 𝓤 H (GatherC 𝓤 H (𝓖 .A) (𝓜 .mem) (𝓡 .run)) 𝓜 𝓡 code.env #moir-bench·lent·gather gather-def.routine
-    code.calls-moir-bench·lent·gather (gather-thm.met 𝓤 H 𝓜 𝓖 𝓡))
+    (cited 𝓤 H (GatherC 𝓤 H (𝓖 .A) (𝓜 .mem) (𝓡 .run)) 𝓜 𝓡 code.env #moir-bench·lent-records·gather gather-def.routine
+    code.calls-moir-bench·lent-records·gather (gather-thm.met 𝓤 H 𝓜 𝓖 𝓡))
     (cited 𝓤 H (DecideC 𝓤 H (𝓖 .A) (𝓜 .mem) (𝓡 .run)) 𝓜 𝓡 code.env #moir-machine·decide decide-def.routine
     code.calls-moir-machine·decide (decide-thm.met 𝓤 H 𝓜 𝓖 𝓡))
-    (cited 𝓤 H (StoreC 𝓤 H (𝓖 .A) (𝓜 .mem) (𝓡 .run)) 𝓜 𝓡 code.env #moir-bench·lent·store-at store-at-def.routine
-    code.calls-moir-bench·lent·store-at (store-at-thm.met 𝓤 H 𝓜 𝓖 𝓡)))
+    (cited 𝓤 H (StoreC 𝓤 H (𝓖 .A) (𝓜 .mem) (𝓡 .run)) 𝓜 𝓡 code.env #moir-bench·lent-records·store-at store-at-def.routine
+    code.calls-moir-bench·lent-records·store-at (store-at-thm.met 𝓤 H 𝓜 𝓖 𝓡)))

@@ -68,10 +68,10 @@ use Rattle.moir_bench.proofs.set_up_by_value as by-value
 use Rattle.moir_bench.proofs.set_up_by_value.Symbol as by-value-def
 use Rattle.moir_bench.proofs.set_up_by_value.Symbol.{name as #moir-bench·set-up-by-value}
 use Rattle.moir_bench.proofs.set_up_by_value.Met as by-value-thm
-use Rattle.moir_bench.proofs.lent.set_up_records as set-records
-use Rattle.moir_bench.proofs.lent.set_up_records.Symbol as set-records-def
-use Rattle.moir_bench.proofs.lent.set_up_records.Symbol.{name as #moir-bench·lent·set-up-records}
-use Rattle.moir_bench.proofs.lent.set_up_records.Met as set-records-thm
+use Rattle.moir_bench.proofs.lent_records.set_up_records as set-records
+use Rattle.moir_bench.proofs.lent_records.set_up_records.Symbol as set-records-def
+use Rattle.moir_bench.proofs.lent_records.set_up_records.Symbol.{name as #moir-bench·lent-records·set-up-records}
+use Rattle.moir_bench.proofs.lent_records.set_up_records.Met as set-records-thm
 use Rattle.moir_bench.proofs.set_up.Key.{name as #key}
 use Rattle.moir_bench.proofs.set_up as f
 use Rattle.moir_bench.proofs.set_up.Statement as stated
@@ -223,7 +223,7 @@ module _ {M : Type 1} (𝓤 : URA M) (H : Heap 𝓤) (A : Atoms 𝓤) (W : Given
 
   module _ (C : Calls 𝓤 H) (Λ : Loops 𝓤 H) (fm : FmC 𝓤 H (W .laws) C)
       (known-by-value : Triple 𝓤 (C #moir-bench·set-up-by-value) (ByValueC 𝓤 H A at-mem run))
-      (known-set : Triple 𝓤 (C #moir-bench·lent·set-up-records) (SetRecordsC 𝓤 H A at-mem run)) where
+      (known-set : Triple 𝓤 (C #moir-bench·lent-records·set-up-records) (SetRecordsC 𝓤 H A at-mem run)) where
     module _ (l₀ l₁ l₂ l₃ l₄ l₅ l₆ l₇ l₈ l₉ l₁₀ l₁₁ l₁₂ l₁₃ l₁₄ : ℕ) where
       abbrev En : Env 𝓤 H
       En = (tyInt w8, l₀) ∷ (benchTy (named 0) mut, l₁) ∷ (recordsTy (named 1) mut, l₂) ∷ (wordsTy (named 2) mut, l₃) ∷
@@ -339,7 +339,7 @@ module _ {M : Type 1} (𝓤 : URA M) (H : Heap 𝓤) (A : Atoms 𝓤) (W : Given
 
 module _ {M : Type 1} (𝓤 : URA M) (H : Heap 𝓤) (A : Atoms 𝓤) (W : Given 𝓤 H A) (at-mem : Memory → SProp 𝓤) (run : Routine → Fun 𝓤) where
   walks : (C : Calls 𝓤 H) (Λ : Loops 𝓤 H) → FmC 𝓤 H (W .laws) C → Triple 𝓤 (C #moir-bench·set-up-by-value) (ByValueC 𝓤 H A at-mem run)
-      → Triple 𝓤 (C #moir-bench·lent·set-up-records) (SetRecordsC 𝓤 H A at-mem run)
+      → Triple 𝓤 (C #moir-bench·lent-records·set-up-records) (SetRecordsC 𝓤 H A at-mem run)
       → Walks 𝓤 H A f.ended stayed (WpFn 𝓤 H C Λ code.function) (f.clauses 𝓤 H A at-mem run)
   walks C Λ fm k₁ k₂ = walked 𝓤 H A f.ended stayed (f.clauses 𝓤 H A at-mem run) (WpFn 𝓤 H C Λ code.function)
       (λ κs. (ptr-vals, (slice-vals, (slice-vals, (uint-vals w64, (uint-vals w64, (slice-vals, tt)))))))
@@ -374,7 +374,7 @@ module _ {M : Type 1} (𝓤 : URA M) (H : Heap 𝓤) (A : Atoms 𝓤) (W : Given
   )
 
 meets : {M : Type 1} (𝓤 : URA M) (H : Heap 𝓤) (A : Atoms 𝓤) → Given 𝓤 H A → (at-mem : Memory → SProp 𝓤) (run : Routine → Fun 𝓤) (𝓣 : Tables 𝓤 H)
-    → Triple 𝓤 (𝓣 .C #moir-bench·set-up-by-value) (ByValueC 𝓤 H A at-mem run) → Triple 𝓤 (𝓣 .C #moir-bench·lent·set-up-records) (SetRecordsC 𝓤 H A at-mem run)
+    → Triple 𝓤 (𝓣 .C #moir-bench·set-up-by-value) (ByValueC 𝓤 H A at-mem run) → Triple 𝓤 (𝓣 .C #moir-bench·lent-records·set-up-records) (SetRecordsC 𝓤 H A at-mem run)
     → Meets 𝓤 H A f.signature (WpFn 𝓤 H (𝓣 .C) (𝓣 .Λ) code.function) (f.spec 𝓤 H A at-mem run)
 meets 𝓤 H A W at-mem run 𝓣 k₁ k₂ = walk-meets 𝓤 H A f.ended stayed W (goes 𝓤 H A W at-mem run) (f.clauses 𝓤 H A at-mem run)
     (WpFn 𝓤 H (𝓣 .C) (𝓣 .Λ) code.function) (WpFn-mono 𝓤 H (W .laws) 𝓣 code.function)
@@ -388,5 +388,5 @@ set-up-spec 𝓤 H 𝓜 𝓖 𝓡 =
     (meets 𝓤 H (𝓖 .A) (givenOf 𝓤 H 𝓜 𝓖) (𝓜 .mem) (𝓡 .run) (tablesOf 𝓤 H 𝓜 (tables 𝓤 H 𝓜 𝓡 code.env))
     (cited 𝓤 H (ByValueC 𝓤 H (𝓖 .A) (𝓜 .mem) (𝓡 .run)) 𝓜 𝓡 code.env #moir-bench·set-up-by-value by-value-def.routine
     code.calls-moir-bench·set-up-by-value (by-value-thm.met 𝓤 H 𝓜 𝓖 𝓡))
-    (cited 𝓤 H (SetRecordsC 𝓤 H (𝓖 .A) (𝓜 .mem) (𝓡 .run)) 𝓜 𝓡 code.env #moir-bench·lent·set-up-records
-    set-records-def.routine code.calls-moir-bench·lent·set-up-records (set-records-thm.met 𝓤 H 𝓜 𝓖 𝓡)))
+    (cited 𝓤 H (SetRecordsC 𝓤 H (𝓖 .A) (𝓜 .mem) (𝓡 .run)) 𝓜 𝓡 code.env #moir-bench·lent-records·set-up-records
+    set-records-def.routine code.calls-moir-bench·lent-records·set-up-records (set-records-thm.met 𝓤 H 𝓜 𝓖 𝓡)))

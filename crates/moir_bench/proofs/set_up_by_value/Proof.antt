@@ -4,7 +4,7 @@ use mathlib.Core.Path.{_≡_, ap, _∙_}
 use mathlib.Core.List.{List}
 use Prim.Native.Nat.{ℕ}
 use borrow.Author.Needs.{needs}
-use Rattle.moir_machine.specs.declared.setup.Prepared.{Prepared}
+use Rattle.moir_machine.specs.declared.setting_up.Prepared.{Prepared}
 use Rattle.moir_bench.specs.declared.NewSetUp.{NewSetUp}
 use Rattle.moir_bench.specs.Lent.{recordsToWrite}
 use Rattle.moir_bench.specs.SettingUp.{counted}

@@ -9,8 +9,8 @@ use Rattle.sums.proofs.table_of.Statement.{statement}
 use Rattle.sums.proofs.table_of.Tie as tie
 use Rattle.sums.proofs.table_of.Reads as reads
 use Rattle.sums.proofs.table_of.Lts as lts
-use Rattle.sums.proofs.rows.no_row.Reads as no-row-reads
-use Rattle.sums.proofs.rows.rows_of.Reads as rows-of-reads
+use Rattle.sums.proofs.table_rows.no_row.Reads as no-row-reads
+use Rattle.sums.proofs.table_rows.rows_of.Reads as rows-of-reads
 use Rattle.sums.proofs.refusals.sums_refusal.Reads as sums-refusal-reads
 
 sums-refusal-requires : tie.Need-sums-refusal-requires

@@ -17,7 +17,7 @@ same-length c = search needs
 returns : tie.Need-returns
 returns c =
     let c3 = c .before .before .before in let a = c3 .before .before .before .args in
-    with-written (finishedOf (a .run) (a .stored) (a .report)) (c3 .write .ensures) (c .returned .ensures)
+    with-written (finishedOf (a .run) (a .report)) (c3 .write .ensures) (c .returned .ensures)
 
 pub ended-spec : {M : Type 1} → statement M
 ended-spec = tie.close (tie.spec write-requires returned-requires same-length returns)

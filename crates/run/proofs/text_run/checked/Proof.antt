@@ -6,7 +6,7 @@ use Rattle.notation.specs.Listed.{ItemsSay}
 use Rattle.notation.proofs.HeaderLaws.{headed-within, headed-small}
 use Rattle.notation.proofs.ListedLaws.{kept-within}
 use Rattle.run.specs.Finished.{memoryOf}
-use Rattle.run.proofs.FaultLaws.{broken-small}
+use Rattle.text_runs.proofs.FaultLaws.{broken-small}
 use Rattle.run.proofs.RunLaws.{answers-as, broken-says, closed-says, kept-says}
 use Rattle.run.proofs.StopLaws.{report-is, broken-stops, closed-stops, kept-stops}
 use borrow.Author.Needs.{needs}

@@ -1,5 +1,5 @@
 -- `run::text_run::refused`: a run that is stopped before its set-up, with its last line.
-use mathlib.Core.Path.{refl, _∙_}
+use mathlib.Core.Path.{_∙_}
 use mathlib.Core.Bool.{false}
 use native.Mathlib.Omega.{arith}
 use borrow.Author.Needs.{needs}
@@ -30,7 +30,7 @@ returns c =
     let a = c8 .args in
     let run = freshRun (a .bench) (a .all) (a .number) false in
     let out = rw (c5 .fresh .ensures) at (c .before .before .ended .ensures) in
-    (closed-answers run (now (a .words)) (now (a .list)) (c8 .pre .0 .filled) (λ j l. refl) out, closed-report run (now (a .list)) out ∙ c4 .at-no-entry .ensures)
+    (closed-answers run (now (a .words)) (now (a .list)) (c8 .pre .0 .filled) out, closed-report run (now (a .list)) out ∙ c4 .at-no-entry .ensures)
 
 pub refused-spec : {M : Type 1} → statement M
 refused-spec = tie.close (tie.spec fresh-requires at-no-entry-requires ended-requires same-length returns)

@@ -1,5 +1,5 @@
 -- `run::text_run::run_in_style`: 14, 12, the first line, and the rest.
-use mathlib.Core.Path.{refl, subst}
+use mathlib.Core.Path.{subst}
 use Prim.Native.Nat.{_≤_, _<_}
 use native.Mathlib.Omega.{arith}
 use borrow.Author.Needs.{needs}
@@ -36,7 +36,7 @@ returns c =
     let m = memoryOf (a .bench) (a .all) (a .len) (now (a .words)) in
     let short : length (now (a .list)) < roomNeeded (a .traced) = omega (arith, c .before .before .before .if1 .taken, c4 .room-needed .ensures) in
     rw (c .returned .ensures, c .before .at-no-entry .ensures, c .before .before .fresh .ensures)
-    (record { same = run-14 (a .traced) m (now (a .text)) (now (a .list)) short; again = c9 .pre; others = λ j l. refl; stops = stops-14 short })
+    (record { same = run-14 (a .traced) m (now (a .text)) (now (a .list)) short; again = c9 .pre; stops = stops-14 short })
 
 refused-requires : tie.Need-refused-requires
 refused-requires c κs =

@@ -8,9 +8,9 @@ use lib.Seq.{length-sets}
 use Rattle.setup.specs.SetUpByValue.{Accepted}
 use Rattle.entry.specs.declared.state.Run.{Run}
 use Rattle.entry.specs.RunState.{Sound}
-use Rattle.carrying.specs.Carried.{entriesIn, placesIn}
+use Rattle.text_runs.specs.KeptEntries.{entriesIn, placesIn}
 use Rattle.entry.proofs.WordLaws.{prefix-length}
-use Rattle.run.proofs.StartLaws.{number-small, accepted, begun-sound, first-state, others-left}
+use Rattle.run.proofs.StartLaws.{number-small, accepted, begun-sound, first-state}
 use Rattle.run.proofs.RunLaws.{sound-closable, closed-answers, closed-report, answers-as, refused-start, carried-start}
 use Rattle.run.proofs.StopLaws.{stop-within, item-read, refused-report, begun-report}
 use borrow.Author.Needs.{needs}
@@ -136,10 +136,9 @@ returns-2 c =
     let ps = placesIn (a .count) (now (a .entries)) in
     let out = c10 .carry-out .ensures in
     let made = carried-start (a .traced) (a .first) es (a .bench) (now (a .words)) (c27 .pre .0) (c23 .set-up-number .ensures) (c27 .pre .1) (c22 .if1 .left) begins (out .becomes) in
-    let others = others-left (a .traced) (a .bench) (now (a .words)) (c27 .pre .0) (a .first .n) (a .first .w) (a .first .initial) (c27 .pre .1) e begins out in
     let item = item-read (now (a .entries)) (c27 .pre .2) (ap (λ (r : Run). r .stop) (c13 .fresh .ensures)) out (a .first .n) (a .first .w) in
     let begun = begun-report (a .traced) (a .first) es ps (a .bench) (now (a .words)) (c27 .pre .0) (c23 .set-up-number .ensures) (c27 .pre .1) (c22 .if1 .left) begins in (
-      answers-as (closed-answers (c10 .carry-out .result .run) _ _ (c10 .carry-out .ensures .becomes .kept .sound .filled) others (c .before .before .ended .ensures)) (made .same),
+      answers-as (closed-answers (c10 .carry-out .result .run) _ _ (c10 .carry-out .ensures .becomes .kept .sound .filled) (c .before .before .ended .ensures)) (made .same),
       closed-report (c10 .carry-out .result .run) _ (c .before .before .ended .ensures) ∙ c4 .stop-report .ensures ∙ item ∙ begun,
     )
 

@@ -1,0 +1,7 @@
+pub mod SingleEntries
+pub mod UntilAnswered
+pub mod KeptLaws
+pub mod MiddleLaws
+pub mod TextLaws
+pub mod StopLaws
+pub mod FaultLaws
