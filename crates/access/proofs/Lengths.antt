@@ -1,14 +1,12 @@
 -- How long the lines of a trace are: at most the 128 bytes that a trace keeps beside the listing's line.
 use Prim.Native.Nat.{ℕ, _+_, _%_, _≤_}
-use mathlib.Core.List.{[], _∷_, _++_}
+use mathlib.Core.List.{_++_}
 use mathlib.Core.Bool.{Bool, true, false, cond}
 use native.Mathlib.Omega.{arith}
 use lib.Dec.{eqb}
 use lib.ListN.{length}
 use Rattle.model.specs.Words.{wordOf}
-use Rattle.listing.specs.Decimal.{decimal}
-use Rattle.listing.specs.Lines.{letterS}
-use Rattle.listing.proofs.Lengths.{count-digits, word-digits, entries-digits, joined}
+use Rattle.listing.proofs.Lengths.{count-digits, joined}
 use Rattle.doings.specs.declared.Item.{Item}
 use Rattle.doings.specs.declared.Item.the-variants.{X, Bank, Help, Half}
 use Rattle.access.specs.declared.Act.{Act}
@@ -17,9 +15,9 @@ use Rattle.access.specs.declared.Access.{Access}
 use Rattle.doings.specs.Items.{index, wordPlace}
 use Rattle.listing.specs.Quoted.{quoted}
 use Rattle.access.specs.TraceLines.{halfText, halfPlaceText, itemText, valuesText, storedText}
-use Rattle.trace_parts.specs.TraceParts.{spaced, bracketed, headText, truthText}
+use Rattle.trace_parts.specs.TraceParts.{spaced, bracketed, headText, endText}
 use Rattle.access.specs.TraceLines.{writtenText, actText, stepLine}
-use Rattle.trace_parts.specs.TraceParts.{endText, broughtText, startLine}
+use Rattle.trace_parts.proofs.Lengths.{spaced-length, number-length, bracketed-length, head-length, truth-length, end-length}
 
 -- no number of an access has more than ten digits, nor its line more than three
 pub record SmallAccess (a : Access) : Type 0 where
@@ -28,21 +26,6 @@ pub record SmallAccess (a : Access) : Type 0 where
   pub word : wordPlace (a .item) ≤ 4294967295
   pub first : a .first ≤ 4294967295
   pub second : a .second ≤ 4294967295
-
-spaced-length : (n k : ℕ) → length (decimal n) ≤ k → length (spaced n) ≤ k + 1
-unfolding spaced
-spaced-length n k h = omega arith
-
-number-length : (n : ℕ) → n ≤ 4294967295 → length (spaced n) ≤ 11
-number-length n h = spaced-length n 10 (word-digits n h)
-
-bracketed-length : (n : ℕ) → n ≤ 4294967295 → length (bracketed n) ≤ 12
-unfolding bracketed
-bracketed-length n h = omega (arith, joined (decimal n) (quoted "]") 10 1 (word-digits n h) (omega arith))
-
-head-length : (entry p : ℕ) → entry ≤ 60000 → p ≤ 4294967295 → length (headText entry p) ≤ 16
-unfolding headText
-head-length entry p h k = joined (decimal entry) (spaced p) 5 11 (entries-digits entry h) (number-length p k)
 
 half-length : (k : ℕ) → length (halfText k) ≤ 5
 unfolding halfText
@@ -70,11 +53,6 @@ written-length (Bank i) = omega arith
 written-length (Help i) = omega arith
 written-length (Half f k) = omega arith
 
-truth-length : (t : Bool) → length (truthText t) ≤ 6
-unfolding truthText
-truth-length true = omega arith
-truth-length false = omega arith
-
 stored-length : (t : Bool) → length (storedText t) ≤ 19
 unfolding storedText
 stored-length true = omega arith
@@ -99,11 +77,6 @@ module _ (v u : ℕ) (h : v ≤ 4294967295) (k : u ≤ 4294967295) where
   act-length (Sc t) i = omega (arith, joined (valuesText i v u) (storedText t) 22 19 (values-length i) (stored-length t))
   act-length (Vl t) i = omega (arith, truth-length t)
 
-end-length : (t : Bool) → length (endText t) ≤ 9
-unfolding endText
-end-length true = omega arith
-end-length false = omega arith
-
 -- a step's line, up to the listing's line where it answers
 pub step-length : (entry p : ℕ) (a : Access) (t : Bool) → entry ≤ 60000 → p ≤ 4294967295 → SmallAccess a → length (stepLine entry p a t) ≤ 128
 unfolding stepLine
@@ -116,17 +89,3 @@ step-length entry p a t h k s =
     let c = joined item (act ++ endText t) 33 56 (item-length (a .item) (s .index) (s .word)) d in
     let b = joined line (item ++ (act ++ endText t)) 4 89 (spaced-length (a .line) 3 (count-digits (a .line) (omega (arith, s .line)))) c in
     omega (arith, joined (headText entry p) (line ++ (item ++ (act ++ endText t))) 16 93 (head-length entry p h k) b)
-
-brought-length : (letter value : ℕ) → value ≤ 4294967295 → length (broughtText letter value) ≤ 11
-unfolding broughtText
-brought-length letter value h = by (eqb letter letterS)
-  where
-    by : (t : Bool) → length (cond t (spaced value) []) ≤ 11
-    by true = number-length value h
-    by false = omega arith
-
-pub start-length : (entry p letter value : ℕ) → entry ≤ 60000 → p ≤ 4294967295 → value ≤ 4294967295 → length (startLine entry p letter value) ≤ 128
-unfolding startLine
-start-length entry p letter value h k l =
-    let c = joined (broughtText letter value) (quoted "\n") 11 1 (brought-length letter value l) (omega arith) in
-    omega (arith, joined (headText entry p) (quoted " start " ++ ((letter ∷ []) ++ (broughtText letter value ++ quoted "\n"))) 16 20 (head-length entry p h k) (omega (arith, c)))

@@ -33,7 +33,8 @@ use Rattle.listing.proofs.WritingLaws.{none, same}
 use Rattle.access.specs.declared.Access.{Access}
 use Rattle.access.specs.Accesses.{accessOf}
 use Rattle.access.proofs.AccessLaws.{access-seen}
-use Rattle.access.proofs.Lengths.{SmallAccess, step-length, start-length}
+use Rattle.trace_parts.proofs.Lengths.{start-length}
+use Rattle.access.proofs.Lengths.{SmallAccess, step-length}
 use Rattle.access.proofs.SmallLaws.{row-9-parts, access-small}
 use Rattle.text_runs.specs.TextRun.{mostEntries, processOf}
 use Rattle.semantics.specs.TextRun.{answers, accessNow, entryLine, traceLine}

@@ -1,2 +1,3 @@
 pub mod AcceptedRows
 pub mod SmallWords
+pub mod LineLengths
