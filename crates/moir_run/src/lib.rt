@@ -1,8 +1,9 @@
-// A schedule text on Moir's bench, with a listing or with a trace: a loop over the proved command by value. Of these
-// functions themselves only safety is proved.
-mod carrying;
+// A schedule text on Moir's bench, with a listing or with a trace. The entry is texts::run_text; every other function is
+// inner.
 mod entries;
+mod entry_loop;
+mod last_lines;
 mod reports;
 pub mod texts;
-mod tracing;
-mod writing;
+mod turns;
+mod written_lines;

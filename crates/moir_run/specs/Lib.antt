@@ -1,0 +1,3 @@
+pub mod RunState
+pub mod Turned
+pub mod Finished
