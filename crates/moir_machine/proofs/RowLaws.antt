@@ -58,6 +58,7 @@ module _ (b : Bench) (list : List Process) (len p : ℕ) (o : Order) (value word
     pub range : inRange (record { bench = b; records = list; words = [] }) ≡ true
     pub process : p < b .n
     pub given : bringsValue o ≡ true → value ≡ b .w
+    pub busy : row6 o (recordAt list (record { 0 = p })) .holds ≡ false
 
   q : Process
   q = recordAt list (record { 0 = p })
@@ -85,6 +86,8 @@ module _ (b : Bench) (list : List Process) (len p : ℕ) (o : Order) (value word
       let c9 = cleared (row9 (rangesOk b list) .holds) 8 r4 (c3 .1) in
       let c4 = cleared (row4 (b .n) p .holds) 3 r8 (c9 .1) in
       let c8 = cleared (row8 o (b .w) value .holds) 7 r5 (c4 .1) in
+      let c5 = cleared (row5 o q .holds) 4 r6 (c8 .1) in
+      let c6 = cleared (row6 o q .holds) 5 r7 (c5 .1) in
       let few = neither (ltb words ((3 * b .n + 1) * b .w)) (ltb len (b .n)) (c3 .0) in
       record {
         n-some = n-in (b .n) (c1 .0) .0;
@@ -95,4 +98,5 @@ module _ (b : Bench) (list : List Process) (len p : ℕ) (o : Order) (value word
         range = not-false (inRange (record { bench = b; records = list; words = [] })) (c9 .0);
         process = leb-false (b .n) p (c4 .0);
         given = λ t. eqb-true value (b .w) (given-of (bringsValue o) (eqb value (b .w)) (c8 .0) t);
+        busy = c6 .0;
       }

@@ -7,7 +7,7 @@ use native.Mathlib.Omega.{arith}
 use lib.Dec.{eqb, ltb, leb}
 use lib.ListN.{length, getD, take}
 use lib.Seq.{length-take-le, getD-take}
-use borrow.Author.Tests.{ne-eqb, ltb-true, leb-true}
+use borrow.Author.Tests.{eq-eqb, ne-eqb, ltb-true, leb-true}
 use Rattle.llsc.specs.declared.Order.{Order}
 use Rattle.llsc.specs.Rows.{every}
 use Rattle.moir_model.specs.declared.Header.{Header}
@@ -35,6 +35,7 @@ pub record InOrder (b : Bench) (q : Process) (p : ℕ) : Type 0 where
   pub x : q .x .pid .0 < b .n
   pub oldhdr : q .oldhdr .pid .0 < b .n
   pub newhdr : q .newhdr .pid .0 < b .n
+  pub line : lineOk q ≡ true
   pub word : q .word < b .w
   pub count : q .count ≤ busyMost (b .w)
 
@@ -51,6 +52,10 @@ module _ (m : Memory) (p : ℕ) (o : Order) (v : List ℕ) where
       by : (k : ℕ) → numberOf (cond {A = Reply × Memory} (eqb k 0) (obeyed m (record { 0 = p }) o v) (Refused k, m) .0) ≡ 0 → k ≡ 0
       by zero e = refl
       by (suc k) e = rw (ne-eqb (suc k) 0 (λ y. omega arith)) at e
+
+  pub left-by : numberOf (command m p o v .0) ≡ 0 → command m p o v ≡ obeyed m (record { 0 = p }) o v
+  unfolding command
+  left-by e = simp (eq-eqb (refusal m p o v) 0 (unrefused e))
 
   module _ (z : refusal m p o v ≡ 0) where
     abbrev b : Bench
@@ -85,7 +90,8 @@ module _ (m : Memory) (p : ℕ) (o : Order) (v : List ℕ) where
         let e1 = right (ok (own .x)) (ok (own .oldhdr) && (ok (own .newhdr) && (ok (own .h) && (l && (lt && k))))) e in
         let e2 = right (ok (own .oldhdr)) (ok (own .newhdr) && (ok (own .h) && (l && (lt && k)))) e1 in
         let e3 = right (ok (own .newhdr)) (ok (own .h) && (l && (lt && k))) e2 in
-        let e5 = right l (lt && k) (right (ok (own .h)) (l && (lt && k)) e3) in
+        let e4 = right (ok (own .h)) (l && (lt && k)) e3 in
+        let e5 = right l (lt && k) e4 in
         record {
           n-most = c .n-most;
           w-most = c .w-most;
@@ -94,6 +100,7 @@ module _ (m : Memory) (p : ℕ) (o : Order) (v : List ℕ) where
           x = ltb-true (own .x .pid .0) (b .n) (left (ok (own .x)) (ok (own .oldhdr) && (ok (own .newhdr) && (ok (own .h) && (l && (lt && k))))) e);
           oldhdr = ltb-true (own .oldhdr .pid .0) (b .n) (left (ok (own .oldhdr)) (ok (own .newhdr) && (ok (own .h) && (l && (lt && k)))) e1);
           newhdr = ltb-true (own .newhdr .pid .0) (b .n) (left (ok (own .newhdr)) (ok (own .h) && (l && (lt && k))) e2);
+          line = left l (lt && k) e4;
           word = ltb-true (own .word) (b .w) (left lt k e5);
           count = count-most (isIdle own) (own .count) (b .w) (right lt k e5);
         }

@@ -1,3 +1,5 @@
 pub mod AcceptedRows
 pub mod SmallWords
 pub mod LineLengths
+pub mod TableLengths
+pub mod TraceTruth

@@ -1,5 +1,6 @@
 pub mod SingleEntries
 pub mod UntilAnswered
+pub mod ToldLaws
 pub mod KeptLaws
 pub mod MiddleLaws
 pub mod TextLaws
