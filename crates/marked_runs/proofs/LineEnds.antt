@@ -27,7 +27,8 @@ use Rattle.semantics.specs.TextRun as T
 use Rattle.marking.specs.declared.Line.{Line}
 use Rattle.marking.specs.Marks.{maySwap}
 use Rattle.marking.specs.Reading.{lineIn}
-use Rattle.marking.specs.Marked.{markText, markedFrom, lineBytes, behind}
+use Rattle.marking.specs.Marked.{markText, markedFrom}
+use Rattle.marking.specs.CopiedLines.{lineBytes, behind}
 use Rattle.marking.proofs.MarkedLaws.{marked-at}
 
 -- no line feed

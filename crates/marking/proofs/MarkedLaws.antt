@@ -18,7 +18,8 @@ use Rattle.marking.specs.declared.Line.{Line}
 use Rattle.marking.specs.declared.output.Copied.{Copied}
 use Rattle.marking.specs.Marks.{maySwap}
 use Rattle.marking.specs.Reading.{noLine, lineIn}
-use Rattle.marking.specs.Marked.{markText, markedFrom, marked, lineBytes, behind, Near, CopiedLine}
+use Rattle.marking.specs.Marked.{markText, markedFrom, marked}
+use Rattle.marking.specs.CopiedLines.{lineBytes, behind, Near, CopiedLine}
 
 -- in a line, up to its end
 line-split : (before : Line) (bs : List ℕ) → markedFrom false before bs ≡ lineBytes bs ++ markedFrom true before (behind bs)

@@ -1,5 +1,4 @@
--- A line of a trace, read from its first byte on.
--- Inner: that this is what a trace's line says of its command, is proved in proofs/TracedLines.
+-- A line of a trace (docs/TRACE.md), read from its first byte on: what it says of its command is this (proofs/TracedLines).
 use mathlib.Core.Path.{_≡_}
 use Prim.Native.Nat.{ℕ, _≤_}
 use mathlib.Core.List.{List}

@@ -4,7 +4,8 @@ ghost use mathlib.Core.List.{[], _∷_};
 ghost use Prim.Native.Nat.{_≤_, _<_};
 ghost use lib.ListN.{length, set};
 ghost use Rattle.listing.specs.Writing.{Wrote};
-ghost use Rattle.marking.specs.Marked.{markText, marked, Near, CopiedLine};
+ghost use Rattle.marking.specs.Marked.{markText, marked};
+ghost use Rattle.marking.specs.CopiedLines.{Near, CopiedLine};
 use crate::may_swap;
 use crate::reading;
 
