@@ -1,5 +1,5 @@
 -- A process number above 15 is none of N: its commands are all refused, and with one number.
-use mathlib.Core.Path.{_≡_, refl}
+use mathlib.Core.Path.{_≡_}
 use mathlib.Core.Bool.{cond}
 use mathlib.Core.List.{List}
 use Prim.Native.Nat.{ℕ, _≤_}
@@ -11,7 +11,6 @@ use Rattle.llsc.specs.Rows.{row1, row2, row9}
 use Rattle.moir_model.specs.Machine.{Memory}
 use Rattle.moir_model.specs.Refusals.{inRange, row3}
 use Rattle.moir_model.specs.Command.{refusal, command}
-use Rattle.moir_model.specs.Replies.{numberOf}
 use Rattle.rows.proofs.RowLaws.{n-in}
 use Rattle.text_runs.proofs.KeptLaws.{either, FarRefused}
 use Rattle.moir_semantics.specs.TextRun.{figure6}

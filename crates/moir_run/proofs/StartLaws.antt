@@ -1,11 +1,10 @@
 -- The set-up of a text run: refused by its number, or done, with a sound run before its first entry; and what a run with
 -- its last line is.
 use mathlib.Core.Path.{_≡_, refl, sym, ap, subst, _∙_}
-use mathlib.Core.Bool.{Bool, true, false, cond}
-use mathlib.Core.List.{List, [], _∷_}
+use mathlib.Core.Bool.{Bool, true, false}
+use mathlib.Core.List.{List, _∷_}
 use Prim.Native.Nat.{ℕ, zero, suc, _≤_, _<_}
 use native.Mathlib.Omega.{arith}
-use lib.Dec.{eqb}
 use lib.ListN.{length, set, take, replicate, length-replicate}
 use lib.Seq.{sets}
 use Rattle.notation.specs.declared.Entry.{Entry}
@@ -22,16 +21,17 @@ use Rattle.moir_model.specs.declared.Process.{Process}
 use Rattle.moir_model.specs.Records.{noProcess}
 use Rattle.moir_model.specs.Machine.{Memory}
 use Rattle.moir_model.specs.Refusals.{setUpRowsOf}
-use Rattle.moir_model.specs.SetUp.{emptyBench, benchAtSetUp, recordsAtSetUp, wordsAtSetUp, atSetUp, setUpRefusal, setUp}
+use Rattle.moir_model.specs.SetUp.{emptyBench, benchAtSetUp, wordsAtSetUp, atSetUp, setUpRefusal, setUp}
 use Rattle.moir_machine.specs.SetUpByValue.{setUpNumber, set-up-number, Accepted}
 use Rattle.moir_machine.proofs.SetUpLaws.{set-up-fits}
-use Rattle.moir_semantics.specs.TextRun.{figure6, Progress, Ended}
+use Rattle.moir_semantics.specs.TextRun.{figure6, Progress}
 use Rattle.moir_semantics.proofs.SmallWords.{Small, small-at-set-up}
 use Rattle.moir_run.specs.declared.turns.Run.{Run}
 use Rattle.moir_run.specs.declared.entry_loop.Carried.{Carried}
 use Rattle.moir_run.specs.declared.texts.Finished.{Finished}
 use Rattle.moir_run.specs.RunState.{progress, Sound}
-use Rattle.moir_run.specs.Finished.{atStart, Seen, seen, returned, TextRan, freshRun, finishedOf, closed, Closable, Carries, Roomy}
+use Rattle.moir_run.specs.TextRan.{atStart, seen, returned, TextRan}
+use Rattle.moir_run.specs.Finished.{freshRun, finishedOf, closed, Closable, Carries, Roomy}
 use Rattle.moir_run.proofs.EntryLaws.{first-words}
 use Rattle.moir_run.proofs.TurnLaws.{first-small}
 

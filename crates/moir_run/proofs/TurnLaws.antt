@@ -2,7 +2,7 @@
 use mathlib.Core.Path.{_≡_, refl, sym, ap, subst, _∙_}
 use mathlib.Core.Bool.{Bool, true, false, cond}
 use mathlib.Core.List.{List, [], _∷_, _++_}
-use Prim.Native.Nat.{ℕ, zero, suc, _+_, _-_, _≤_, _<_}
+use Prim.Native.Nat.{ℕ, _+_, _-_, _≤_, _<_}
 use native.Mathlib.Omega.{arith}
 use lib.Dec.{eqb, ltb, leb}
 use lib.ListN.{length, set, take, replicate, length-set}
@@ -29,7 +29,7 @@ use Rattle.moir_model.specs.declared.Reply.the-variants.{Refused, Accepted, Wll
 use Rattle.moir_model.specs.Points.{Point, pointOf, idle, ll10, ll2, ll4, ll5, ll6, ll7, sc14, sc17, sc19, sc2, sc4, sc5, sc6, sc7, vl13}
 use Rattle.moir_model.specs.Words.{announcedWord, returnWord, offerWord, segmentWord}
 use Rattle.moir_model.specs.Lines.{saves}
-use Rattle.moir_model.specs.Records.{noProcess, recordAt}
+use Rattle.moir_model.specs.Records.{recordAt}
 use Rattle.moir_model.specs.Machine.{Memory, stepAt, obey}
 use Rattle.moir_model.specs.Refusals.{inRange, commandRows}
 use Rattle.moir_model.specs.Command.{refusal, command, obeyed}
@@ -38,9 +38,8 @@ use Rattle.moir_rows.specs.CommandRows.{decisionNumber}
 use Rattle.moir_steps.specs.Ranges.{Ready, Obeyable}
 use Rattle.moir_machine.proofs.ObeyLaws.{obeyable}
 use Rattle.moir_access.specs.declared.Access.{Access}
-use Rattle.moir_access.specs.Accesses.{noAccess, accessOf}
 use Rattle.moir_semantics.specs.TextRun.{figure6, Progress, lineOf}
-use Rattle.moir_semantics.proofs.AcceptedRows.{unrefused, cleared}
+use Rattle.moir_semantics.proofs.AcceptedRows.{unrefused}
 use Rattle.moir_semantics.proofs.SmallWords.{Small, SmallValue, Plain, accepted, wll, named, sc, vl, leaves, small-command}
 use Rattle.moir_semantics.proofs.LineLengths.{value-small, lines-fit}
 use Rattle.moir_rows.specs.declared.records.Records.{Records}

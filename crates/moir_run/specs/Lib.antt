@@ -1,3 +1,4 @@
+pub mod TextRan
 pub mod RunState
 pub mod Turned
 pub mod Finished

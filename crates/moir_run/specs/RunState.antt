@@ -5,10 +5,8 @@ use Prim.Native.Nat.{ℕ, _+_, _≤_, _<_}
 use mathlib.Core.List.{List}
 use lib.ListN.{length}
 use Rattle.notation.specs.declared.Entry.{Entry}
-use Rattle.text_runs.specs.TextRun.{mostEntries, roomNeeded, linesOf}
-use Rattle.text_runs.specs.TextRun as T
+use Rattle.text_runs.specs.TextRun.{mostEntries, linesOf}
 use Rattle.text_runs.proofs.SingleEntries.{outcome}
-use Rattle.moir_model.specs.Machine.{Memory}
 use Rattle.moir_semantics.specs.TextRun.{figure6, Progress}
 use Rattle.moir_semantics.proofs.SmallWords.{Small}
 use Rattle.moir_run.specs.declared.turns.Run.{Run}

@@ -1,7 +1,6 @@
 -- One entry carried out, as the code does it.
 -- Inner: `TurnLaws` proves that such an entry is `single` of `text_runs/specs/TextRun`.
 use Prim.Native.Nat.{ℕ, _≤_, _<_}
-use mathlib.Core.Path.{_≡_}
 use mathlib.Core.List.{List, []}
 use mathlib.Core.Bool.{Bool, false, not, cond}
 use lib.ListN.{length}

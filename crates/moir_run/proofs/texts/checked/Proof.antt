@@ -9,7 +9,7 @@ use Rattle.text_runs.proofs.FaultLaws.{broken-small}
 use Rattle.text_runs.proofs.TextLaws.{broken-says, closed-says, kept-says}
 use Rattle.text_runs.proofs.StopLaws.{report-is, broken-stops, closed-stops, kept-stops}
 use Rattle.moir_semantics.specs.TextRun.{figure6}
-use Rattle.moir_run.specs.Finished.{atStart, seen}
+use Rattle.moir_run.specs.TextRan.{atStart, seen}
 use Rattle.moir_run.proofs.FarLaws.{far}
 use borrow.Author.Needs.{needs}
 use Rattle.moir_run.proofs.texts.checked.Statement.{statement}

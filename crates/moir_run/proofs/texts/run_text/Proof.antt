@@ -6,7 +6,7 @@ use Rattle.notation.specs.Readers.{HeaderSays}
 use Rattle.text_runs.proofs.TextLaws.{run-12, run-not-headed, run-headed}
 use Rattle.text_runs.proofs.StopLaws.{report-is, line-stops, stops-12, stops-looked}
 use Rattle.moir_semantics.specs.TextRun.{figure6}
-use Rattle.moir_run.specs.Finished.{atStart, seen}
+use Rattle.moir_run.specs.TextRan.{atStart, seen}
 use Rattle.moir_run.proofs.StartLaws.{no-room, room-left, room-most}
 use borrow.Author.Needs.{needs}
 use Rattle.moir_run.proofs.texts.run_text.Statement.{statement}
