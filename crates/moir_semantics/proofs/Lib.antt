@@ -3,3 +3,4 @@ pub mod SmallWords
 pub mod LineLengths
 pub mod TableLengths
 pub mod TraceTruth
+pub mod Theorems

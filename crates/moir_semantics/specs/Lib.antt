@@ -1,1 +1,2 @@
 pub mod TextRun
+pub mod TextOrder

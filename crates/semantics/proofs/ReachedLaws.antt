@@ -14,13 +14,14 @@ use Rattle.llsc.specs.History.{Command}
 use Rattle.linearization.specs.After.{after}
 use Rattle.llsc.specs.Rows.{NotLentMemory}
 use Rattle.linearization.proofs.Theorems.{never-for-its-own-doing}
+use Rattle.text_runs.proofs.RunCommands as R
 use Rattle.semantics.specs.Reached.{Reached}
+use Rattle.semantics.specs.TextRun.{figure2}
 
 -- one command more
 pub after-one : (m : Memory) (cs : List Command) (c : Command) → after m (cs ++ c ∷ []) ≡ command (after m cs) (c .process) (c .order) (c .value) .1
 unfolding after
-after-one m [] c = refl
-after-one m (d ∷ cs) c = after-one (command m (d .process) (d .order) (d .value) .1) cs c
+after-one m cs c = R.after-one figure2 m cs c
 
 pub reached-set-up : (m : Memory) → Shaped m → (n w : ℕ) (value : List ℕ) → setUp m n w value .0 ≡ 0 → Reached (setUp m n w value .1)
 unfolding after

@@ -1,6 +1,7 @@
 pub mod SingleEntries
 pub mod UntilAnswered
 pub mod ToldLaws
+pub mod RunCommands
 pub mod KeptLaws
 pub mod MiddleLaws
 pub mod TextLaws

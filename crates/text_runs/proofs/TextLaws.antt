@@ -7,7 +7,7 @@ use lib.Dec.{eqb}
 use lib.ListN.{length, take, replicate}
 use borrow.Author.Tests.{eq-eqb, ne-eqb, lt-ltb, le-ltb}
 use Rattle.notation.specs.declared.Entry.{Entry}
-use Rattle.notation.specs.Grammar.{deepest}
+use Rattle.notation.specs.Grammar.{Text, bytes, says, deepest}
 use Rattle.notation.specs.Readers.{Headed, NotHeaded}
 use Rattle.notation.specs.FirstLine.{whole, read}
 use Rattle.notation.specs.Groups.{ItemsEnded, ItemsClosed, ItemsBroken}
@@ -17,8 +17,9 @@ use Rattle.notation.proofs.HeaderLaws.{headed-reads}
 use Rattle.notation.proofs.GroupLaws.{not-headed}
 use Rattle.notation.proofs.ListedLaws.{kept-entries}
 use Rattle.notation.proofs.ReadingLaws.{reader}
+use Rattle.notation.proofs.Theorems.{right-is-read}
 use Rattle.text_runs.specs.Machines.{Machine}
-use Rattle.text_runs.specs.TextRun.{Progress, roomNeeded, longestText, ended, begun, carriedOut, runWith}
+use Rattle.text_runs.specs.TextRun.{Progress, roomNeeded, longestText, carryAll, ended, begun, started, carriedOut, runWith}
 use Rattle.text_runs.specs.KeptEntries.{entriesIn, refusedWith, startedWith, saysAfter}
 use Rattle.text_runs.proofs.KeptLaws.{FarRefused, kept-run}
 
@@ -71,6 +72,16 @@ module _ (M : Machine) (t : Bool) (m : M .Memory) (text list : List ℕ) where
     run-read : length text ≤ longestText → carriedOut M t m list (read text) ≡ runWith M reader t m text list
     unfolding runWith
     run-read h = simp (le-ltb (length list) (roomNeeded t) l, le-ltb longestText (length text) h)
+
+    -- a right text whose set-up is accepted runs its entries after it
+    pub run-right : length text ≤ longestText → (x : Text deepest) → bytes x ≡ text
+        → let a = says x in let prepared = M .setUp m (a .n) (a .w) (replicate (a .w) (a .initial)) in
+        prepared .0 ≡ 0 → ended M (carryAll M (a .entries) (begun M t (prepared .1) list 0)) ≡ runWith M reader t m text list
+    run-right h x is z =
+        let a = says x in
+        let prepared = M .setUp m (a .n) (a .w) (replicate (a .w) (a .initial)) in
+        let goes : started M t m list a prepared ≡ ended M (carryAll M (a .entries) (begun M t (prepared .1) list 0)) = simp (eq-eqb (prepared .0) 0 z) in
+        sym (ap (carriedOut M t m list) (ap read (sym is) ∙ right-is-read x) ∙ goes) ∙ run-read h
 
     pub run-not-headed : length text ≤ longestText → {place : ℕ} → NotHeaded text place → refusedWith M 10 m list ≡ runWith M reader t m text list
     run-not-headed h n = sym (ap (carriedOut M t m list) (not-headed n)) ∙ run-read h

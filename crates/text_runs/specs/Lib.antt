@@ -1,4 +1,5 @@
 pub mod Machines
 pub mod TextRun
 pub mod StopPlaces
+pub mod RunCommands
 pub mod KeptEntries
