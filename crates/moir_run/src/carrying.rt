@@ -118,7 +118,7 @@ fn answer_line(
 // A record stored back; a refusal names a place past the end.
 fn stored(all: Records, at: usize, process: Process) -> Records {
     if at < 16 {
-        return records::with_record(all, at, process);
+        return records::with_lent(all, at, process);
     }
     all
 }
