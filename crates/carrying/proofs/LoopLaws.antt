@@ -120,7 +120,8 @@ pub looking : {count : ℕ} {entries : List ℕ} {len n w needed at p place : �
 looking {h₁ = h₁} x m a b c d o =
     record { head = x; more = m; entry-is = a; process-is = b; number-is = c; record-is = ap (λ (i : ℕ). getD (h₁ .run .all .list) i noProcess) d; order-is = o }
 
-module _ {count : ℕ} {entries : List ℕ} {len n w needed at p : ℕ} {k : ProcessNumber} {h h₁ : RunState} {e : Entry} {q : Process} {o : Order} (x : Looking count entries len n w needed h at h₁ e p k q o) where
+module _ {count : ℕ} {entries : List ℕ} {len n w needed at p : ℕ} {k : ProcessNumber} {h h₁ : RunState} {e : Entry} {q : Process} {o : Order}
+    (x : Looking count entries len n w needed h at h₁ e p k q o) where
   abbrev b : Bench
   b = h₁ .run .bench
 

@@ -3,6 +3,7 @@
 ghost use mathlib.Core.Path.{_≡_};
 ghost use Prim.Native.Nat.{_<_};
 ghost use Rattle.messages.specs.OpenCalls.{placeOf};
+use llsc::ProcessNumber;
 
 pub const IDLE: u8 = 0;
 
@@ -34,14 +35,14 @@ pub struct Method {
     pub w: u64,
 }
 
-// Where the record of process p stands among sixteen.
-pub fn place_of(p: u64) -> usize
-    ensures { λ r. ⌜ (r ≡ placeOf p) × (r < 16) ⌝ }
+// The process whose record is looked at: process 0 where p is no number of sixteen.
+pub fn process_number(p: u64) -> ProcessNumber
+    ensures { λ r. ⌜ (r ≡ record { 0 = placeOf p }) × (r .0 < 16) ⌝ }
 {
     if p < 16 {
-        return p as usize;
+        return ProcessNumber(p as u8);
     }
-    0
+    ProcessNumber(0)
 }
 
 // The line of process p, if its call is open.

@@ -4,10 +4,11 @@ ghost use Rattle.messages.specs.OpenCalls.{kindOf, figureLine, movesOf, 
 use crate::calls;
 use crate::calls::Call;
 use crate::calls::Method;
-use crate::calls::place_of;
+use crate::calls::process_number;
 use lines::points;
 use model::Process;
 use positions::StopReport;
+use tables::records;
 use tables::records::Records;
 
 const FIGURE: u8 = 2;
@@ -99,8 +100,8 @@ fn call_of(process: Process) -> Call
 fn call_at(p: u64, all: Records) -> Call
     ensures { λ r. ⌜ r ≡ callAt p (all .list) ⌝ }
 {
-    let i = place_of(p);
-    call_of(all.list[i])
+    let i = process_number(p);
+    call_of(all.list[records::record_place(i)])
 }
 
 // A line for each process below N that has an open call.

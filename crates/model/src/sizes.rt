@@ -1,7 +1,7 @@
 // The sizes that follow from N and W, each said once.
 ghost use mathlib.Core.Path.{_≡_};
 ghost use Prim.Native.Nat.{_≤_};
-ghost use Rattle.model.specs.Sizes.{buffers, sequenceNumbers, rowsBeforeOffers, lentWords, halves, llMost, busyMost};
+ghost use Rattle.model.specs.Sizes.{buffers, sequenceNumbers, rowsBeforeOffers, lentWords, halves, busyMost};
 
 // Buffer numbers are below it.
 pub fn buffers(n: usize) -> usize
@@ -41,14 +41,6 @@ pub fn halves(w: usize) -> usize
     ensures { λ r. ⌜ r ≡ halves w ⌝ }
 {
     2 * w
-}
-
-// The most own steps of an LL.
-pub fn ll_most(w: usize) -> usize
-    requires { ⌜ w ≤ 64 ⌝ }
-    ensures { λ r. ⌜ r ≡ llMost w ⌝ }
-{
-    8 * w + 7
 }
 
 // The highest count of a busy process.

@@ -34,7 +34,7 @@ pub fn gather(records: &[Process], none: Process) -> Records
     let mut i = 0;
     while i < 16 {
         let q = record_or(records, i, none);
-        all = moir_rows::records::with_record(all, i, q);
+        all = moir_rows::records::with_lent(all, i, q);
         i += 1;
     }
     all

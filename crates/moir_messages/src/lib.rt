@@ -6,9 +6,10 @@ ghost use Rattle.moir_messages.specs.MoirCalls.{kindOf, figureLine, move
 use messages::calls;
 use messages::calls::Call;
 use messages::calls::Method;
-use messages::calls::place_of;
+use messages::calls::process_number;
 use moir_lines::points;
 use moir_model::Process;
+use moir_rows::records;
 use moir_rows::records::Records;
 use positions::StopReport;
 
@@ -86,8 +87,8 @@ fn call_of(process: Process) -> Call
 fn call_at(p: u64, all: Records) -> Call
     ensures { λ r. ⌜ r ≡ callAt p (all .list) ⌝ }
 {
-    let i = place_of(p);
-    call_of(all.list[i])
+    let i = process_number(p);
+    call_of(records::record_at(all, i))
 }
 
 // A line for each process below N that has an open call.

@@ -24,14 +24,23 @@ pub fn records_of(q: Process) -> Records
     Records { list: [q; 16] }
 }
 
-// The record at place i replaced.
-pub fn with_record(all: Records, i: usize, q: Process) -> Records
-    requires { ⌜ i < 16 ⌝ }
-    ensures { λ r. ⌜ r ≡ record { list = set (all .list) i q } ⌝ }
+// The record of process p replaced.
+pub fn with_record(all: Records, p: ProcessNumber, q: Process) -> Records
+    requires { ⌜ p .0 < 16 ⌝ }
+    ensures { λ r. ⌜ r ≡ record { list = set (all .list) (p .0) q } ⌝ }
 {
+    let i = p.0 as usize;
     let mut next = all;
     next.list[i] = q;
     next
+}
+
+// The record at place i of those that are lent is that of process i.
+pub fn with_lent(all: Records, i: usize, q: Process) -> Records
+    requires { ⌜ i < 16 ⌝ }
+    ensures { λ r. ⌜ r ≡ record { list = set (all .list) i q } ⌝ }
+{
+    with_record(all, ProcessNumber(i as u8), q)
 }
 
 // The record of process p.

@@ -153,9 +153,10 @@ bank-place-requires-2 c κs = search needs
 
 mul-bank-2 : tie.Need-mul-bank-2 Inv-loop μ-loop
 mul-bank-2 c =
-    let c19 = c .before .before .before .before .before .before .before .before .before .before .before .before .before .before .before .before .before .before .before in
-    let c20 = c19 .before in let c21 = c20 .before in let c22 = c21 .before in let c23 = c22 .before in let c25 = c23 .before .before in
-    let c26 = c25 .before in let c27 = c26 .before in let c28 = c27 .before in let c30 = c28 .before .before in let c31 = c30 .before in
+    let c12 = c .before .before .before .before .before .before .before .before .before .before .before .before in
+    let c19 = c12 .before .before .before .before .before .before .before in let c20 = c19 .before in let c21 = c20 .before in
+    let c22 = c21 .before in let c23 = c22 .before in let c25 = c23 .before .before in let c26 = c25 .before in let c27 = c26 .before in
+    let c28 = c27 .before in let c30 = c28 .before .before in let c31 = c30 .before in
     let x = looking (c31 .loop .inv .0) (c30 .loop-test .taken) (c28 .entry-in .ensures) (c27 .process-of .ensures) (c26 .process-number .ensures)
     (c25 .record-place .ensures) (c23 .order-of .ensures) in
     let f = sym (c22 .refusal .ensures) ∙ c21 .if1 .left in
@@ -163,9 +164,10 @@ mul-bank-2 c =
 
 element-set-from-bank : tie.Need-element-set-from-bank Inv-loop μ-loop
 element-set-from-bank c =
-    let c19 = c .before .before .before .before .before .before .before .before .before .before .before .before .before .before .before .before .before .before .before in
-    let c20 = c19 .before in let c21 = c20 .before in let c22 = c21 .before in let c23 = c22 .before in let c25 = c23 .before .before in
-    let c26 = c25 .before in let c27 = c26 .before in let c28 = c27 .before in let c30 = c28 .before .before in let c31 = c30 .before in
+    let c12 = c .before .before .before .before .before .before .before .before .before .before .before .before in
+    let c19 = c12 .before .before .before .before .before .before .before in let c20 = c19 .before in let c21 = c20 .before in
+    let c22 = c21 .before in let c23 = c22 .before in let c25 = c23 .before .before in let c26 = c25 .before in let c27 = c26 .before in
+    let c28 = c27 .before in let c30 = c28 .before .before in let c31 = c30 .before in
     let x = looking (c31 .loop .inv .0) (c30 .loop-test .taken) (c28 .entry-in .ensures) (c27 .process-of .ensures) (c26 .process-number .ensures)
     (c25 .record-place .ensures) (c23 .order-of .ensures) in
     let f = sym (c22 .refusal .ensures) ∙ c21 .if1 .left in
@@ -176,9 +178,10 @@ help-place-requires-2 c κs = search needs
 
 mul-help-2 : tie.Need-mul-help-2 Inv-loop μ-loop
 mul-help-2 c =
-    let c20 = c .before .before .before .before .before .before .before .before .before .before .before .before .before .before .before .before .before .before .before .before in
-    let c21 = c20 .before in let c22 = c21 .before in let c23 = c22 .before in let c24 = c23 .before in let c26 = c24 .before .before in
-    let c27 = c26 .before in let c28 = c27 .before in let c29 = c28 .before in let c31 = c29 .before .before in let c32 = c31 .before in
+    let c12 = c .before .before .before .before .before .before .before .before .before .before .before .before in
+    let c20 = c12 .before .before .before .before .before .before .before .before in let c21 = c20 .before in let c22 = c21 .before in
+    let c23 = c22 .before in let c24 = c23 .before in let c26 = c24 .before .before in let c27 = c26 .before in let c28 = c27 .before in
+    let c29 = c28 .before in let c31 = c29 .before .before in let c32 = c31 .before in
     let x = looking (c32 .loop .inv .0) (c31 .loop-test .taken) (c29 .entry-in .ensures) (c28 .process-of .ensures) (c27 .process-number .ensures)
     (c26 .record-place .ensures) (c24 .order-of .ensures) in
     let f = sym (c23 .refusal .ensures) ∙ c22 .if1 .left in
@@ -186,9 +189,10 @@ mul-help-2 c =
 
 element-set-from-help : tie.Need-element-set-from-help Inv-loop μ-loop
 element-set-from-help c =
-    let c20 = c .before .before .before .before .before .before .before .before .before .before .before .before .before .before .before .before .before .before .before .before in
-    let c21 = c20 .before in let c22 = c21 .before in let c23 = c22 .before in let c24 = c23 .before in let c26 = c24 .before .before in
-    let c27 = c26 .before in let c28 = c27 .before in let c29 = c28 .before in let c31 = c29 .before .before in let c32 = c31 .before in
+    let c12 = c .before .before .before .before .before .before .before .before .before .before .before .before in
+    let c20 = c12 .before .before .before .before .before .before .before .before in let c21 = c20 .before in let c22 = c21 .before in
+    let c23 = c22 .before in let c24 = c23 .before in let c26 = c24 .before .before in let c27 = c26 .before in let c28 = c27 .before in
+    let c29 = c28 .before in let c31 = c29 .before .before in let c32 = c31 .before in
     let x = looking (c32 .loop .inv .0) (c31 .loop-test .taken) (c29 .entry-in .ensures) (c28 .process-of .ensures) (c27 .process-number .ensures)
     (c26 .record-place .ensures) (c24 .order-of .ensures) in
     let f = sym (c23 .refusal .ensures) ∙ c22 .if1 .left in
@@ -199,14 +203,16 @@ record-place-requires-2 c κs = search needs
 
 mul-next : tie.Need-mul-next Inv-loop μ-loop
 mul-next c =
-    let c28 = c .before .before .before .before .before .before .before .before .before .before .before .before .before .before .before .before .before .before .before .before .before .before .before .before .before .before .before .before in
-    let c29 = c28 .before in
+    let c12 = c .before .before .before .before .before .before .before .before .before .before .before .before in
+    let c24 = c12 .before .before .before .before .before .before .before .before .before .before .before .before in
+    let c28 = c24 .before .before .before .before in let c29 = c28 .before in
     omega (arith, place-small (c29 .process-of .result) (c28 .process-number .ensures) (c .record-place2 .ensures))
 
 element-set-from-next : tie.Need-element-set-from-next Inv-loop μ-loop
 element-set-from-next c =
-    let c28 = c .before .before .before .before .before .before .before .before .before .before .before .before .before .before .before .before .before .before .before .before .before .before .before .before .before .before .before .before in
-    let c29 = c28 .before in
+    let c12 = c .before .before .before .before .before .before .before .before .before .before .before .before in
+    let c24 = c12 .before .before .before .before .before .before .before .before .before .before .before .before in
+    let c28 = c24 .before .before .before .before in let c29 = c28 .before in
     omega (arith, place-small (c29 .process-of .result) (c28 .process-number .ensures) (c .record-place2 .ensures))
 
 stays-requires : tie.Need-stays-requires Inv-loop μ-loop
@@ -214,9 +220,10 @@ stays-requires c κs = search needs
 
 loop-less : tie.Need-loop-less Inv-loop μ-loop
 loop-less c =
-    let c25 = c .before .before .before .before .before .before .before .before .before .before .before .before .before .before .before .before .before .before .before .before .before .before .before .before .before in
-    let c26 = c25 .before in let c27 = c26 .before in let c29 = c27 .before .before in let c30 = c29 .before in let c31 = c30 .before in
-    let c32 = c31 .before in let c34 = c32 .before .before in let c35 = c34 .before in
+    let c12 = c .before .before .before .before .before .before .before .before .before .before .before .before in
+    let c24 = c12 .before .before .before .before .before .before .before .before .before .before .before .before in
+    let c25 = c24 .before in let c26 = c25 .before in let c27 = c26 .before in let c29 = c27 .before .before in let c30 = c29 .before in
+    let c31 = c30 .before in let c32 = c31 .before in let c34 = c32 .before .before in let c35 = c34 .before in
     let x = looking (c35 .loop .inv .0) (c34 .loop-test .taken) (c32 .entry-in .ensures) (c31 .process-of .ensures) (c30 .process-number .ensures)
     (c29 .record-place .ensures) (c27 .order-of .ensures) in
     let f = sym (c26 .refusal .ensures) ∙ c25 .if1 .left in
@@ -241,15 +248,18 @@ loop-again c =
 
 add-at : tie.Need-add-at Inv-loop μ-loop
 add-at c =
-    let c34 = c .before .before .before .before .before .before .before .before .before .before .before .before .before .before .before .before .before .before .before .before .before .before .before .before .before .before .before .before .before .before .before .before .before .before in
+    let c12 = c .before .before .before .before .before .before .before .before .before .before .before .before in
+    let c24 = c12 .before .before .before .before .before .before .before .before .before .before .before .before in
+    let c34 = c24 .before .before .before .before .before .before .before .before .before .before in
     let c42 = c34 .before .before .before .before .before .before .before .before in
     omega (arith, c34 .loop-test .taken, c42 .fits .count)
 
 loop-less-2 : tie.Need-loop-less-2 Inv-loop μ-loop
 loop-less-2 c =
-    let c25 = c .before .before .before .before .before .before .before .before .before .before .before .before .before .before .before .before .before .before .before .before .before .before .before .before .before in
-    let c26 = c25 .before in let c27 = c26 .before in let c29 = c27 .before .before in let c30 = c29 .before in let c31 = c30 .before in
-    let c32 = c31 .before in let c34 = c32 .before .before in let c35 = c34 .before in
+    let c12 = c .before .before .before .before .before .before .before .before .before .before .before .before in
+    let c24 = c12 .before .before .before .before .before .before .before .before .before .before .before .before in
+    let c25 = c24 .before in let c26 = c25 .before in let c27 = c26 .before in let c29 = c27 .before .before in let c30 = c29 .before in
+    let c31 = c30 .before in let c32 = c31 .before in let c34 = c32 .before .before in let c35 = c34 .before in
     let x = looking (c35 .loop .inv .0) (c34 .loop-test .taken) (c32 .entry-in .ensures) (c31 .process-of .ensures) (c30 .process-number .ensures)
     (c29 .record-place .ensures) (c27 .order-of .ensures) in
     let f = sym (c26 .refusal .ensures) ∙ c25 .if1 .left in

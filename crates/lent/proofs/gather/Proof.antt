@@ -359,4 +359,5 @@ gather-spec 𝓤 H 𝓜 𝓖 𝓡 =
     (meets 𝓤 H (𝓖 .A) (givenOf 𝓤 H 𝓜 𝓖) (𝓜 .mem) (𝓡 .run) (tablesOf 𝓤 H 𝓜 (tables 𝓤 H 𝓜 𝓡 code.env))
     (cited 𝓤 H (AllOf 𝓤 H (𝓖 .A) (𝓜 .mem) (𝓡 .run)) 𝓜 𝓡 code.env #station_records·processes·processes-of all-of-def.routine code.calls-station-records·processes·processes-of (all-of-thm.met 𝓤 H 𝓜 𝓖 𝓡))
     (cited 𝓤 H (TakeOr 𝓤 H (𝓖 .A) (𝓜 .mem) (𝓡 .run)) 𝓜 𝓡 code.env #lent·process-or process-or-def.routine code.calls-lent·process-or (process-or-thm.met 𝓤 H 𝓜 𝓖 𝓡))
-    (cited 𝓤 H (With 𝓤 H (𝓖 .A) (𝓜 .mem) (𝓡 .run)) 𝓜 𝓡 code.env #station_records·processes·with-lent with-def.routine code.calls-station-records·processes·with-lent (with-thm.met 𝓤 H 𝓜 𝓖 𝓡)))
+    (cited 𝓤 H (With 𝓤 H (𝓖 .A) (𝓜 .mem) (𝓡 .run)) 𝓜 𝓡 code.env #station_records·processes·with-lent with-def.routine
+    code.calls-station-records·processes·with-lent (with-thm.met 𝓤 H 𝓜 𝓖 𝓡)))

@@ -1,29 +1,26 @@
 -- `moir_messages::call_at`: the call of one record.
 use mathlib.Core.Path.{ap, _∙_}
-use Prim.Native.Nat.{ℕ}
-use lib.ListN.{getD}
 use borrow.Author.Needs.{needs}
-use Rattle.moir_model.specs.Records.{noProcess}
+use Rattle.llsc.specs.declared.ProcessNumber.{ProcessNumber}
+use Rattle.moir_model.specs.Records.{recordAt}
 use Rattle.moir_messages.specs.MoirCalls.{callOf}
 use Rattle.moir_messages.proofs.call_at.Statement.{statement}
 use Rattle.moir_messages.proofs.call_at.Tie as tie
 
-place-of-requires : tie.Need-place-of-requires
-place-of-requires c κs = search needs
+process-number-requires : tie.Need-process-number-requires
+process-number-requires c κs = search needs
 
-mul-call-of : tie.Need-mul-call-of
-mul-call-of c = let small = c .place-of .ensures .1 in search needs
-
-element-copy-out-call-of : tie.Need-element-copy-out-call-of
-element-copy-out-call-of c = c .place-of .ensures .1
+record-at-requires : tie.Need-record-at-requires
+record-at-requires c κs = c .process-number .ensures .1
 
 call-of-requires : tie.Need-call-of-requires
 call-of-requires c κs = search needs
 
 returns : tie.Need-returns
 returns c =
-    let c2 = c .before .before in
-    c .call-of .ensures ∙ ap (λ (i : ℕ). callOf (getD (c2 .before .args .t2 .list) i noProcess)) (c2 .place-of .ensures .0)
+    let c1 = c .before in
+    c .call-of .ensures
+    ∙ ap callOf (c1 .record-at .ensures ∙ ap (λ (i : ProcessNumber). recordAt (c1 .before .before .args .all .list) i) (c1 .before .process-number .ensures .0))
 
 pub call-at-spec : {M : Type 1} → statement M
-call-at-spec = tie.close (tie.spec place-of-requires mul-call-of element-copy-out-call-of call-of-requires returns)
+call-at-spec = tie.close (tie.spec process-number-requires record-at-requires call-of-requires returns)

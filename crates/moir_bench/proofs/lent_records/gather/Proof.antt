@@ -1,5 +1,5 @@
 -- `moir_bench::lent_records::gather` meets its contract: a walk of its MIR, by hand, with a loop. A turn calls `record_or`, to which the slice
--- is passed as a copy, and `with_record`, by value.
+-- is passed as a copy, and `with_lent`, by value.
 -- The invariant: at i, the records so far are `gathered ys d i`. The variant: what is left of 16.
 -- Assumes nothing.
 use mathlib.Core.Path.{_≡_, refl, sym, ap, subst, _∙_}
@@ -59,10 +59,10 @@ use Rattle.moir_rows.proofs.records.records_of as all-of
 use Rattle.moir_rows.proofs.records.records_of.Symbol as all-of-def
 use Rattle.moir_rows.proofs.records.records_of.Symbol.{name as #moir-rows·records·records-of}
 use Rattle.moir_rows.proofs.records.records_of.Met as all-of-thm
-use Rattle.moir_rows.proofs.records.with_record as with′
-use Rattle.moir_rows.proofs.records.with_record.Symbol as with-def
-use Rattle.moir_rows.proofs.records.with_record.Symbol.{name as #moir-rows·records·with-record}
-use Rattle.moir_rows.proofs.records.with_record.Met as with-thm
+use Rattle.moir_rows.proofs.records.with_lent as with′
+use Rattle.moir_rows.proofs.records.with_lent.Symbol as with-def
+use Rattle.moir_rows.proofs.records.with_lent.Symbol.{name as #moir-rows·records·with-lent}
+use Rattle.moir_rows.proofs.records.with_lent.Met as with-thm
 use Rattle.moir_bench.proofs.Locals.{room, holds, locals, local, places, recordsTy}
 use Rattle.moir_bench.proofs.lent_records.record_or as record-or
 use Rattle.moir_bench.proofs.lent_records.record_or.Symbol as record-or-def
@@ -100,7 +100,7 @@ one-more l d i = refl
 -- a turn after its test, which the generated MIR has under no name
 abbrev more-of : Body
 more-of = seq (call #moir-bench·lent-records·record-or (copy (place 1 []) ∷ copy (place 4 []) ∷ copy (place 2 []) ∷ []) (place 5 []))
-    (seq (call #moir-rows·records·with-record (copy (place 3 []) ∷ copy (place 4 []) ∷ copy (place 5 []) ∷ []) (place 3 []))
+    (seq (call #moir-rows·records·with-lent (copy (place 3 []) ∷ copy (place 4 []) ∷ copy (place 5 []) ∷ []) (place 3 []))
     (assign (place 4 []) (op2 (add unsigned) (copy (place 4 [])) (int w64 1))))
 
 module _ {M : Type 1} (𝓤 : URA M) (H : Heap 𝓤) (A : Atoms 𝓤) (mem : Memory → SProp 𝓤) (run : Routine → Fun 𝓤) where
@@ -213,7 +213,7 @@ module _ {M : Type 1} (𝓤 : URA M) (H : Heap 𝓤) (A : Atoms 𝓤) (W : Given
   module _ (𝓣 : Tables 𝓤 H) (fm : FmC 𝓤 H (W .laws) (𝓣 .C))
       (known-all : Triple 𝓤 (𝓣 .C #moir-rows·records·records-of) (AllOf 𝓤 H A mem run))
       (known-take : Triple 𝓤 (𝓣 .C #moir-bench·lent-records·record-or) (TakeOr 𝓤 H A mem run))
-      (known-with : Triple 𝓤 (𝓣 .C #moir-rows·records·with-record) (With 𝓤 H A mem run)) where
+      (known-with : Triple 𝓤 (𝓣 .C #moir-rows·records·with-lent) (With 𝓤 H A mem run)) where
     abbrev C : Calls 𝓤 H
     C = 𝓣 .C
 
@@ -254,7 +254,7 @@ module _ {M : Type 1} (𝓤 : URA M) (H : Heap 𝓤) (A : Atoms 𝓤) (W : Given
           (record-or-says 𝓤 H A mem run κ ref (u .i) d r) $ heard ! (r ≡ getD ys (u .i) d) (λ e.
           split ! $ move ! (1 ∷ []) $ peeks ! P.the-row (Is P.the-row) (shows 𝓤 H A P.the-row) r (w ∷ []) (λ is.
           land ! (from ! (stop !)) (init ! 5 refl (typedP r w is)) $
-          -- `with_record`
+          -- `with_lent`
           use1 W (raw (With 𝓤 H A mem run .pre (to-with (u .i) r w))) (goes-with (u .i) r w small (fits small) (u .is)) $
           calls-at ! fm (With 𝓤 H A mem run) known-with (to-with (u .i) r w)
           (and-then ! (local ! 9 refl) (and-then ! (local ! 7 refl) (and-then ! (local ! 5 refl) (no-more !)))) (λ w′.
@@ -332,7 +332,7 @@ module _ {M : Type 1} (𝓤 : URA M) (H : Heap 𝓤) (A : Atoms 𝓤) (W : Given
 
 module _ {M : Type 1} (𝓤 : URA M) (H : Heap 𝓤) (A : Atoms 𝓤) (W : Given 𝓤 H A) (mem : Memory → SProp 𝓤) (run : Routine → Fun 𝓤) where
   walks : (𝓣 : Tables 𝓤 H) → Triple 𝓤 (𝓣 .C #moir-rows·records·records-of) (AllOf 𝓤 H A mem run)
-      → Triple 𝓤 (𝓣 .C #moir-bench·lent-records·record-or) (TakeOr 𝓤 H A mem run) → Triple 𝓤 (𝓣 .C #moir-rows·records·with-record) (With 𝓤 H A mem run)
+      → Triple 𝓤 (𝓣 .C #moir-bench·lent-records·record-or) (TakeOr 𝓤 H A mem run) → Triple 𝓤 (𝓣 .C #moir-rows·records·with-lent) (With 𝓤 H A mem run)
       → Walks 𝓤 H A f.ended stayed (WpFn 𝓤 H (𝓣 .C) (𝓣 .Λ) code.function) (f.clauses 𝓤 H A mem run)
   walks 𝓣 k₁ k₂ k₃ = walked 𝓤 H A f.ended stayed (f.clauses 𝓤 H A mem run) (WpFn 𝓤 H (𝓣 .C) (𝓣 .Λ) code.function)
       (λ κs. (slice-vals, (LL.vals P.the-type P′.the-laws, tt)))
@@ -346,7 +346,7 @@ module _ {M : Type 1} (𝓤 : URA M) (H : Heap 𝓤) (A : Atoms 𝓤) (W : Given
 
 meets : {M : Type 1} (𝓤 : URA M) (H : Heap 𝓤) (A : Atoms 𝓤) → Given 𝓤 H A → (mem : Memory → SProp 𝓤) (run : Routine → Fun 𝓤) (𝓣 : Tables 𝓤 H)
     → Triple 𝓤 (𝓣 .C #moir-rows·records·records-of) (AllOf 𝓤 H A mem run)
-    → Triple 𝓤 (𝓣 .C #moir-bench·lent-records·record-or) (TakeOr 𝓤 H A mem run) → Triple 𝓤 (𝓣 .C #moir-rows·records·with-record) (With 𝓤 H A mem run)
+    → Triple 𝓤 (𝓣 .C #moir-bench·lent-records·record-or) (TakeOr 𝓤 H A mem run) → Triple 𝓤 (𝓣 .C #moir-rows·records·with-lent) (With 𝓤 H A mem run)
     → Meets 𝓤 H A f.signature (WpFn 𝓤 H (𝓣 .C) (𝓣 .Λ) code.function) (f.spec 𝓤 H A mem run)
 meets 𝓤 H A W mem run 𝓣 k₁ k₂ k₃ = walk-meets 𝓤 H A f.ended stayed W (goes 𝓤 H A W mem run) (f.clauses 𝓤 H A mem run)
     (WpFn 𝓤 H (𝓣 .C) (𝓣 .Λ) code.function) (WpFn-mono 𝓤 H (W .laws) 𝓣 code.function) (walks 𝓤 H A W mem run 𝓣 k₁ k₂ k₃)
@@ -361,5 +361,5 @@ gather-spec 𝓤 H 𝓜 𝓖 𝓡 =
     code.calls-moir-rows·records·records-of (all-of-thm.met 𝓤 H 𝓜 𝓖 𝓡))
     (cited 𝓤 H (TakeOr 𝓤 H (𝓖 .A) (𝓜 .mem) (𝓡 .run)) 𝓜 𝓡 code.env #moir-bench·lent-records·record-or record-or-def.routine
     code.calls-moir-bench·lent-records·record-or (record-or-thm.met 𝓤 H 𝓜 𝓖 𝓡))
-    (cited 𝓤 H (With 𝓤 H (𝓖 .A) (𝓜 .mem) (𝓡 .run)) 𝓜 𝓡 code.env #moir-rows·records·with-record
-    with-def.routine code.calls-moir-rows·records·with-record (with-thm.met 𝓤 H 𝓜 𝓖 𝓡)))
+    (cited 𝓤 H (With 𝓤 H (𝓖 .A) (𝓜 .mem) (𝓡 .run)) 𝓜 𝓡 code.env #moir-rows·records·with-lent
+    with-def.routine code.calls-moir-rows·records·with-lent (with-thm.met 𝓤 H 𝓜 𝓖 𝓡)))
