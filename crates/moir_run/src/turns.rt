@@ -76,7 +76,7 @@ fn accepted(run: Run, e: Entry, list: &mut [u8], words: &mut [u64]) -> Run
     let k = run.entries + 1;
     let shown = written_lines::trace_line(traced, k, access, e, reply, list, run.written);
     let written = written_lines::answer_line(reply, p, after, words, list, shown);
-    let next = records::with_record(all, p as usize, moved.process);
+    let next = records::with_record(all, own, moved.process);
     Run {
         bench: after,
         all: next,
