@@ -57,7 +57,8 @@ loop-again c =
     let sixteen : length (a .all .list) ≡ 16 = simp length-map at (start .good .0 .1 .1 .0 .1 .0 .1) in
     let next = firsts-one-more (putAt (a .t2)) (turn .loop .i) (a .all .list) noStationProcess (omega (arith, sixteen, start .pre)) in (
       omega arith,
-      c .with-process .ensures ∙ simp (c .before .put-process .ensures, place .record-place .ensures, place .before .process-at .ensures, turn .loop .inv .1) (ap (λ (l : List StationProcess). record { list = l }) next),
+      c .with-process .ensures ∙ simp (c .before .put-process .ensures, place .record-place .ensures, place .before .process-at .ensures, turn .loop .inv .1)
+          (ap (λ (l : List StationProcess). record { list = l }) next),
     )
 
 returns : tie.Need-returns Inv-loop μ-loop
