@@ -36,10 +36,10 @@ use Rattle.moir_semantics.proofs.TableLengths.{command-shaped, set-up-s
 -- What the trace line of an entry says of its command, which found the memory m and left a reply and a memory.
 -- Of a step: the access shown tells the truth, its process gets what is shown, and the line is Figure 6's.
 pub record StepTrue (p : ℕ) (m : Memory) (out : Reply × Memory) : Type 0 where
-  pub tells : TellsTruth (accessNow m p) (m .bench) (m .words) (out .1 .bench) (out .1 .words)
+  pub tells : TellsTruth (figure6 .shows m p) (m .bench) (m .words) (out .1 .bench) (out .1 .words)
   pub gets : let q = recordAt (m .records) (record { 0 = p }) in
-      Gets (pointOf (q .line)) (accessNow m p) q (record { bench = out .1 .bench; process = recordAt (out .1 .records) (record { 0 = p }); reply = out .0 })
-  pub line : accessNow m p .line ≡ figureLine (pointOf (recordAt (m .records) (record { 0 = p }) .line))
+      Gets (pointOf (q .line)) (figure6 .shows m p) q (record { bench = out .1 .bench; process = recordAt (out .1 .records) (record { 0 = p }); reply = out .0 })
+  pub line : figure6 .shows m p .line ≡ figureLine (pointOf (recordAt (m .records) (record { 0 = p }) .line))
 
 -- Of a start: docs/TRACE.md, "a start touches nothing shared".
 abbrev pub StartTrue : Memory → Reply × Memory → Type 0

@@ -29,7 +29,7 @@ use Rattle.access.proofs.Theorems.{trace-is-true, step-depends}
 use Rattle.semantics.specs.Reached.{Reached}
 use Rattle.text_runs.specs.TextRun.{processOf, orderOf, valueOf}
 use Rattle.text_runs.proofs.ToldLaws as T
-use Rattle.semantics.specs.TextRun.{figure2, Progress, accessNow, carryAll, begun}
+use Rattle.semantics.specs.TextRun.{figure2, Progress, carryAll, begun}
 use Rattle.semantics.proofs.ReachedLaws.{reached-set-up, reached-command}
 use Rattle.semantics.proofs.AcceptedSteps.{unrefused, left-by, stepped, at-work}
 
@@ -37,9 +37,9 @@ use Rattle.semantics.proofs.AcceptedSteps.{unrefused, left-by, stepped,
 -- Of a step: README, "every access that led to them": the access shown tells the truth, in the sense of `TellsTruth`.
 -- And the item shown is the one that the step depends on, in the sense of `DependsOn`.
 pub record StepTrue (p : ℕ) (m m′ : Memory) : Type 0 where
-  pub tells : TellsTruth (record { 0 = p }) (accessNow m p) (m .bench) (m .words) (m′ .bench) (m′ .words)
+  pub tells : TellsTruth (record { 0 = p }) (figure2 .shows m p) (m .bench) (m .words) (m′ .bench) (m′ .words)
   pub depends : let q = recordAt (m .records) (record { 0 = p }) in
-      DependsOn (pointOf (q .line)) (record { 0 = p }) (m .bench) q (m .words) (accessNow m p .item)
+      DependsOn (pointOf (q .line)) (record { 0 = p }) (m .bench) q (m .words) (figure2 .shows m p .item)
 
 -- Of a start: docs/TRACE.md, "a start touches nothing shared".
 abbrev pub StartTrue : Memory → Memory → Type 0
