@@ -7,3 +7,4 @@ pub mod MiddleLaws
 pub mod TextLaws
 pub mod StopLaws
 pub mod FaultLaws
+pub mod SmallRuns
