@@ -1,3 +1,4 @@
+pub mod SmallRuns
 pub mod SingleEntries
 pub mod UntilAnswered
 pub mod ToldLaws
@@ -7,4 +8,3 @@ pub mod MiddleLaws
 pub mod TextLaws
 pub mod StopLaws
 pub mod FaultLaws
-pub mod SmallRuns
