@@ -27,7 +27,7 @@ use Rattle.entry.specs.RunState.{RunState, stateOf, progress}
 use Rattle.entry.proofs.FilledLaws.{gathered-filled}
 use Rattle.run.specs.Finished.{freshRun, memoryOf, Lending}
 use Rattle.run.proofs.StartLaws.{set-up-same, first, begun-same, begun-sound}
-use Rattle.run.proofs.RunLaws.{not-begun, is-begun}
+use Rattle.text_runs.proofs.TextLaws.{not-begun, is-begun}
 use Rattle.board_listing.specs.BoardListing.{obeyAll, runListed, afterSetUp, boardListed}
 use Rattle.board_listing.specs.ListedRun.{Between, Obeys, Closable, closed, endOf, RunsFile}
 
