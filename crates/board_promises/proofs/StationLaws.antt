@@ -23,7 +23,7 @@ use Rattle.station_laws.specs.OneRecord.{asBench, onTheOne}
 use Rattle.boards.specs.Files.{BoardRecord}
 use Rattle.board_commands.specs.declared.FileRun.{FileRun}
 use Rattle.board_commands.specs.BoardRun.{orderOf, runRecords}
-use Rattle.semantics.specs.TextRun as text
+use Rattle.text_runs.specs.TextRun as TR
 use Rattle.text_runs.specs.TextRun.{roomNeeded, processOf, valueOf}
 use Rattle.semantics.specs.TextRun.{figure2, Progress, stopped, linesOf, counted}
 use Rattle.text_runs.proofs.SingleEntries.{outcome}
@@ -31,13 +31,13 @@ use Rattle.board_listing.specs.BoardListing.{entryOf, obeyAll}
 
 -- The entry of a record is its command: only an SC's value is looked at.
 same-command : (m : Memory) (r : BoardRecord)
-    → command m (processOf (entryOf r)) (text.orderOf (entryOf r)) (valueOf (m .bench .w) (entryOf r)) ≡ command m (r .process) (orderOf (r .order)) (replicate (m .bench .w) (r .value))
+    → command m (processOf (entryOf r)) (TR.orderOf (entryOf r)) (valueOf (m .bench .w) (entryOf r)) ≡ command m (r .process) (orderOf (r .order)) (replicate (m .bench .w) (r .value))
 unfolding command refusal obey
 same-command m r = go (eqb (r .order) 0) (eqb (r .order) 1) (eqb (r .order) 2)
   where
     go : (a b c : Bool) → let e = cond a (Step (r .process)) (cond b (StartLl (r .process)) (cond c (StartSc (r .process) (r .value)) (StartVl (r .process)))) in
         let o = cond a orders.Step (cond b orders.StartLl (cond c orders.StartSc orders.StartVl)) in
-        command m (processOf e) (text.orderOf e) (valueOf (m .bench .w) e) ≡ command m (r .process) o (replicate (m .bench .w) (r .value))
+        command m (processOf e) (TR.orderOf e) (valueOf (m .bench .w) e) ≡ command m (r .process) o (replicate (m .bench .w) (r .value))
     go true b c = refl
     go false true c = refl
     go false false true = refl
