@@ -1,0 +1,35 @@
+-- `board_listing::listed::run_file`: refused by its rows, or run.
+use mathlib.Core.Path.{sym, ◌∙◌}
+use Rattle.board_rows.proofs.FileRows.{has_trailer, long_enough}
+use Rattle.board_listing.proofs.ListedLaws.{file_small, file_refused, records_there, records_few, file_run_is}
+use Rattle.board_listing.proofs.listed.run_file.Goals as goal
+
+records_of-requires c κs =
+    let file = c.before.before.before.before.before.args.file.now in
+    long_enough file (has_trailer file (sym c.before.file_refusal.ensures ∙ c.if1.false))
+
+pub refused-requires : goal.refused-requires
+refused-requires c =
+    (file_small _ c.file_refusal-number.ensures, c.requires.2)
+
+pub returns-then-number-ne0 : goal.returns-then-number-ne0
+returns-then-number-ne0 c =
+    let a = c.args in
+    file_refused a.run a.words.now a.file.now a.list.now c.file_refusal-number.ensures c.if-number-ne0.true c.refused.ensures
+
+pub records_of-from-requires : goal.records_of-from-requires
+
+pub obey_records-done-requires : goal.obey_records-done-requires
+obey_records-done-requires c =
+    let x = c.args in
+    let f = c.records_of-from in (
+      records_there x.run x.words.now x.file.now x.list.now c.file_refusal-number.ensures c.if-number-ne0.false _ f.ensures,
+      c.requires.0,
+      records_few x.run x.words.now x.file.now x.list.now c.file_refusal-number.ensures c.if-number-ne0.false _ f.ensures,
+    )
+
+pub returns : goal.returns
+returns c =
+    let x = c.args in
+    file_run_is x.run x.words.now x.file.now x.list.now c.file_refusal-number.ensures c.if-number-ne0.false _ c.records_of-from.ensures c.requires.1
+    c.obey_records-done.ensures c.close.ensures

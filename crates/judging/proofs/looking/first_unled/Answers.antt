@@ -1,0 +1,42 @@
+-- `judging::looking::first_unled` meets its contract.
+use native.Mathlib.Omega.{arith}
+use mathlib.Core.Path.{ap, ◌∙◌}
+use Rattle.verdicts.specs.Log.{rows}
+use Rattle.judging.specs.Heads.{lacks_ll}
+use Rattle.judging.proofs.HeadLaws.{fit_first}
+use Rattle.judging.proofs.RowLoops.{first_begin, row_stop, row_go, row_end}
+use borrow.Author.Rules.{rules}
+use Rattle.judging.proofs.looking.first_unled.Goals as goal
+
+pub loop-k-init : goal.loop-k-init
+loop-k-init c = first_begin _ _ _ _ _ (search rules)
+
+pub head_at-e-requires : goal.head_at-e-requires
+head_at-e-requires c = let z = fit_first _ _ _ _ c.loop-k-test.true c.loop-k.invariant.fit in omega arith
+
+pub overflow_sub-result : goal.overflow_sub-result
+overflow_sub-result c = let z = c.loop-k.invariant.low in omega arith
+
+pub returns-then-lacks : goal.returns-then-lacks
+returns-then-lacks c =
+    let a = c.args in
+    row_stop _ _ _ _ _ _ _ c.loop-k.invariant (search rules) _
+    (c.lacks.ensures ∙ ap (lacks_ll (rows a.left a.w a.log.now)) c.head_at-e.ensures) c.if-lacks.true
+
+pub overflow_add-i : goal.overflow_add-i
+overflow_add-i c = let z = c.loop-k.invariant.fit.narrow in omega arith
+
+pub overflow_add-i-in-loop-k : goal.overflow_add-i-in-loop-k
+overflow_add-i-in-loop-k c = let z = fit_first _ _ _ _ c.loop-k-test.true c.loop-k.invariant.fit in omega arith
+
+pub loop-k-smaller : goal.loop-k-smaller
+loop-k-smaller c = omega arith
+
+pub loop-k-preserved : goal.loop-k-preserved
+loop-k-preserved c =
+    let a = c.args in
+    row_go _ _ _ _ _ _ _ c.loop-k.invariant (search rules) _
+    (c.lacks.ensures ∙ ap (lacks_ll (rows a.left a.w a.log.now)) c.head_at-e.ensures) c.if-lacks.false
+
+pub returns : goal.returns
+returns c = row_end _ _ _ _ _ _ _ c.loop-k.invariant (search rules)

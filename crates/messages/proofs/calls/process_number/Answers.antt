@@ -1,0 +1,10 @@
+-- `messages::calls::process_number`: one test.
+use native.Mathlib.Omega.{arith}
+use borrow.Author.Tests.{lt-ltb, le-ltb}
+use Rattle.messages.proofs.calls.process_number.Goals as goal
+
+pub returns-then-p-lt16 : goal.returns-then-p-lt16
+returns-then-p-lt16 c = (simp (lt-ltb _ _ c.if-p-lt16.true), c.if-p-lt16.true)
+
+pub returns : goal.returns
+returns c = (simp (le-ltb _ _ c.if-p-lt16.false), omega arith)

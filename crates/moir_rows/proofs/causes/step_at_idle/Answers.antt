@@ -1,0 +1,11 @@
+-- `moir_rows::causes::step_at_idle` meets its contract: the tests are the row's.
+use mathlib.Core.Path.{refl, sym, ap, ◌∙◌}
+use mathlib.Core.Bool.{not}
+use Rattle.laws.proofs.AndLaws.{pass, fail}
+use Rattle.moir_rows.proofs.causes.step_at_idle.Goals as goal
+
+pub returns-then-is_start : goal.returns-then-is_start
+returns-then-is_start c = fail _ _ (ap not (sym c.is_start.ensures ∙ c.if-is_start.true))
+
+pub returns : goal.returns
+returns c = pass _ (ap not (sym c.is_start.ensures ∙ c.if-is_start.false)) refl

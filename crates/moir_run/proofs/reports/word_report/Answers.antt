@@ -1,0 +1,11 @@
+-- `moir_run::reports::word_report`: the place and the process that a number keeps.
+use Rattle.moir_run.proofs.reports.word_report.Goals as goal
+
+pub returns : goal.returns
+returns c =
+    simp (
+      c.reported_process-process.ensures,
+      c.process_of.ensures,
+      c.item_place-place.ensures,
+      c.entry_in-e.ensures,
+    )

@@ -1,0 +1,52 @@
+-- `moir_run::turns::accepted`: the order obeyed, its lines written, its record stored.
+use mathlib.Core.Path.{sym}
+use native.Mathlib.Omega.{arith}
+use lib.Seq.{length-take-le}
+use Rattle.moir_run.proofs.TurnLaws.{process_few, ready_as, count_few, obeyable_as, shown_room, listable_as}
+use Rattle.moir_run.proofs.TurnLaws.{carried_as}
+use Rattle.moir_run.proofs.turns.accepted.Goals as goal
+
+record_at-requires c κs =
+    let c5 = c.before.before.before.before.before in
+    omega (arith, process_few c5.requires c.process_of.ensures)
+
+pub overflow_cast-own : goal.overflow_cast-own
+overflow_cast-own c = omega (arith, process_few c.requires c.process_of-p.ensures)
+
+pub record_at-process-requires : goal.record_at-process-requires
+
+pub access_seen-access-requires : goal.access_seen-access-requires
+access_seen-access-requires c =
+    ready_as c.requires c.process_of.ensures c.record_at.ensures
+
+pub slice_bounds-value-end : goal.slice_bounds-value-end
+slice_bounds-value-end c =
+    omega (arith, count_few c.requires c.words_of-count.ensures)
+
+pub slice_bounds-obey-end : goal.slice_bounds-obey-end
+slice_bounds-obey-end c =
+    sym (length-take-le _ _ (count_few c.requires c.words_of-count.ensures))
+
+pub obey-moved-requires : goal.obey-moved-requires
+obey-moved-requires c =
+    obeyable_as c.requires c.process_of.ensures c.record_at.ensures c.value_of-value.ensures c.words_of-count.ensures c.order_of-order.ensures
+
+pub overflow_add-k : goal.overflow_add-k
+overflow_add-k c =
+    omega (arith, c.requires.more)
+
+pub trace_line-shown-requires : goal.trace_line-shown-requires
+trace_line-shown-requires c =
+    shown_room c.requires c.process_of.ensures c.record_at.ensures c.value_of-value.ensures c.words_of-count.ensures c.order_of-order.ensures c.obey-moved.ensures c.access_seen-access.ensures
+
+pub answer_line-written-requires : goal.answer_line-written-requires
+answer_line-written-requires c =
+    listable_as c.requires c.process_of.ensures c.record_at.ensures c.value_of_lem.ensures c.words_of.ensures c.order_of.ensures c.obey.ensures c.access_seen.ensures c.trace_line.ensures
+
+pub with_record-next-requires : goal.with_record-next-requires
+with_record-next-requires c =
+    omega (arith, process_few c.requires c.process_of.ensures)
+
+pub returns : goal.returns
+returns c =
+    carried_as c.requires c.process_of.ensures c.record_at.ensures c.value_of-value.ensures c.words_of-count.ensures c.order_of-order.ensures c.obey-moved.ensures c.access_seen-access.ensures c.trace_line-shown.ensures c.answer_line-written.ensures c.with_record-next.ensures

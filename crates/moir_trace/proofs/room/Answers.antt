@@ -1,0 +1,11 @@
+-- `moir_trace::room`: its length by a law, since it is too long to be counted out.
+use mathlib.Core.Path.{◌≡◌, sym}
+use Prim.Native.Nat.{ℕ}
+use lib.ListN.{length, replicate, length-replicate}
+use Rattle.moir_trace.proofs.room.Goals as goal
+
+zeros : (n : ℕ) → n ≡ length (replicate {A = ℕ} n 0)
+zeros n = sym (length-replicate n 0)
+
+pub returns : goal.returns
+returns c = zeros 3145728

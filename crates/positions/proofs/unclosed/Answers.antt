@@ -1,0 +1,45 @@
+-- `positions::unclosed`: the loop's invariant is that what is left to look at leads to the same.
+use Prim.Native.Nat.{◌-◌}
+use mathlib.Core.Path.{◌≡◌, refl, sym, ap, ◌∙◌}
+use native.Mathlib.Omega.{arith}
+use lib.ListN.{get_or}
+use Rattle.positions.specs.Brackets.{unclosed_below}
+use Rattle.positions.proofs.BracketLaws.{found, passed, none_left, one_more}
+use Rattle.positions.proofs.unclosed.Goals as goal
+
+pub loop-left-init : goal.loop-left-init
+loop-left-init c = record { within = omega arith; same = refl }
+
+pub overflow_sub-left : goal.overflow_sub-left
+overflow_sub-left c = omega arith
+
+pub bounds-text-left : goal.bounds-text-left
+bounds-text-left c = omega (arith, c.loop-left.invariant.within, c.loop-left-test.true)
+
+pub returns-then-opens_here : goal.returns-then-opens_here
+returns-then-opens_here c =
+    let x = c.loop-left in
+    found c.args.text.now x.left x.closed c.loop-left-test.true c.opens_here.ensures c.if-opens_here.true ∙ x.invariant.same
+
+pub closed_with-closed-requires : goal.closed_with-closed-requires
+closed_with-closed-requires c =
+    omega (arith, c.loop-left.invariant.within, c.loop-left-test.true)
+
+pub loop-left-smaller : goal.loop-left-smaller
+loop-left-smaller c = omega (arith, c.loop-left-test.true)
+
+pub loop-left-preserved : goal.loop-left-preserved
+loop-left-preserved c =
+    let x = c.loop-left in
+    let text = c.args.text.now in
+    let on : c.closed_with.result ≡ _ = c.closed_with-closed.ensures in
+    record {
+      within = omega (arith, x.invariant.within, c.loop-left-test.true, on, one_more (get_or text (x.left - 1) 0) x.closed);
+      same = ap (unclosed_below text (x.left - 1)) on
+          ∙ sym (passed text x.left x.closed c.loop-left-test.true c.opens_here.ensures c.if-opens_here.false) ∙ x.invariant.same;
+    }
+
+pub returns : goal.returns
+returns c =
+    let x = c.loop-left in
+    none_left c.args.text.now x.left x.closed (omega (arith, c.loop-left-test.false)) ∙ x.invariant.same

@@ -1,0 +1,17 @@
+-- `positions::unclosed`: the loop's invariant is that what is left to look at leads to the same.
+use Prim.Native.Nat.{ℕ, ◌+◌, ◌-◌, ◌≤◌}
+use mathlib.Core.Path.{◌≡◌}
+use mathlib.Core.List.{List}
+use lib.ListN.{length}
+use Rattle.positions.specs.Brackets.{unclosed_below, unclosed_in}
+use Rattle.positions.proofs.unclosed.Given as goal
+
+pub record Inv (text : List ℕ) (left closed : ℕ) : Type 0 where
+  within : closed + left ≤ length text
+  same : unclosed_below text left closed ≡ unclosed_in text
+
+abbrev pub invariant-loop-left : goal.invariant-loop-left
+invariant-loop-left l = Inv l.text l.left l.closed
+
+abbrev pub decreases-loop-left : goal.decreases-loop-left
+decreases-loop-left l = l.left

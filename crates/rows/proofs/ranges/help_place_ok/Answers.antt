@@ -1,0 +1,14 @@
+-- `rows::ranges::help_place_ok` meets its contract: each part that fails answers.
+use mathlib.Core.Path.{sym, ◌∙◌}
+use borrow.Author.Tests.{le-leb, lt-leb, not-true, not-false}
+use Rattle.laws.proofs.AndLaws.{pass, fail}
+use Rattle.rows.proofs.ranges.help_place_ok.Goals as goal
+
+pub returns-then-content-gt1 : goal.returns-then-content-gt1
+returns-then-content-gt1 c = fail _ _ (lt-leb _ _ c.if-content-gt1.taken)
+
+pub returns-then-not-buffer_ok : goal.returns-then-not-buffer_ok
+returns-then-not-buffer_ok c = pass _ (le-leb _ _ c.if-content-gt1.left) (fail _ _ (sym c.buffer_ok.ensures ∙ not-true _ c.if-not-buffer_ok.taken))
+
+pub returns : goal.returns
+returns c = pass _ (le-leb _ _ c.if-content-gt1.left) (pass _ (sym c.buffer_ok.ensures ∙ not-false _ c.if-not-buffer_ok.left) c.links_ok.ensures)

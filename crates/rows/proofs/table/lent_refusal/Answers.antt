@@ -1,0 +1,31 @@
+-- `rows::table::lent_refusal` meets its contract: rows 1, 2, 3 in order.
+use mathlib.Core.Path.{refl, sym, ◌∙◌}
+use Rattle.rows.proofs.RowLaws.{over, here, n_in, w_in}
+use Rattle.rows.proofs.table.lent_refusal.Goals as goal
+
+pub returns-then-n_out_of_range : goal.returns-then-n_out_of_range
+returns-then-n_out_of_range c = here _ 1 _ (sym c.n_out_of_range.ensures ∙ c.if-n_out_of_range.true)
+
+pub returns-then-w_out_of_range : goal.returns-then-w_out_of_range
+returns-then-w_out_of_range c =
+    let no1 = sym c.n_out_of_range.ensures ∙ c.if-n_out_of_range.false in
+    over _ 1 no1 (here _ 2 _ (sym c.w_out_of_range.ensures ∙ c.if-w_out_of_range.true))
+
+pub too_little_lent-requires : goal.too_little_lent-requires
+too_little_lent-requires c =
+    let no1 = sym c.n_out_of_range.ensures ∙ c.if-n_out_of_range.false in
+    let no2 = sym c.w_out_of_range.ensures ∙ c.if-w_out_of_range.false in
+    ((n_in _ no1).1, (w_in _ no2).1)
+
+pub returns-then-too_little_lent : goal.returns-then-too_little_lent
+returns-then-too_little_lent c =
+    let no1 = sym c.n_out_of_range.ensures ∙ c.if-n_out_of_range.false in
+    let no2 = sym c.w_out_of_range.ensures ∙ c.if-w_out_of_range.false in
+    over _ 1 no1 (over _ 2 no2 (here _ 3 _ (sym c.too_little_lent.ensures ∙ c.if-too_little_lent.true)))
+
+pub returns : goal.returns
+returns c =
+    let no1 = sym c.n_out_of_range.ensures ∙ c.if-n_out_of_range.false in
+    let no2 = sym c.w_out_of_range.ensures ∙ c.if-w_out_of_range.false in
+    let no3 = sym c.too_little_lent.ensures ∙ c.if-too_little_lent.false in
+    over _ 1 no1 (over _ 2 no2 (over _ 3 no3 refl))

@@ -1,0 +1,12 @@
+-- `station_rows::ranges::called_ok` meets its contract: the tests are the definition's.
+use borrow.Author.Tests.{lt-ltb, le-ltb, eq-eqb, ne_eqb}
+use Rattle.station_rows.proofs.ranges.called_ok.Goals as goal
+
+pub returns-then-called-r : goal.returns-then-called-r
+returns-then-called-r c = simp (le-ltb _ _ c.if-called-r.taken)
+
+pub returns-then-line-ne-IDLE : goal.returns-then-line-ne-IDLE
+returns-then-line-ne-IDLE c = simp (lt-ltb _ _ c.if-called-r.left, ne_eqb _ 0 c.if-line-ne-IDLE.taken)
+
+pub returns : goal.returns
+returns c = simp (lt-ltb _ _ c.if-called-r.left, eq-eqb _ 0 c.if-line-ne-IDLE.left)

@@ -1,0 +1,36 @@
+use borrow.Author.Tests.{not-true, not-false}
+use native.Mathlib.Omega.{arith}
+use Prim.Native.Nat.{◌-◌}
+use mathlib.Core.Path.{refl, sym, ◌∙◌}
+use Rattle.sums.proofs.RefusalLaws.{small_step, small_stop, small_end}
+use Rattle.sums.proofs.refusals.all_small.Reads as reads
+use Rattle.sums.proofs.refusals.all_small.Lts as lts
+use Rattle.sums.proofs.refusals.small_sum.Reads as small_sum_reads
+use Rattle.sums.proofs.refusals.all_small.Goals as goal
+
+pub loop-k-init : goal.loop-k-init
+loop-k-init c = (refl, omega arith)
+
+pub overflow_sub-last : goal.overflow_sub-last
+overflow_sub-last c = omega arith
+
+pub offset_bounds-each-last : goal.offset_bounds-each-last
+offset_bounds-each-last c = omega (arith, c.loop-k.invariant.1)
+
+pub bounds-each-last : goal.bounds-each-last
+bounds-each-last c = omega (arith, c.loop-k.invariant.1)
+
+pub returns-then-not-ok : goal.returns-then-not-ok
+returns-then-not-ok c = sym (small_stop _ _ c.loop-k-test.true (sym c.small_sum-ok.ensures ∙ not-true _ c.if-not-ok.true)) ∙ c.loop-k.invariant.0
+
+pub loop-k-smaller : goal.loop-k-smaller
+loop-k-smaller c = omega (arith, c.loop-k-test.true)
+
+pub loop-k-preserved : goal.loop-k-preserved
+loop-k-preserved c =
+    let i = c.loop-k.invariant in
+    let ok = sym c.small_sum-ok.ensures ∙ not-false _ c.if-not-ok.false in
+    (sym (small_step _ _ c.loop-k-test.true ok) ∙ i.0, omega (arith, i.1))
+
+pub returns : goal.returns
+returns c = sym (small_end _ _ c.loop-k-test.false) ∙ c.loop-k.invariant.0

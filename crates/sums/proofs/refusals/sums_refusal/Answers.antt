@@ -1,0 +1,41 @@
+use borrow.Author.Tests.{le-leb, lt-leb}
+use Prim.Native.Nat.{◌-◌}
+use mathlib.Core.Path.{sym}
+use Rattle.sums.proofs.refusals.sums_refusal.Reads as reads
+use Rattle.sums.proofs.refusals.sums_refusal.Lts as lts
+use Rattle.sums.proofs.refusals.all_small.Reads as all_small_reads
+use Rattle.sums.proofs.refusals.sums_refusal.Goals as goal
+
+pub returns-then-n-lt1 : goal.returns-then-n-lt1
+returns-then-n-lt1 c = simp (lt-leb _ _ c.if-n-lt1.true)
+
+pub returns-then-n-gt16 : goal.returns-then-n-gt16
+returns-then-n-gt16 c = simp (le-leb _ _ c.if-n-lt1.false, lt-leb _ _ c.if-n-gt16.true)
+
+pub returns-then-w-lt1 : goal.returns-then-w-lt1
+returns-then-w-lt1 c = simp (le-leb _ _ c.if-n-lt1.false, le-leb _ _ c.if-n-gt16.false, lt-leb _ _ c.if-w-lt1.true)
+
+pub returns-then-w-gt64 : goal.returns-then-w-gt64
+returns-then-w-gt64 c = simp (le-leb _ _ c.if-n-lt1.false, le-leb _ _ c.if-n-gt16.false, le-leb _ _ c.if-w-lt1.false, lt-leb _ _ c.if-w-gt64.true)
+
+pub returns-then-ok : goal.returns-then-ok
+returns-then-ok c =
+    simp (
+      le-leb _ _ c.if-n-lt1.false,
+      le-leb _ _ c.if-n-gt16.false,
+      le-leb _ _ c.if-w-lt1.false,
+      le-leb _ _ c.if-w-gt64.false,
+      sym c.all_small-ok.ensures,
+      c.if-ok.true,
+    )
+
+pub returns : goal.returns
+returns c =
+    simp (
+      le-leb _ _ c.if-n-lt1.false,
+      le-leb _ _ c.if-n-gt16.false,
+      le-leb _ _ c.if-w-lt1.false,
+      le-leb _ _ c.if-w-gt64.false,
+      sym c.all_small-ok.ensures,
+      c.if-ok.false,
+    )

@@ -1,0 +1,37 @@
+use native.Mathlib.Omega.{arith}
+use Prim.Native.Nat.{◌-◌}
+use mathlib.Core.Path.{ap, ◌∙◌}
+use Rattle.sums.specs.Fractions.{rows_of}
+use Rattle.sums.proofs.RowLaws.{rows_more}
+use Rattle.sums.proofs.table_rows.rows_of.Reads as reads
+use Rattle.sums.proofs.table_rows.rows_of.Lts as lts
+use Rattle.sums.proofs.table_rows.no_row.Reads as no_row_reads
+use Rattle.sums.proofs.table_rows.row_of.Reads as row_of_reads
+use Rattle.sums.proofs.table_rows.rows_of.Goals as goal
+
+pub loop-k-init : goal.loop-k-init
+loop-k-init c = (simp c.no_row-none.ensures, omega arith)
+
+pub offset_bounds-each-k : goal.offset_bounds-each-k
+offset_bounds-each-k c = omega arith
+
+pub bounds-each-k : goal.bounds-each-k
+bounds-each-k c = omega arith
+
+pub offset_bounds-rows-k : goal.offset_bounds-rows-k
+offset_bounds-rows-k c = omega arith
+
+pub bounds-rows-k : goal.bounds-rows-k
+bounds-rows-k c = omega arith
+
+pub overflow_add-k : goal.overflow_add-k
+overflow_add-k c = omega arith
+
+pub loop-k-smaller : goal.loop-k-smaller
+loop-k-smaller c = omega arith
+
+pub loop-k-preserved : goal.loop-k-preserved
+loop-k-preserved c = let l = c.loop-k in (simp (c.row_of-row.ensures, l.invariant.0) (rows_more _ _), omega (arith, c.loop-k-test.true))
+
+pub returns : goal.returns
+returns c = let l = c.loop-k in l.invariant.0 ∙ ap (rows_of _) (omega (arith, l.invariant.1, c.loop-k-test.false))

@@ -1,0 +1,12 @@
+-- `trace::main` meets its contract, which only says that it is safe and ends: the records that it hands over are fillers.
+use Rattle.run.proofs.RecordLaws.{fillers}
+use borrow.Author.Rules.{rules}
+use Rattle.trace.proofs.main.Goals as goal
+
+records_of-requires c κs = search rules
+
+pub records_of-all-requires : goal.records_of-all-requires
+
+pub trace_by_value-out-requires : goal.trace_by_value-out-requires
+trace_by_value-out-requires c =
+    fillers c.no_process.result c.records_of-all.result c.no_process.ensures c.records_of-all.ensures
