@@ -6,8 +6,8 @@ use Rattle.listing.specs.Writing.{Wrote}
 use Rattle.listing.proofs.plain.Given as goal
 
 pub record Inv (l : List ℕ) (at : ℕ) (bs l' : List ℕ) (next i : ℕ) : Type 0 where
-  wrote : Wrote l at (take i bs) l' next
-  within : i ≤ length bs
+  pub wrote : Wrote l at (take i bs) l' next
+  pub within : i ≤ length bs
 
 abbrev pub invariant-loop-i : goal.invariant-loop-i
 invariant-loop-i l = Inv l.initial.list l.at l.bytes l.list l.next l.i

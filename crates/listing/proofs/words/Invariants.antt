@@ -8,8 +8,8 @@ use Rattle.listing.proofs.LineLaws.{part}
 use Rattle.listing.proofs.words.Given as goal
 
 pub record Inv (l : List ℕ) (at : ℕ) (ws : List ℕ) (from w : ℕ) (l' : List ℕ) (next i : ℕ) : Type 0 where
-  wrote : Wrote l at (words_of (take i (part ws from w))) l' next
-  within : i ≤ w
+  pub wrote : Wrote l at (words_of (take i (part ws from w))) l' next
+  pub within : i ≤ w
 
 abbrev pub invariant-loop-i : goal.invariant-loop-i
 invariant-loop-i l = Inv l.initial.list l.at l.ws l.from l.w l.list l.next l.i

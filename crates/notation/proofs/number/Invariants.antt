@@ -7,10 +7,10 @@ use Rattle.notation.specs.Readers.{Counts}
 use Rattle.notation.proofs.number.Given as goal
 
 pub record Inv (s : List ℕ) (at v next value : ℕ) : Type 0 where
-  counts : Counts s at v next value
-  on : at ≤ next
-  within : next ≤ length s
-  small : value ≤ largest
+  pub counts : Counts s at v next value
+  pub on : at ≤ next
+  pub within : next ≤ length s
+  pub small : value ≤ largest
 
 abbrev pub invariant-loop-next : goal.invariant-loop-next
 invariant-loop-next l = Inv l.text l.at l.v l.next l.value

@@ -6,9 +6,9 @@ use Rattle.notation.specs.Readers.{Gapped}
 use Rattle.notation.proofs.skip.Given as goal
 
 pub record Inv (s : List ℕ) (at next : ℕ) : Type 0 where
-  on : at ≤ next
-  within : next ≤ length s
-  gaps : Gapped s at next
+  pub on : at ≤ next
+  pub within : next ≤ length s
+  pub gaps : Gapped s at next
 
 abbrev pub invariant-loop-next : goal.invariant-loop-next
 invariant-loop-next l = Inv l.text l.at l.next

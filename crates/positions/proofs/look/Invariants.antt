@@ -9,9 +9,9 @@ use Rattle.positions.proofs.PositionLaws.{Passed}
 use Rattle.positions.proofs.look.Given as goal
 
 pub record Inv (before : List ℕ) (s : Seen) (i : ℕ) : Type 0 where
-  within : i ≤ length before
-  passed : Passed i s
-  left : seen_in before ≡ seen_from (drop i before) s
+  pub within : i ≤ length before
+  pub passed : Passed i s
+  pub left : seen_in before ≡ seen_from (drop i before) s
 
 abbrev pub invariant-loop-i : goal.invariant-loop-i
 invariant-loop-i l = Inv l.before l.s l.i

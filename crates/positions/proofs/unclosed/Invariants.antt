@@ -7,8 +7,8 @@ use Rattle.positions.specs.Brackets.{unclosed_below, unclosed_in}
 use Rattle.positions.proofs.unclosed.Given as goal
 
 pub record Inv (text : List ℕ) (left closed : ℕ) : Type 0 where
-  within : closed + left ≤ length text
-  same : unclosed_below text left closed ≡ unclosed_in text
+  pub within : closed + left ≤ length text
+  pub same : unclosed_below text left closed ≡ unclosed_in text
 
 abbrev pub invariant-loop-left : goal.invariant-loop-left
 invariant-loop-left l = Inv l.text l.left l.closed

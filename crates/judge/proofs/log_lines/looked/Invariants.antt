@@ -8,8 +8,8 @@ use Rattle.judge.specs.LogLines.{lines_from, lines_in}
 use Rattle.judge.proofs.log_lines.looked.Given as goal
 
 pub record Inv (text : List ℕ) (w : ℕ) (s : Lines) (i : ℕ) : Type 0 where
-  within : i ≤ length text
-  left : lines_in text w ≡ lines_from (drop i text) w s
+  pub within : i ≤ length text
+  pub left : lines_in text w ≡ lines_from (drop i text) w s
 
 abbrev pub invariant-loop-i : goal.invariant-loop-i
 invariant-loop-i l = Inv l.text l.w l.s l.i
