@@ -21,7 +21,7 @@ overflow_cast-p c = omega (
   c.requires,
   leb-false c.args.n
       c.args.p (sym c.no_such_process.ensures ∙ c.if-no_such_process.false),
-overflow_cast-p =
+)
 
 pub record_at-process-requires : goal.record_at-process-requires
 
