@@ -6,30 +6,39 @@ use Rattle.notation.specs.Bytes.{kind_of}
 use Rattle.notation.proofs.class.Goals as goal
 
 pub returns-in-10 : goal.returns-in-10
+unfolding kind_of
 returns-in-10 c = sym (ap kind_of c.in-10.is)
 
 pub returns-in-32 : goal.returns-in-32
+unfolding kind_of
 returns-in-32 c = sym (ap kind_of c.in-32.is)
 
 pub returns-in-33 : goal.returns-in-33
+unfolding kind_of
 returns-in-33 c = sym (ap kind_of c.in-33.is)
 
 pub returns-in-40 : goal.returns-in-40
+unfolding kind_of
 returns-in-40 c = sym (ap kind_of c.in-40.is)
 
 pub returns-in-41 : goal.returns-in-41
+unfolding kind_of
 returns-in-41 c = sym (ap kind_of c.in-41.is)
 
 pub returns-in-46 : goal.returns-in-46
+unfolding kind_of
 returns-in-46 c = sym (ap kind_of c.in-46.is)
 
 pub returns-in-108 : goal.returns-in-108
+unfolding kind_of
 returns-in-108 c = sym (ap kind_of c.in-108.is)
 
 pub returns-in-115 : goal.returns-in-115
+unfolding kind_of
 returns-in-115 c = sym (ap kind_of c.in-115.is)
 
 pub returns-in-118 : goal.returns-in-118
+unfolding kind_of
 returns-in-118 c = sym (ap kind_of c.in-118.is)
 
 pub returns-in-48-to-57 : goal.returns-in-48-to-57

@@ -35,21 +35,26 @@ plain-requires c =
     c.values-b-in-Ll.ensures
 
 pub plain-a-requires-in-Sc : goal.plain-a-requires-in-Sc
+unfolding Rattle.access.specs.TraceLines.act_text
 plain-a-requires-in-Sc c = room_first _ _ (act_room _ _ _ c.in-Sc.is c.requires)
 
 pub values-b-requires-in-Sc : goal.values-b-requires-in-Sc
+unfolding Rattle.access.specs.TraceLines.act_text
 values-b-requires-in-Sc c =
     room_first _ _ (room_then _ (act_room _ _ _ c.in-Sc.is c.requires) c.plain-a-in-Sc.ensures)
 
 pub stored-requires : goal.stored-requires
+unfolding Rattle.access.specs.TraceLines.act_text
 stored-requires c =
     room_then _ (room_then _ (act_room _ _ _ c.in-Sc.is c.requires) c.plain-a-in-Sc.ensures)
     c.values-b-in-Sc.ensures
 
 pub plain-a-requires-in-Vl : goal.plain-a-requires-in-Vl
+unfolding Rattle.access.specs.TraceLines.act_text
 plain-a-requires-in-Vl c = room_first _ _ (act_room _ _ _ c.in-Vl.is c.requires)
 
 pub truth-requires : goal.truth-requires
+unfolding Rattle.access.specs.TraceLines.act_text
 truth-requires c =
     room_then _ (act_room _ _ _ c.in-Vl.is c.requires) c.plain-a-in-Vl.ensures
 
@@ -68,10 +73,12 @@ returns-in-Ll c =
     (then c.plain-a-in-Ll.ensures (then c.values-b-in-Ll.ensures c.plain.ensures))
 
 pub returns-in-Sc : goal.returns-in-Sc
+unfolding Rattle.access.specs.TraceLines.act_text
 returns-in-Sc c =
     act_wrote _ _ _ c.in-Sc.is
     (then c.plain-a-in-Sc.ensures (then c.values-b-in-Sc.ensures c.stored.ensures))
 
 pub returns-in-Vl : goal.returns-in-Vl
+unfolding Rattle.access.specs.TraceLines.act_text
 returns-in-Vl c =
     act_wrote _ _ _ c.in-Vl.is (then c.plain-a-in-Vl.ensures c.truth.ensures)

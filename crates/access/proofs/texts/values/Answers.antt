@@ -15,12 +15,14 @@ pub spaced-requires-in-Half : goal.spaced-requires-in-Half
 spaced-requires-in-Half c = values_room _ _ c.in-Half.is c.requires
 
 pub returns-in-X : goal.returns-in-X
+unfolding Rattle.access.specs.TraceLines.values_text
 returns-in-X c = values_wrote _ _ c.in-X.is c.pair.ensures
 
 pub returns-in-Bank : goal.returns-in-Bank
 returns-in-Bank c = values_wrote _ _ c.in-Bank.is c.spaced.ensures
 
 pub returns-in-Help : goal.returns-in-Help
+unfolding Rattle.access.specs.TraceLines.values_text
 returns-in-Help c = values_wrote _ _ c.in-Help.is c.pair-in-Help.ensures
 
 pub returns-in-Half : goal.returns-in-Half

@@ -23,4 +23,5 @@ pub returns-in-Help : goal.returns-in-Help
 returns-in-Help c = same (ap written_text c.enum_told-in-Help-1.given.1) c.plain-in-Help.ensures
 
 pub returns-in-Half : goal.returns-in-Half
+unfolding written_text
 returns-in-Half c = same (ap written_text c.in-Half.is) (none _ _)

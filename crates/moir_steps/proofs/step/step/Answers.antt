@@ -25,12 +25,12 @@ returns-in-10 c =
 pub returns-in-2 : goal.returns-in-2
 returns-in-2 c =
     let a = c.args in
-    c.step_2.ensures ∙ arm a.p a.bench a.process a.words.now c.in-2.keys2
+    c.step_2.ensures ∙ arm a.p a.bench a.process a.words.now c.in-2.is
 
 pub returns-in-4 : goal.returns-in-4
 returns-in-4 c =
     let a = c.args in
-    c.step_4.ensures ∙ arm a.p a.bench a.process a.words.now c.in-4.keys3
+    c.step_4.ensures ∙ arm a.p a.bench a.process a.words.now c.in-4.is
 
 pub returns-in-5 : goal.returns-in-5
 returns-in-5 c =
@@ -66,12 +66,12 @@ returns-in-19 c =
 pub returns-in-22 : goal.returns-in-22
 returns-in-22 c =
     let a = c.args in
-    c.step_2-in-22.ensures ∙ arm a.p a.bench a.process a.words.now c.in-22.keys10
+    c.step_2-in-22.ensures ∙ arm a.p a.bench a.process a.words.now c.in-22.is
 
 pub returns-in-24 : goal.returns-in-24
 returns-in-24 c =
     let a = c.args in
-    c.step_4-in-24.ensures ∙ arm a.p a.bench a.process a.words.now c.in-24.keys11
+    c.step_4-in-24.ensures ∙ arm a.p a.bench a.process a.words.now c.in-24.is
 
 pub returns-in-25 : goal.returns-in-25
 returns-in-25 c =

@@ -24,6 +24,7 @@ returns-then-too_little_lent c =
     over _ 1 no1 (over _ 2 no2 (here _ 3 _ (sym c.too_little_lent.ensures ∙ c.if-too_little_lent.true)))
 
 pub returns : goal.returns
+unfolding Rattle.rows.specs.CommandRows.lent_number
 returns c =
     let no1 = sym c.n_out_of_range.ensures ∙ c.if-n_out_of_range.false in
     let no2 = sym c.w_out_of_range.ensures ∙ c.if-w_out_of_range.false in
