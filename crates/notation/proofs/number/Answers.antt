@@ -32,7 +32,7 @@ returns-then-not-may_follow c =
       counts = c.loop-next.invariant.counts;
       here = c.loop-next-test.true;
       is = sym c.class-k.ensures ∙ c.in-Digit.is;
-      not = sym c.may_follow.ensures ∙ not-true _ c.if-not-may_follow.true;
+      not = sym c.may_follow.ensures ∙ c.if-not-may_follow.true;
     }
 
 pub overflow_mul-value : goal.overflow_mul-value
@@ -50,7 +50,7 @@ loop-next-smaller c = omega arith
 
 pub loop-next-preserved : goal.loop-next-preserved
 loop-next-preserved c =
-    let ok = sym c.may_follow.ensures ∙ not-false _ c.if-not-may_follow.false in
+    let ok = sym c.may_follow.ensures ∙ c.if-not-may_follow.false in
     record {
       counts = digit c.loop-next.invariant.counts c.loop-next-test.true (sym c.class-k.ensures ∙ c.in-Digit.is) ok;
       on = omega (arith, c.loop-next.invariant.on);
