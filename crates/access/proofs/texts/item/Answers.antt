@@ -5,7 +5,7 @@ use Rattle.access.specs.TraceLines.{item_text}
 use Rattle.access.proofs.texts.item.Goals as goal
 
 pub plain-requires : goal.plain-requires
-plain-requires c = room_same (ap item_text c.enum_told-1.given.1) c.requires
+plain-requires c = room_same (ap item_text c.in-X.is) c.requires
 
 pub plain-a-requires : goal.plain-a-requires
 unfolding item_text
@@ -44,7 +44,7 @@ half_place-requires c =
     c.bracketed-b.ensures
 
 pub returns-in-X : goal.returns-in-X
-returns-in-X c = same (ap item_text c.enum_told-1.given.1) c.plain.ensures
+returns-in-X c = same (ap item_text c.in-X.is) c.plain.ensures
 
 pub returns-in-Bank : goal.returns-in-Bank
 unfolding item_text
