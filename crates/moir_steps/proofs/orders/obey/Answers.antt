@@ -10,20 +10,3 @@ copy_in-requires c = let told = c.in-StartSc.is in
     simp c.offer_word-at.ensures
     (row_lies c.args.bench.n (omega (arith, c.requires.ready.process))
     (c.requires.value (ap brings_value told)) c.requires.ready.standing.words)
-
-pub returns-in-StartLl : goal.returns-in-StartLl
-returns-in-StartLl c = simp (c.in-StartLl.is, c.begun.ensures)
-
-pub returns-in-StartSc : goal.returns-in-StartSc
-returns-in-StartSc c = simp (
-  c.in-StartSc.is,
-  c.begun-in-StartSc.ensures,
-  c.copy_in.ensures,
-  c.offer_word-at.ensures,
-returns-in-StartSc =
-
-pub returns-in-StartVl : goal.returns-in-StartVl
-returns-in-StartVl c = simp (c.in-StartVl.is, c.begun-in-StartVl.ensures)
-
-pub returns-in-Step : goal.returns-in-Step
-returns-in-Step c = simp c.in-Step.is c.step.ensures
