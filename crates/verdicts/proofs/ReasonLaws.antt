@@ -17,7 +17,7 @@ use Rattle.verdicts.specs.Log.{Entry, entries}
 use Rattle.verdicts.specs.Verdicts.{timed_of, each_two, kind_known, apart, differ, inside, truth_told, same_answers, in_order, answers_of, served_alike, ll_before}
 use Rattle.verdicts.specs.Verdicts.{earns_yes, log_refusal, judged}
 use Rattle.verdicts.specs.Reasons.{no_reason, first_with, one_at_fault, two_at_fault, Numbered, numbered, insert_numbered, sort_numbered, numbered_in_order}
-use Rattle.verdicts.specs.Reasons.{tells_alike, Standing, in_value, object_answers, not_alike, reasons, first_reason, reason_of_no, refused_at, reason_for}
+use Rattle.verdicts.specs.Reasons.{tells_alike, feed_entry, standing_after, Standing, in_value, object_answers, not_alike, reasons, first_reason, reason_of_no, refused_at, reason_for}
 
 -- no condition of CR 1 is told to fail
 abbrev pub none : Reason → Bool
@@ -134,7 +134,7 @@ answers_none c o s = go (eqb c.entry.kind 1) _ _ refl refl
 pub alike_none : (o : Object) (s : Standing) (cs : List Numbered)
     → none (not_alike o s cs) ≡ (every (of truth_told) cs && same_answers (serve o (map fed (map timed_of_numbered cs))) (answers_of (map timed_of_numbered cs)))
 alike_none o s [] = refl
-alike_none o s (c ∷ cs) = go (tells_alike c.entry o) _ ∙ ap (tells_alike c.entry o &&◌) (alike_none _ _ cs) ∙ sym (across (truth_told c.entry) _ _ _)
+alike_none o s (c ∷ cs) = go (tells_alike c.entry o) _ ∙ ap (tells_alike c.entry o &&◌) (alike_none (feed_entry c.entry o) (standing_after c o s) cs) ∙ sym (across (truth_told c.entry) _ _ _)
   where
     go : (b : Bool) (x : Reason) → none (cond b x (object_answers c o s)) ≡ (b && none x)
     go true x = refl
