@@ -13,6 +13,7 @@ use Rattle.model.specs.declared.Bench.{Bench}
 use Rattle.model.specs.declared.Process.{Process}
 use Rattle.llsc.specs.declared.Order.{Order}
 use Rattle.llsc.specs.declared.Order.TheVariants.{StartLl, StartSc, StartVl, Step}
+use Rattle.model.specs.declared.Reply.{Reply}
 use Rattle.model.specs.declared.Reply.TheVariants.{Refused, Accepted}
 use Rattle.model.specs.declared.Moved.{Moved}
 use Rattle.model.specs.Sizes.{halves}
@@ -159,16 +160,19 @@ module _ (N W n : ℕ) (m : Memory) (z : State) (r : Related N W m z) (ok : InRa
         value = e;
         number = k;
         follows = exec_start N W n z p v hp o s i a e;
-        said = ap (λ t. says t.1 (record { 0 = p }) t.0) eq ∙ ap (says _ (record { 0 = p })) (start_reply o (record { 0 = p }) v bench (record_of (z.loc p)) m.words s);
+        said = ap (λ t. says t.1 (record { 0 = p }) t.0) eq ∙ ap (says made.1 (record { 0 = p })) (start_reply o (record { 0 = p }) v bench (record_of (z.loc p)) m.words s);
       });
       related = rw (eq, exec_start N W n z p v hp o s i a e)
           (join _ _ (follow_start N W m.bench.x m.bench.bank m.bench.help m.words p n z hp r.places (ok.each p hp) o v n at_first s e));
     }
       where
+        made : Reply × Memory
+        made = stored_back m (record { 0 = p }) (obey o (record { 0 = p }) v bench (record_of (z.loc p)) m.words)
+
         at_first : (z.loc p).word ≡ 0
         at_first = idle_word N (halves W) z p hp places (PointFacts.idle_is (z.loc p).point i)
 
-        eq : command m p o v ≡ stored_back m (record { 0 = p }) (obey o (record { 0 = p }) v bench (record_of (z.loc p)) m.words)
+        eq : command m p o v ≡ made
         eq = obeys p o v k ∙ ap (stored_back m (record { 0 = p })) (obey_is o v)
 
     step_case : (v : List ℕ) → PointFacts.is_idle (z.loc p).point ≡ false → refusal m p Step v ≡ 0 → Followed N W n m z (record { process = p; order = Step; value = v })

@@ -9,7 +9,7 @@ use borrow.Author.Tests.{eqb-false}
 use Rattle.llsc.specs.Linearizable.{All}
 use Rattle.laws.proofs.Updates.{by_test, contra}
 use Rattle.moir_model.specs.Points.{Point, idle, ll10, ll2, ll4, ll5, ll6, ll7, sc14, sc17, sc19, sc2, sc4, sc5, sc6, sc7, vl13}
-use Rattle.moir_model.specs.History.{Event, Slot, none, running, Known, pending, Call, open_of, calls, successes_up_to, WonFrom}
+use Rattle.moir_model.specs.History.{Event, Slot, none, running, Known, pending, Call, open_of, successes_up_to, WonFrom}
 use Rattle.moir_linearization.specs.Linearizable.{Served, Counted, Wrote, NamedWrote, FalseWithCause}
 use Rattle.moir_linearization.proofs.GhostMachine.{Local, Shared, State, eq_pair}
 use Rattle.moir_linearization.proofs.GhostHistories.{answer_at, sc_call}

@@ -2,12 +2,12 @@
 use mathlib.Core.Path.{◌≡◌, refl, sym, ap, subst, ◌∙◌}
 use mathlib.Core.Bool.{Bool, true, false, cond}
 use mathlib.Core.List.{List, [], ◌∷◌, ◌++◌, append_assoc, map}
-use Prim.Native.Nat.{ℕ, zero, suc, ◌+◌, ◌≤◌, ◌<◌}
+use Prim.Native.Nat.{ℕ, zero, suc, ◌<◌}
 use native.Mathlib.Omega.{arith}
 use lib.Dec.{ltb, eqb}
 use lib.ListN.{length}
-use borrow.Author.Tests.{ltb-true, eq-eqb, ne_eqb}
-use Rattle.laws.proofs.Updates.{upd, upd_same, upd_other, Split, same, other, split, by_test, by_test₂, contra}
+use borrow.Author.Tests.{ltb-true, eq-eqb}
+use Rattle.laws.proofs.Updates.{upd, upd_same, upd_other, Split, same, other, split, by_test, by_test₂}
 use Rattle.laws.proofs.Parts.{tab}
 use Rattle.moir_model.specs.Points.{Point, idle, ll10, ll2, ll4, ll5, ll6, ll7, sc14, sc17, sc19, sc2, sc4, sc5, sc6, sc7, vl13}
 use Rattle.moir_linearization.proofs.PointRanges.{copying}
@@ -16,10 +16,10 @@ use Rattle.moir_linearization.proofs.GhostMachine.{step, step_at}
 use Rattle.moir_linearization.proofs.GhostRuns.{Cmd, WLL, VL, SC, go, exec, starts, started, Effect, sc_effect, effect_at, effect_of, effects}
 use Rattle.moir_linearization.proofs.GhostRuns.{latest_step, is_step, set_up}
 use Rattle.moir_linearization.specs.Linearizable.{Served}
-use Rattle.moir_linearization.proofs.GhostHistories.{sc_call, answer_at, answer_of, concat, open_call, last_by, fed_from, fed_calls, AnswerOrder}
+use Rattle.moir_linearization.proofs.GhostHistories.{sc_call, answer_at, answer_of, concat, last_by, fed_from, fed_calls, AnswerOrder}
 use Rattle.moir_linearization.proofs.InvariantRuns.{by_starts}
 use Rattle.moir_linearization.proofs.StepShape.{shape}
-use Rattle.moir_linearization.proofs.Permutations.{Perm, both, perm_refl, perm_eq, perm_sym, perm_left, perm_right, perm_over, perm_length}
+use Rattle.moir_linearization.proofs.Permutations.{Perm, both, perm_refl, perm_eq, perm_left, perm_right, perm_over, perm_length}
 use Rattle.moir_linearization.proofs.Reordering.{reordered}
 use Rattle.moir_linearization.proofs.EffectOrder.{moir_order}
 

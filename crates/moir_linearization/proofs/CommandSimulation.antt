@@ -1,5 +1,5 @@
 -- A command on lent memory follows the machine's command, and shows the same event.
-use mathlib.Core.Path.{◌≡◌, refl, sym, ap, ap₂, subst, ◌∙◌}
+use mathlib.Core.Path.{◌≡◌, refl, sym, ap, ap₂, ◌∙◌}
 use mathlib.Core.Bool.{Bool, true, false, not, ◌&&◌, ◌||◌, cond}
 use mathlib.Core.List.{List, [], ◌∷◌}
 use Prim.Native.Nat.{ℕ, suc, ◌+◌, ◌*◌, ◌≤◌, ◌<◌}
@@ -14,8 +14,7 @@ use Rattle.llsc.specs.declared.Order.TheVariants.{StartLl, StartSc, StartVl, Ste
 use Rattle.llsc.specs.Rows.{is_start, needs_ll, brings_value}
 use Rattle.llsc.specs.History.{Command}
 use Rattle.llsc.specs.Rows.{NotLentMemory}
-use Rattle.laws.proofs.Updates.{upd, upd_same, upd_other, Split, same, other, split, by_test, contra}
-use Rattle.moir_model.specs.declared.Bench.{Bench}
+use Rattle.laws.proofs.Updates.{upd, upd_same, upd_other, Split, same, other, split, by_test}
 use Rattle.moir_model.specs.declared.Process.{Process}
 use Rattle.moir_model.specs.declared.Reply.{Reply}
 use Rattle.moir_model.specs.declared.Reply.TheVariants.{Refused, Accepted}
@@ -47,7 +46,7 @@ use Rattle.moir_linearization.proofs.StepShape.{shape}
 use Rattle.moir_linearization.proofs.Ranges.{Sound, exec_sound}
 use Rattle.moir_linearization.proofs.HeaderChanges.{header_changes_is}
 use Rattle.moir_linearization.proofs.Relation.{header_of, record_of, WordsLike, Related, words_same, words_offer}
-use Rattle.moir_linearization.proofs.Simulation.{Made, sim}
+use Rattle.moir_linearization.proofs.Simulation.{sim}
 use Rattle.moir_linearization.proofs.InRange.{in_range_lem}
 
 -- rows 4, 8, 5, 6, 7, from their tests: p not below N, the process idle, a WLL answered, the value of W words

@@ -1,17 +1,15 @@
 -- Contents: p's own clauses after each of its quiet steps.
-use mathlib.Core.Path.{◌≡◌, refl, sym, ap, subst, ◌∙◌}
-use mathlib.Core.Bool.{Bool, true, false}
+use mathlib.Core.Path.{◌≡◌, refl, sym, ap, ◌∙◌}
+use mathlib.Core.Bool.{true, false}
 use mathlib.Core.Logic.{◌⊎◌, inl, inr}
 use Prim.Native.Nat.{ℕ, suc, ◌+◌, ◌%◌, ◌≤◌, ◌<◌}
 use native.Mathlib.Omega.{arith}
-use Rattle.laws.proofs.Updates.{upd, upd_same, upd_other, Split, same, other, split, contra}
+use Rattle.laws.proofs.Updates.{upd, Split, same, other, split, contra}
 use Rattle.laws.proofs.Parts.{SamePart}
-use Rattle.laws.proofs.Claimed.{On, on_map}
 use Rattle.laws.proofs.Parts.{pre_put, pre_all, pre_none}
 use Rattle.moir_model.specs.Points.{Point, idle, ll10, ll2, ll4, ll5, ll6, ll7, sc14, sc17, sc19, sc2, sc4, sc5, sc6, sc7, vl13}
-use Rattle.moir_linearization.proofs.GhostMachine.{Local, Shared, State, prev, eq_pair, to, set_word, read_header, set_y, set_z, set_h, set_returned}
+use Rattle.moir_linearization.proofs.GhostMachine.{Local, Shared, prev, eq_pair, to, set_word, read_header, set_y, set_z, set_h, set_returned}
 use Rattle.moir_linearization.proofs.GhostMachine.{set_old, rest, rest_lL, begin}
-use Rattle.moir_linearization.proofs.PointRanges.{lines}
 use Rattle.moir_linearization.proofs.Numbers.{ProcessNumbers, SharedNumbers}
 use Rattle.moir_linearization.proofs.Contents.{Fresh, Behind, AllFresh, Right, ProcessContents, SharedContents}
 use Rattle.moir_linearization.proofs.Tags.{prev_ne}

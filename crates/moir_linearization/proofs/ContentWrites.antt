@@ -1,16 +1,16 @@
 -- Contents: the three writes of shared memory.
-use mathlib.Core.Path.{◌≡◌, refl, sym, ap, subst, ◌∙◌}
-use mathlib.Core.Bool.{Bool, true, false}
+use mathlib.Core.Path.{◌≡◌, sym, ap, ◌∙◌}
+use mathlib.Core.Bool.{false}
 use mathlib.Core.Logic.{◌⊎◌, inl, inr}
-use Prim.Native.Nat.{ℕ, suc, ◌+◌, ◌%◌, ◌≤◌, ◌<◌}
+use Prim.Native.Nat.{ℕ, suc, ◌%◌, ◌<◌}
 use native.Mathlib.Omega.{arith}
 use lib.Dec.{lit≤}
-use Rattle.laws.proofs.Updates.{upd, upd_same, upd_other, Split, same, other, split, contra, is_false}
+use Rattle.laws.proofs.Updates.{upd, upd_same, upd_other, Split, same, other, split, is_false}
 use Rattle.laws.proofs.Parts.{SamePart}
-use Rattle.laws.proofs.Claimed.{On, on_map, on_with}
+use Rattle.laws.proofs.Claimed.{on_map, on_with}
 use Rattle.laws.proofs.Residues.{suc_mod_ne}
-use Rattle.moir_model.specs.Points.{Point, idle, ll5, ll6, sc17, sc19, sc2, sc5, sc6}
-use Rattle.moir_linearization.proofs.GhostMachine.{Local, Shared, State, prev, next, to, set_word, set_new, set_key, w_seg, w_row, w_header}
+use Rattle.moir_model.specs.Points.{Point, ll5, ll6, sc17, sc19, sc2, sc5, sc6}
+use Rattle.moir_linearization.proofs.GhostMachine.{Local, Shared, prev, to, set_word, set_new, set_key, w_seg, w_row, w_header}
 use Rattle.moir_linearization.proofs.PointRanges.{lines, wide}
 use Rattle.moir_linearization.proofs.Numbers.{ProcessNumbers, SharedNumbers}
 use Rattle.moir_linearization.proofs.Contents.{Fresh, Behind, AllFresh, Right, ProcessContents, SharedContents}

@@ -1,10 +1,10 @@
 -- Segments, A and what the processes took from them: the clauses that rest on the bound (layers 4 to 6).
-use mathlib.Core.Path.{◌≡◌, refl, sym, ap, ◌∙◌}
-use mathlib.Core.Bool.{Bool, true, false}
-use mathlib.Core.Logic.{◌⊎◌, inl, inr}
-use Prim.Native.Nat.{ℕ, suc, ◌+◌, ◌%◌, ◌≤◌, ◌<◌}
+use mathlib.Core.Path.{◌≡◌}
+use mathlib.Core.Bool.{false}
+use mathlib.Core.Logic.{◌⊎◌}
+use Prim.Native.Nat.{ℕ, suc, ◌<◌}
 use Rattle.laws.proofs.Parts.{SamePart}
-use Rattle.laws.proofs.Claimed.{On, on_map}
+use Rattle.laws.proofs.Claimed.{On}
 use Rattle.moir_model.specs.Points.{Point}
 use Rattle.moir_linearization.proofs.GhostMachine.{Local, Shared, State, prev}
 use Rattle.moir_linearization.proofs.PointRanges.{lines}

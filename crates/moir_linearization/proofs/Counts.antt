@@ -1,21 +1,18 @@
 -- Counts by point; what every answer brings; a busy count is at most 6W + 1, an idle one 0.
-use mathlib.Core.Path.{◌≡◌, refl, sym, ap, subst, ◌∙◌}
-use mathlib.Core.Bool.{Bool, true, false, cond}
-use mathlib.Core.List.{List, [], ◌∷◌}
-use mathlib.Core.Logic.{◌⊎◌, inl, inr}
+use mathlib.Core.Path.{◌≡◌, refl}
+use mathlib.Core.List.{List}
+use mathlib.Core.Logic.{inl, inr}
 use Prim.Native.Nat.{ℕ, suc, ◌+◌, ◌*◌, ◌≤◌, ◌<◌}
 use native.Mathlib.Omega.{arith}
 use lib.Dec.{ltb, eqb}
-use borrow.Author.Tests.{ltb-true, ltb-false}
+use borrow.Author.Tests.{ltb-false}
 use Rattle.llsc.specs.Linearizable.{All}
 use Rattle.laws.proofs.Updates.{upd, upd_same, upd_other, Split, same, other, split, by_test}
 use Rattle.moir_model.specs.Points.{Point, idle, ll10, ll2, ll4, ll5, ll6, ll7, sc14, sc17, sc19, sc2, sc4, sc5, sc6, sc7, vl13}
-use Rattle.moir_linearization.proofs.PointRanges.{busy, is_idle}
 use Rattle.moir_linearization.proofs.GhostMachine.{Local, Shared, State, noisy, prev, eq_pair, step, step_at}
-use Rattle.moir_linearization.proofs.GhostRuns.{Cmd, WLL, VL, SC, go, exec, starts, BoundedAt, set_up}
 use Rattle.moir_model.specs.Sizes.{wll_most, sc_most, busy_most}
 use Rattle.moir_linearization.specs.Linearizable.{Served, Copies, EndedAt, OwnSteps}
-use Rattle.moir_linearization.proofs.GhostHistories.{answer_at, answer_of}
+use Rattle.moir_linearization.proofs.GhostHistories.{answer_at}
 use Rattle.moir_linearization.proofs.Numbers.{ProcessNumbers, Numbers}
 
 -- at word k, with the count c

@@ -1,7 +1,7 @@
 -- CR 8's order statement, over every list of commands on the machine with its ghosts.
-use mathlib.Core.Path.{◌≡◌, refl, sym, ap, ◌∙◌}
+use mathlib.Core.Path.{◌≡◌, refl, ap}
 use mathlib.Core.List.{List, [], ◌∷◌, map}
-use Prim.Native.Nat.{ℕ, suc, ◌≤◌, ◌<◌}
+use Prim.Native.Nat.{ℕ, suc}
 use native.Mathlib.Omega.{arith}
 use lib.ListN.{length}
 use Rattle.llsc.specs.Linearizable.{All, Timed, insert}
@@ -9,7 +9,7 @@ use Rattle.laws.proofs.Parts.{tab}
 use Rattle.serving.proofs.Moments.{Within, moments}
 use Rattle.moir_model.specs.Replies.{Answer, words, names, sc_truth, vl_truth}
 use Rattle.moir_linearization.proofs.GhostRuns.{Effect, effects, set_up, MoirOrder}
-use Rattle.moir_linearization.specs.Linearizable.{Fits, AllMatch, Linearizable}
+use Rattle.moir_linearization.specs.Linearizable.{Fits, AllMatch}
 use Rattle.moir_linearization.proofs.Filling.{filled_answer, placed, fill_all}
 use Rattle.moir_linearization.proofs.LogRuns.{InCall, run_served, run_in_call, setup_good}
 

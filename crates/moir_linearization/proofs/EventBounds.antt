@@ -2,10 +2,10 @@
 -- step, and the successes only grow.
 use mathlib.Core.Path.{◌≡◌, refl, sym, ap, subst, ◌∙◌}
 use mathlib.Core.Bool.{Bool, true, false, not, cond, ◌||◌}
-use mathlib.Core.List.{List, [], ◌∷◌, ◌++◌, map}
+use mathlib.Core.List.{List, [], ◌∷◌, map}
 use Prim.Native.Nat.{ℕ, suc, ◌+◌, ◌≤◌, ◌<◌}
 use native.Mathlib.Omega.{arith}
-use lib.Dec.{ltb, eqb}
+use lib.Dec.{eqb}
 use lib.ListN.{length}
 use borrow.Author.Tests.{lt-ltb}
 use Rattle.llsc.specs.declared.Order.{Order}
@@ -14,7 +14,6 @@ use Rattle.llsc.specs.Object.{Kind}
 use Rattle.llsc.specs.History.{Command}
 use Rattle.llsc.specs.Linearizable.{All}
 use Rattle.laws.proofs.Updates.{Split, same, other, split, by_test, contra, is_false, ifb_eq, ifb_ne}
-use Rattle.moir_model.specs.Points.{Point, idle}
 use Rattle.llsc.specs.Answers.{refused, accepted, answered}
 use Rattle.moir_model.specs.Replies.{Said}
 use Rattle.moir_model.specs.History.{Event, Slot, none, running, Known, Call, stepped, known_after, watch, ended_by, call_of, open_of, calls_from}
@@ -22,8 +21,8 @@ use Rattle.moir_model.specs.History.{successes_up_to, WonFrom}
 use Rattle.moir_linearization.specs.Bound.{CallBounded}
 use Rattle.moir_linearization.specs.Linearizable.{Served}
 use Rattle.moir_linearization.proofs.PointRanges.{is_idle, busy}
-use Rattle.moir_linearization.proofs.GhostMachine.{State, step, step_at, Bounded}
-use Rattle.moir_linearization.proofs.GhostRuns.{Cmd, go, exec, BoundedAt, BoundedRun}
+use Rattle.moir_linearization.proofs.GhostMachine.{State, step, Bounded}
+use Rattle.moir_linearization.proofs.GhostRuns.{go, exec, BoundedAt, BoundedRun}
 use Rattle.moir_linearization.proofs.GhostHistories.{answer_at, answer_of, last_by}
 use Rattle.moir_linearization.proofs.GhostEvents.{ordered, ghost, said_by, start_said, says, event_of, events}
 use Rattle.moir_linearization.proofs.InvariantRuns.{idle_is}

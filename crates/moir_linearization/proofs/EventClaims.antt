@@ -11,7 +11,7 @@ use Rattle.llsc.specs.History.{Command}
 use Rattle.llsc.specs.Linearizable.{All}
 use Rattle.laws.proofs.Updates.{by_test}
 use Rattle.laws.proofs.Parts.{tab}
-use Rattle.moir_model.specs.History.{Event, Known, Call, open_of, call_of, calls_from, calls, nothing_known, successes_up_to, WonFrom}
+use Rattle.moir_model.specs.History.{Event, Known, Call, open_of, call_of, calls_from, nothing_known, successes_up_to, WonFrom}
 use Rattle.moir_linearization.specs.Bound.{BoundedBy}
 use Rattle.moir_linearization.specs.Linearizable.{Linearizable, Counted, NamedWrote, FalseWithCause, FalseAfterNaming, Claim, Always}
 use Rattle.moir_linearization.proofs.GhostMachine.{State}

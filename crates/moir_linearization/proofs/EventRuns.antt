@@ -1,7 +1,7 @@
 -- What a reader of the events knows, command after command: Watches is kept, and the calls answered are the machine's.
-use mathlib.Core.Path.{◌≡◌, refl, sym, ap, ap₂, subst, ◌∙◌}
+use mathlib.Core.Path.{◌≡◌, refl, sym, ap, subst, ◌∙◌}
 use mathlib.Core.Bool.{Bool, true, false, not, cond}
-use mathlib.Core.List.{List, [], ◌∷◌, map}
+use mathlib.Core.List.{List, [], map}
 use Prim.Native.Nat.{ℕ, suc, ◌+◌, ◌<◌}
 use native.Mathlib.Omega.{arith}
 use lib.Dec.{ltb, eqb}
@@ -16,17 +16,17 @@ use Rattle.laws.proofs.Parts.{tab, tab_list}
 use Rattle.moir_model.specs.Points.{Point, idle, ll10, sc14, vl13}
 use Rattle.llsc.specs.Answers.{refused, accepted}
 use Rattle.moir_model.specs.Replies.{Said}
-use Rattle.moir_model.specs.History.{Event, Slot, none, running, Known, Call, known_after, watch, call_of, nothing_known}
+use Rattle.moir_model.specs.History.{Event, running, Known, known_after, watch, call_of, nothing_known}
 use Rattle.moir_linearization.specs.Linearizable.{Served}
 use Rattle.moir_linearization.proofs.PointRanges.{is_idle, busy, copying}
 use Rattle.moir_linearization.proofs.GhostMachine.{Local, Shared, State, begin, step, step_at}
 use Rattle.moir_linearization.proofs.GhostRuns.{Cmd, exec, starts, started, is_step, set_up}
 use Rattle.moir_linearization.proofs.GhostHistories.{answer_at, answer_of, last_by}
-use Rattle.moir_linearization.proofs.GhostEvents.{ghost, said_by, wins, start_said, says, event_of, events}
+use Rattle.moir_linearization.proofs.GhostEvents.{ghost, said_by, wins, start_said, says}
 use Rattle.moir_linearization.proofs.StepShape.{shape}
 use Rattle.moir_linearization.proofs.Numbers.{Numbers}
 use Rattle.moir_linearization.proofs.InvariantRuns.{idle_is}
-use Rattle.moir_linearization.proofs.Watching.{slot_of, KnownOK, called, step_event, step_ok}
+use Rattle.moir_linearization.proofs.Watching.{KnownOK, called, step_ok}
 
 -- S counts the successes up to a command, R relates a process to the commands in which its SC succeeded
 module _ (N M W : ℕ) (S : ℕ → ℕ) (R : ℕ → ℕ → Type 0) where

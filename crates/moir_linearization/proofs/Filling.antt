@@ -1,9 +1,9 @@
 -- The calls as `model` has them: a WLL that names a process gets the words that the object holds where it takes effect.
-use mathlib.Core.Path.{◌≡◌, refl, ap, ◌∙◌}
+use mathlib.Core.Path.{◌≡◌, refl, ap}
 use mathlib.Core.List.{List, [], ◌∷◌, ◌++◌}
 use Prim.Native.Nat.{ℕ}
 use Rattle.llsc.specs.Answers as R
-use Rattle.llsc.specs.Object.{Object, fresh}
+use Rattle.llsc.specs.Object.{fresh}
 use Rattle.llsc.specs.Linearizable.{Timed, insert, sort_into}
 use Rattle.serving.proofs.Serving.{after}
 use Rattle.serving.proofs.Sorting.{upto}

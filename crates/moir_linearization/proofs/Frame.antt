@@ -1,5 +1,5 @@
 -- What a step owes: a family G of facts about shared memory, and one P about each process.
-use mathlib.Core.Path.{◌≡◌, refl}
+use mathlib.Core.Path.{◌≡◌}
 use Prim.Native.Nat.{ℕ, suc}
 use Rattle.laws.proofs.Updates.{upd, upd_same, upd_other, Split, same, other, split}
 use Rattle.moir_model.specs.Points.{Point}

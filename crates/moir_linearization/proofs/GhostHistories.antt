@@ -1,18 +1,16 @@
 -- The calls that are fed, in the order of their answers, and then the open SCs whose header CAS has succeeded.
-use mathlib.Core.Path.{◌≡◌}
 use mathlib.Core.Bool.{Bool, true, false, cond}
 use mathlib.Core.List.{List, [], ◌∷◌, ◌++◌}
-use mathlib.Core.Logic.{◌⊎◌}
-use Prim.Native.Nat.{ℕ, zero, suc, ◌+◌, ◌*◌, ◌≤◌, ◌<◌}
+use Prim.Native.Nat.{ℕ, zero, suc, ◌≤◌, ◌<◌}
 use lib.Dec.{ltb, eqb}
 use lib.ListN.{length}
-use Rattle.llsc.specs.Object.{Kind, ll, sc, vl}
+use Rattle.llsc.specs.Object.{ll, sc, vl}
 use Rattle.laws.proofs.Updates.{upd}
 use Rattle.laws.proofs.Parts.{tab}
 use Rattle.moir_model.specs.Points.{Point, idle, ll10, ll2, ll4, ll5, ll6, ll7, sc14, sc17, sc19, sc2, sc4, sc5, sc6, sc7, vl13}
-use Rattle.moir_linearization.proofs.GhostMachine.{Local, Shared, State, eq_pair}
+use Rattle.moir_linearization.proofs.GhostMachine.{Local, State, eq_pair}
 use Rattle.moir_linearization.proofs.GhostRuns.{Cmd, WLL, VL, SC, go, exec, is_step, BoundedRun, set_up}
-use Rattle.moir_model.specs.Replies.{Answer, words, names, sc_truth, vl_truth}
+use Rattle.moir_model.specs.Replies.{words, names, sc_truth, vl_truth}
 use Rattle.moir_linearization.specs.Linearizable.{Served, Linearizable}
 use Rattle.moir_linearization.proofs.PointRanges.{copying}
 

@@ -2,17 +2,17 @@
 use mathlib.Core.Path.{◌≡◌}
 use mathlib.Core.Bool.{Bool, true, false, cond}
 use mathlib.Core.List.{List, [], ◌∷◌, ◌++◌, map}
-use Prim.Native.Nat.{ℕ, suc, ◌+◌, ◌≤◌, ◌<◌}
+use Prim.Native.Nat.{ℕ, suc, ◌≤◌, ◌<◌}
 use lib.Dec.{ltb, eqb}
 use lib.ListN.{length}
-use Rattle.llsc.specs.Object.{Kind, ll, sc, vl}
+use Rattle.llsc.specs.Object.{ll, sc, vl}
 use Rattle.laws.proofs.Updates.{upd}
 use Rattle.laws.proofs.Parts.{tab}
 use Rattle.moir_model.specs.Points.{Point, idle, ll10, ll2, ll4, ll5, ll6, ll7, sc14, sc17, sc19, sc2, sc4, sc5, sc6, sc7, vl13}
 use Rattle.moir_model.specs.Replies.{Answer, words, names, sc_truth, vl_truth}
 use Rattle.moir_linearization.specs.Linearizable.{Served, Linearizable}
 use Rattle.moir_linearization.proofs.PointRanges.{is_idle, busy, copying}
-use Rattle.moir_linearization.proofs.GhostMachine.{Local, Shared, State, noisy, begin, eq_pair, step, Bounded}
+use Rattle.moir_linearization.proofs.GhostMachine.{Local, State, noisy, begin, eq_pair, step, Bounded}
 
 -- a start of WLL, of VL, a step, and a start of SC with its words and whether they are W words (row 8)
 pub data Cmd : Type 0 where

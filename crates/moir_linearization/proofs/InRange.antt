@@ -1,7 +1,7 @@
 -- Row 9 never holds: the numbers of related memory are in range, with no bound on the successes.
 use mathlib.Core.Path.{◌≡◌, refl, ap₂, subst}
 use mathlib.Core.Bool.{Bool, true, false, ◌&&◌, cond}
-use Prim.Native.Nat.{ℕ, suc, ◌≤◌, ◌<◌}
+use Prim.Native.Nat.{ℕ, ◌<◌}
 use native.Mathlib.Omega.{arith}
 use lib.Dec.{leb}
 use lib.ListN.{take}
@@ -14,7 +14,7 @@ use Rattle.moir_model.specs.Tags.{tag_values}
 use Rattle.moir_model.specs.Points.{Point, idle, ll10, ll2, ll4, ll5, ll6, ll7, sc14, sc17, sc19, sc2, sc4, sc5, sc6, sc7, vl13}
 use Rattle.moir_model.specs.Records.{no_process}
 use Rattle.moir_model.specs.Machine.{Memory}
-use Rattle.moir_model.specs.Refusals.{header_ok, count_ok, process_ok, in_range}
+use Rattle.moir_model.specs.Refusals.{count_ok, process_ok, in_range}
 use Rattle.moir_linearization.proofs.PointRanges.{is_idle}
 use Rattle.moir_linearization.proofs.PointFacts.{line_ok}
 use Rattle.moir_linearization.proofs.GhostMachine.{Local, Shared, State}

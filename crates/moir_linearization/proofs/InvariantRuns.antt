@@ -1,20 +1,18 @@
 -- Every command keeps the invariants, within the bound; the set-up has them.
-use mathlib.Core.Path.{◌≡◌, refl, sym, ap, subst, ◌∙◌}
-use mathlib.Core.Bool.{Bool, true, false, not, cond}
-use mathlib.Core.List.{List, [], ◌∷◌}
-use mathlib.Core.Logic.{◌⊎◌, inl, inr}
-use Prim.Native.Nat.{ℕ, suc, ◌+◌, ◌%◌, ◌≤◌, ◌<◌}
+use mathlib.Core.Path.{◌≡◌, refl, sym, subst}
+use mathlib.Core.Bool.{Bool, true, false}
+use mathlib.Core.Logic.{inl}
+use Prim.Native.Nat.{ℕ, suc, ◌<◌}
 use native.Mathlib.Nat.{zero-mod}
 use native.Mathlib.Omega.{arith}
-use lib.Dec.{ltb, eqb}
+use lib.Dec.{ltb}
 use borrow.Author.Tests.{ltb-true}
-use Rattle.laws.proofs.Updates.{upd, by_test, contra}
-use Rattle.laws.proofs.Parts.{SamePart}
+use Rattle.laws.proofs.Updates.{by_test, contra}
 use Rattle.moir_model.specs.Points.{Point, idle, ll10, ll2, ll4, ll5, ll6, ll7, sc14, sc17, sc19, sc2, sc4, sc5, sc6, sc7, vl13}
-use Rattle.moir_linearization.proofs.PointRanges.{busy, is_idle}
-use Rattle.moir_linearization.proofs.GhostMachine.{Local, Shared, State, noisy, step, begin, Bounded}
-use Rattle.moir_linearization.proofs.GhostRuns.{Cmd, WLL, VL, SC, go, exec, starts, started, execs, BoundedAt, BoundedRun, loc0, set_up}
-use Rattle.moir_linearization.proofs.Frame.{Holds, frame}
+use Rattle.moir_linearization.proofs.PointRanges.{is_idle}
+use Rattle.moir_linearization.proofs.GhostMachine.{Local, Shared, State, step, begin}
+use Rattle.moir_linearization.proofs.GhostRuns.{Cmd, WLL, VL, SC, go, exec, starts, started, BoundedAt, loc0, set_up}
+use Rattle.moir_linearization.proofs.Frame.{frame}
 use Rattle.moir_linearization.proofs.Numbers.{ProcessNumbers, SharedNumbers, Numbers, numbers_later, numbers_later_all}
 use Rattle.moir_linearization.proofs.NumberSteps.{n_wll, n_vl, n_sc}
 use Rattle.moir_linearization.proofs.Contents.{contents_later, contents_later_all, ProcessContents, SharedContents, Contents, AllFresh}

@@ -1,24 +1,24 @@
 -- Every command keeps the invariants and the log, within the bound; the calls take effect inside their calls.
-use mathlib.Core.Path.{◌≡◌, refl, sym, ap, subst, ◌∙◌}
-use mathlib.Core.Bool.{Bool, true, false, not, cond}
+use mathlib.Core.Path.{◌≡◌, refl, subst}
+use mathlib.Core.Bool.{Bool, true, cond}
 use mathlib.Core.List.{List, [], ◌∷◌, ◌++◌}
-use Prim.Native.Nat.{ℕ, suc, ◌+◌, ◌≤◌, ◌<◌}
+use Prim.Native.Nat.{ℕ, suc, ◌≤◌, ◌<◌}
 use native.Mathlib.Omega.{arith}
 use lib.Dec.{ltb, eqb}
-use borrow.Author.Tests.{ltb-true, eqb-true}
+use borrow.Author.Tests.{ltb-true}
 use Rattle.llsc.specs.Object.{fresh}
-use Rattle.llsc.specs.Linearizable.{All, Timed, insert, sort_into}
+use Rattle.llsc.specs.Linearizable.{All, Timed, sort_into}
 use Rattle.laws.proofs.Updates.{by_test, by_test₂}
 use Rattle.serving.proofs.Serving.{Served}
-use Rattle.serving.proofs.Sorting.{Sorted, all_map, sort_into_append}
+use Rattle.serving.proofs.Sorting.{all_map, sort_into_append}
 use Rattle.laws.proofs.Parts.{tab}
 use Rattle.moir_model.specs.Points.{Point, idle, ll10, ll2, ll4, ll5, ll6, ll7, sc14, sc17, sc19, sc2, sc4, sc5, sc6, sc7, vl13}
-use Rattle.moir_linearization.proofs.PointRanges.{is_idle, busy, copying}
-use Rattle.moir_linearization.proofs.GhostMachine.{Local, Shared, State, begin, eq_pair, step}
+use Rattle.moir_linearization.proofs.PointRanges.{copying}
+use Rattle.moir_linearization.proofs.GhostMachine.{State, begin, eq_pair}
 use Rattle.moir_linearization.proofs.GhostRuns.{Cmd, WLL, VL, SC, go, exec, starts, started, BoundedAt, BoundedRun, Effect, effect_at, effect_of}
 use Rattle.moir_linearization.proofs.GhostRuns.{effects, latest_step, is_step, set_up}
-use Rattle.moir_linearization.proofs.Frame.{Holds, frame}
-use Rattle.moir_linearization.proofs.Numbers.{ProcessNumbers, Numbers}
+use Rattle.moir_linearization.proofs.Frame.{frame}
+use Rattle.moir_linearization.proofs.Numbers.{ProcessNumbers}
 use Rattle.moir_linearization.proofs.InvariantRuns.{Invariant, exec_inv, setup_inv, by_starts}
 use Rattle.moir_linearization.proofs.ServedLog.{LogAll, LogEach, log_later, Mine}
 use Rattle.moir_linearization.proofs.Filling.{fill_all, fill_all_append}

@@ -1,27 +1,27 @@
 -- Every step keeps the log.
-use mathlib.Core.Path.{◌≡◌, refl, sym, ap, subst, ◌∙◌}
-use mathlib.Core.Bool.{Bool, true, false, not, cond}
+use mathlib.Core.Path.{◌≡◌, refl, sym, ap, ◌∙◌}
+use mathlib.Core.Bool.{Bool, true, false, cond}
 use mathlib.Core.List.{List, [], ◌∷◌}
-use Prim.Native.Nat.{ℕ, suc, ◌+◌, ◌%◌, ◌≤◌, ◌<◌}
+use Prim.Native.Nat.{ℕ, suc, ◌+◌, ◌≤◌, ◌<◌}
 use native.Mathlib.Omega.{arith}
 use lib.Dec.{ltb, eqb}
-use borrow.Author.Tests.{ltb-true, ltb-false, eqb-true, eqb-false}
+use borrow.Author.Tests.{ltb-false, eqb-true, eqb-false}
 use Rattle.llsc.specs.Answers as R
 use Rattle.llsc.specs.Object.{Object, fresh}
-use Rattle.llsc.specs.Linearizable.{All, Timed, insert, sort_into}
+use Rattle.llsc.specs.Linearizable.{Timed, insert, sort_into}
 use Rattle.laws.proofs.Updates.{upd, by_test, by_test₂, contra, is_false, ifb_eq, ifb_ne}
-use Rattle.laws.proofs.Claimed.{On, on_map}
+use Rattle.laws.proofs.Claimed.{on_map}
 use Rattle.laws.proofs.Parts.{tab, tab_ext}
 use Rattle.serving.proofs.Serving.{feeds, tells, after, successes}
 use Rattle.moir_model.specs.Points.{Point, idle, ll10, ll2, ll4, ll5, ll6, ll7, sc14, sc17, sc19, sc2, sc4, sc5, sc6, sc7, vl13}
 use Rattle.moir_linearization.proofs.PointRanges.{busy, lines}
 use Rattle.moir_linearization.proofs.GhostMachine.{Local, Shared, State, quiet, noisy, step, step_at, prev, eq_pair, w_seg, w_row, w_header, to}
-use Rattle.moir_linearization.proofs.GhostMachine.{rest_lL, rest, set_h, set_returned, set_old, set_key, Bounded}
-use Rattle.moir_linearization.proofs.GhostRuns.{Effect, effect_at, ll_effect, sc_effect, vl_effect}
-use Rattle.moir_model.specs.Replies.{words, names, sc_truth, vl_truth}
+use Rattle.moir_linearization.proofs.GhostMachine.{rest_lL, rest, set_h, set_returned, set_key, Bounded}
+use Rattle.moir_linearization.proofs.GhostRuns.{effect_at, ll_effect, sc_effect, vl_effect}
+use Rattle.moir_model.specs.Replies.{words, names}
 use Rattle.moir_linearization.proofs.Frame.{Holds, frame, frame_to}
-use Rattle.moir_linearization.proofs.Numbers.{ProcessNumbers, SharedNumbers, Numbers}
-use Rattle.moir_linearization.proofs.Contents.{ProcessContents, SharedContents, Contents}
+use Rattle.moir_linearization.proofs.Numbers.{ProcessNumbers, Numbers}
+use Rattle.moir_linearization.proofs.Contents.{ProcessContents, Contents}
 use Rattle.moir_linearization.proofs.ContentSteps.{answers_value}
 use Rattle.moir_linearization.proofs.TagLemmas.{back_ll7, back_sc19, back_keep, same_ll7, suc_sc19, keep_vl13}
 use Rattle.moir_linearization.proofs.StepShape.{Few, bound_before}

@@ -1,15 +1,15 @@
 -- Numbers: p's own clauses after each of its steps, and the others' after the three writes.
-use mathlib.Core.Path.{◌≡◌, refl, sym, ap, subst, ◌∙◌}
-use mathlib.Core.Bool.{Bool, true, false}
-use Prim.Native.Nat.{ℕ, suc, ◌+◌, ◌%◌, ◌≤◌, ◌<◌}
+use mathlib.Core.Path.{◌≡◌, refl, sym, ap, ◌∙◌}
+use mathlib.Core.Bool.{true, false}
+use Prim.Native.Nat.{ℕ, suc, ◌%◌, ◌≤◌, ◌<◌}
 use native.Mathlib.Nat.{suc-mod}
 use native.Mathlib.Omega.{arith}
 use Rattle.laws.proofs.Updates.{upd, upd_same, upd_other, contra}
 use Rattle.laws.proofs.Parts.{SamePart}
-use Rattle.laws.proofs.Claimed.{On, on_map}
+use Rattle.laws.proofs.Claimed.{on_map}
 use Rattle.laws.proofs.Parts.{pre_put, pre_all, pre_none}
 use Rattle.moir_model.specs.Points.{Point, idle, ll10, ll2, ll4, ll5, ll6, ll7, sc14, sc17, sc19, sc2, sc4, sc5, sc6, sc7, vl13}
-use Rattle.moir_linearization.proofs.GhostMachine.{Local, Shared, State, prev, next, to, set_word, read_header, set_y, set_z, set_h, set_returned}
+use Rattle.moir_linearization.proofs.GhostMachine.{Local, Shared, prev, next, to, set_word, read_header, set_y, set_z, set_h, set_returned}
 use Rattle.moir_linearization.proofs.GhostMachine.{set_old, set_new, set_key, rest, rest_lL, begin, w_seg, w_row, w_header}
 use Rattle.moir_linearization.proofs.PointRanges.{lines}
 use Rattle.moir_linearization.proofs.Numbers.{ProcessNumbers, SharedNumbers}

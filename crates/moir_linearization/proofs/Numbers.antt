@@ -1,10 +1,10 @@
 -- Numbers, tags and times: the clauses that hold without the bound (layers 1 to 3).
-use mathlib.Core.Path.{◌≡◌, refl, sym, ap, ◌∙◌}
-use mathlib.Core.Bool.{Bool, true, false}
-use Prim.Native.Nat.{ℕ, suc, ◌+◌, ◌%◌, ◌≤◌, ◌<◌}
+use mathlib.Core.Path.{◌≡◌}
+use mathlib.Core.Bool.{true}
+use Prim.Native.Nat.{ℕ, suc, ◌%◌, ◌≤◌, ◌<◌}
 use native.Mathlib.Omega.{arith}
 use Rattle.laws.proofs.Parts.{SamePart}
-use Rattle.laws.proofs.Claimed.{On, on_map}
+use Rattle.laws.proofs.Claimed.{On}
 use Rattle.moir_model.specs.Points.{Point}
 use Rattle.moir_linearization.proofs.GhostMachine.{Local, Shared, State, prev}
 use Rattle.moir_linearization.proofs.PointRanges.{lines}

@@ -1,18 +1,17 @@
 -- Every step keeps the invariants: the numbers always, the contents within the bound.
-use mathlib.Core.Path.{◌≡◌, refl, sym, ap, subst, ◌∙◌}
-use mathlib.Core.Bool.{Bool, true, false, not, cond}
-use Prim.Native.Nat.{ℕ, suc, ◌+◌, ◌%◌, ◌≤◌, ◌<◌}
+use mathlib.Core.Path.{◌≡◌, refl, sym, ap, ◌∙◌}
+use mathlib.Core.Bool.{true}
+use Prim.Native.Nat.{ℕ, suc, ◌%◌, ◌<◌}
 use native.Mathlib.Nat.{suc-mod}
-use native.Mathlib.Omega.{arith}
 use lib.Dec.{ltb, eqb}
 use borrow.Author.Tests.{ltb-true, ltb-false, eqb-true, eqb-false}
-use Rattle.laws.proofs.Updates.{upd, by_test, contra}
+use Rattle.laws.proofs.Updates.{by_test, contra}
 use Rattle.moir_model.specs.Points.{Point, idle, ll10, ll2, ll4, ll5, ll6, ll7, sc14, sc17, sc19, sc2, sc4, sc5, sc6, sc7, vl13}
 use Rattle.moir_linearization.proofs.PointRanges.{busy}
-use Rattle.moir_linearization.proofs.GhostMachine.{Local, Shared, State, quiet, noisy, step, step_at, prev, eq_pair, to, rest, rest_lL, w_seg}
+use Rattle.moir_linearization.proofs.GhostMachine.{Local, Shared, State, quiet, noisy, step, step_at, prev, eq_pair, w_seg}
 use Rattle.moir_linearization.proofs.GhostMachine.{w_row, w_header, Bounded}
 use Rattle.moir_linearization.proofs.StepShape.{Few, bound_before}
-use Rattle.moir_linearization.proofs.Frame.{Holds, frame}
+use Rattle.moir_linearization.proofs.Frame.{frame}
 use Rattle.moir_linearization.proofs.Numbers.{ProcessNumbers, SharedNumbers, Numbers, numbers_later, numbers_later_all}
 use Rattle.moir_linearization.proofs.NumberSteps.{n_ll10, n_ll2, n_ll2', n_ll4, n_ll5, n_ll6, n_ll7, n_ll7_words, n_ll7_names, n_sc14, n_sc14'}
 use Rattle.moir_linearization.proofs.NumberSteps.{n_sc17, n_sc17', n_sc19, n_sc19', n_sc2, n_sc2', n_sc4, n_sc5, n_sc6, n_sc7, n_sc7', n_vl13}
@@ -21,7 +20,7 @@ use Rattle.moir_linearization.proofs.Contents.{contents_later, contents_later_al
 use Rattle.moir_linearization.proofs.ContentSteps.{c_ll10, c_ll2, c_ll2', c_ll4, c_ll5', c_ll6, c_ll7, c_ll7_words, c_ll7_names, c_sc14}
 use Rattle.moir_linearization.proofs.ContentSteps.{c_sc14', c_sc19', c_sc2, c_sc2', c_sc4, c_sc5', c_sc6, c_sc7, c_sc7', c_vl13}
 use Rattle.moir_linearization.proofs.ContentWrites.{c_seg, c_seg_all, c_ll5, c_sc5, c_row, c_row_all, c_sc17, c_sc17', c_sc19, c_header, c_header_all}
-use Rattle.moir_linearization.proofs.TagLemmas.{same_get, back_ll7, same_ll7, suc_sc19, cas_ll5, cas_sc5, two}
+use Rattle.moir_linearization.proofs.TagLemmas.{same_get, back_ll7, suc_sc19, cas_ll5, cas_sc5, two}
 
 module _ (M W n : ℕ) (h_w : 0 < W) (s : State) (p : ℕ) where
   abbrev l : Local

@@ -1,18 +1,12 @@
 -- Row 9 refuses nothing: process numbers below N, counts and word places in range; with no bound on the successes.
-use mathlib.Core.Path.{◌≡◌, refl, sym, ap, subst, ◌∙◌}
-use mathlib.Core.Bool.{Bool, true, false, cond}
+use mathlib.Core.Path.{◌≡◌, refl, subst}
 use mathlib.Core.List.{List, [], ◌∷◌}
-use Prim.Native.Nat.{ℕ, suc, ◌+◌, ◌*◌, ◌≤◌, ◌<◌}
-use native.Mathlib.Omega.{arith}
+use Prim.Native.Nat.{ℕ, suc, ◌<◌}
 use lib.Dec.{ltb, eqb}
-use Rattle.llsc.specs.Linearizable.{All}
 use Rattle.laws.proofs.Updates.{by_test}
 use Rattle.moir_model.specs.Points.{Point, idle, ll10, ll2, ll4, ll5, ll6, ll7, sc14, sc17, sc19, sc2, sc4, sc5, sc6, sc7, vl13}
-use Rattle.moir_linearization.proofs.PointRanges.{is_idle}
-use Rattle.moir_linearization.proofs.GhostMachine.{Local, Shared, State, quiet, noisy, begin, prev, eq_pair, step, step_at}
-use Rattle.moir_linearization.proofs.GhostRuns.{Cmd, WLL, VL, SC, go, exec, execs, number_after, started, set_up}
-use Rattle.moir_linearization.specs.Linearizable.{Served, OwnSteps}
-use Rattle.moir_linearization.proofs.GhostHistories.{answer_at}
+use Rattle.moir_linearization.proofs.GhostMachine.{Local, Shared, State, noisy, begin, prev, eq_pair, step, step_at}
+use Rattle.moir_linearization.proofs.GhostRuns.{Cmd, exec, execs, number_after, started, set_up}
 use Rattle.moir_linearization.proofs.Frame.{Holds, frame}
 use Rattle.moir_linearization.proofs.Numbers.{ProcessNumbers, SharedNumbers, Numbers, numbers_later, numbers_later_all}
 use Rattle.moir_linearization.proofs.NumberSteps.{n_wll, n_vl, n_sc}

@@ -1,16 +1,14 @@
 -- The order in which the calls are listed does not matter.
 use mathlib.Core.Path.{◌≡◌, refl, sym, ap, subst, ◌∙◌}
-use mathlib.Core.Bool.{Bool, true, false, cond}
-use mathlib.Core.List.{List, [], ◌∷◌, ◌++◌, map}
-use Prim.Native.Nat.{ℕ, suc, ◌≤◌, ◌<◌}
+use mathlib.Core.List.{List, [], ◌∷◌, map}
+use Prim.Native.Nat.{ℕ, ◌≤◌, ◌<◌}
 use native.Mathlib.Decide.{dec_le}
 use native.Mathlib.Omega.{arith}
-use lib.Dec.{leb}
 use borrow.Author.Tests.{le-leb, lt-leb}
 use Rattle.llsc.specs.Object.{fresh, serve}
-use Rattle.llsc.specs.Linearizable.{All, Timed, insert, sort_into, in_moment_order, Distinct, Inside, fed, Linearization}
+use Rattle.llsc.specs.Linearizable.{Timed, insert, sort_into, in_moment_order, Distinct, Inside, fed}
 use Rattle.moir_linearization.specs.Linearizable.{Served, AllMatch, Linearizable}
-use Rattle.moir_linearization.proofs.Permutations.{Perm, none, more, swap, both, perm_refl, perm_map, perm_all, perm_distinct}
+use Rattle.moir_linearization.proofs.Permutations.{Perm, none, more, swap, both, perm_map, perm_all, perm_distinct}
 
 -- a call goes past those that are not later, and stops before one that is
 past : (a u : Timed) (us : List Timed) → u.moment ≤ a.moment → insert a (u ∷ us) ≡ u ∷ insert a us

@@ -6,7 +6,7 @@ use Prim.Native.Nat.{ℕ, zero, suc, ◌+◌, ◌<◌}
 use native.Mathlib.Omega.{arith}
 use Rattle.llsc.specs.History.{Command}
 use Rattle.moir_model.specs.Points.{Point, idle, ll10, ll2, ll4, ll5, ll6, ll7, sc14, sc17, sc19, sc2, sc4, sc5, sc6, sc7, vl13}
-use Rattle.moir_model.specs.History.{Event, Known, open_of, open_calls, call_of, calls_from, calls, successes_up_to}
+use Rattle.moir_model.specs.History.{Event, Known, open_of, open_calls, call_of, calls_from, successes_up_to}
 use Rattle.moir_linearization.specs.Linearizable.{served_calls}
 use Rattle.moir_linearization.proofs.PointRanges.{copying}
 use Rattle.moir_linearization.proofs.GhostMachine.{Local, State}

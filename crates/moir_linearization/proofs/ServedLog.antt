@@ -1,23 +1,21 @@
 -- The log of the calls that are fed, kept in the order of the commands at which they take effect: what holds of it, and how it grows.
 use mathlib.Core.Path.{◌≡◌, refl, sym, ap, subst, ◌∙◌}
-use mathlib.Core.Bool.{Bool, true, false, cond}
+use mathlib.Core.Bool.{true, false}
 use mathlib.Core.List.{List, [], ◌∷◌, ◌++◌}
 use Prim.Native.Nat.{ℕ, suc, ◌+◌, ◌≤◌, ◌<◌}
 use native.Mathlib.Decide.{dec_lt}
 use native.Mathlib.Omega.{arith}
-use lib.Dec.{eqb}
-use borrow.Author.Tests.{eqb-true, ne_eqb}
+use borrow.Author.Tests.{ne_eqb}
 use Rattle.llsc.specs.Answers.{ll_words}
-use Rattle.llsc.specs.Object.{Kind, ll, sc, vl, Object, fresh, feed}
+use Rattle.llsc.specs.Object.{ll, Object, fresh}
 use Rattle.llsc.specs.Linearizable.{All, Timed, insert}
-use Rattle.laws.proofs.Updates.{ifb_eq, ifb_ne, contra}
-use Rattle.laws.proofs.Claimed.{On, on_map}
+use Rattle.laws.proofs.Claimed.{On}
 use Rattle.laws.proofs.Parts.{tab}
 use Rattle.serving.proofs.Serving.{tells, feeds, after, Served, Free, successes, after_append, served_append, successes_append}
 use Rattle.serving.proofs.Sorting.{Sorted, sorted_insert, all_map, all_insert, upto, past, upto_past, insert_end, upto_all, upto_before, free_past}
 use Rattle.serving.proofs.Insertion.{Inserted, insert_ll}
 use Rattle.moir_model.specs.Points.{Point}
-use Rattle.moir_linearization.proofs.GhostMachine.{Local, Shared, State}
+use Rattle.moir_linearization.proofs.GhostMachine.{Local, Shared}
 use Rattle.moir_linearization.proofs.PointRanges.{lines}
 
 -- process p's calls in the log are not past m

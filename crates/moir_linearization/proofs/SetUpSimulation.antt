@@ -4,12 +4,11 @@ use mathlib.Core.Bool.{cond}
 use mathlib.Core.List.{List, ◌++◌}
 use Prim.Native.Nat.{ℕ, zero, suc, ◌+◌, ◌-◌, ◌*◌, ◌≤◌, ◌<◌}
 use native.Mathlib.Nat.{mul-le-mul_right}
-use native.Mathlib.Decide.{dec_lt}
 use native.Mathlib.Omega.{arith}
 use lib.ListN.{length, get_or, replicate, length-replicate, get_or-replicate, length-append, get_or-append}
 use lib.Seq.{sets, length-sets, get_or-append-add}
 use borrow.Author.Tests.{ltb-false, eqb-true, eq-eqb, not-false}
-use Rattle.laws.proofs.Updates.{upd, upd_same, upd_other, Split, same, other, split}
+use Rattle.laws.proofs.Updates.{upd, upd_same, upd_other}
 use Rattle.laws.proofs.ListFacts.{sets_front, zeros}
 use Rattle.serving.proofs.RefusalFacts.{or_false, no_row, none_holds, inside}
 use Rattle.moir_model.specs.Records.{no_process}

@@ -1,7 +1,7 @@
 -- A step on lent memory follows a step of the machine with its ghosts: a clause for each point.
 use mathlib.Core.Path.{◌≡◌, refl, sym, ap, ap₂, subst, ◌∙◌}
 use mathlib.Core.Bool.{Bool, true, false, cond}
-use mathlib.Core.List.{List, [], ◌∷◌}
+use mathlib.Core.List.{List, []}
 use Prim.Native.Nat.{ℕ, suc, ◌+◌, ◌*◌, ◌≤◌, ◌<◌}
 use native.Mathlib.Nat.{mul-le-mul_right}
 use native.Mathlib.Numerals.{add-one}
@@ -22,13 +22,12 @@ use Rattle.moir_model.specs.declared.Reply.TheVariants.{Accepted}
 use Rattle.moir_model.specs.declared.LineStep.{LineStep}
 use Rattle.moir_model.specs.declared.Moved.{Moved}
 use Rattle.moir_model.specs.Tags.{tag_values}
-use Rattle.moir_model.specs.Points.{Point, line_number, idle, ll10, ll2, ll4, ll5, ll6, ll7, sc14, sc17, sc19, sc2, sc4, sc5, sc6, sc7, vl13}
-use Rattle.moir_model.specs.Records.{to_line}
+use Rattle.moir_model.specs.Points.{Point, idle, ll10, ll2, ll4, ll5, ll6, ll7, sc14, sc17, sc19, sc2, sc4, sc5, sc6, sc7, vl13}
 use Rattle.moir_model.specs.Words.{put_tag, put_value, put_header}
 use Rattle.moir_model.specs.Machine as L
 use Rattle.moir_model.specs.Machine.{Memory}
 use Rattle.llsc.specs.Answers.{answered}
-use Rattle.moir_model.specs.Replies.{Said, words, says}
+use Rattle.moir_model.specs.Replies.{words, says}
 use Rattle.moir_linearization.specs.Linearizable.{Served}
 use Rattle.moir_linearization.proofs.PointRanges.{busy}
 use Rattle.moir_linearization.proofs.GhostMachine as G

@@ -1,10 +1,9 @@
 -- What every step of p leaves: the others' records, the version from which p's bound counts, and no fewer successes.
 use mathlib.Core.Path.{◌≡◌, refl, ap, ◌∙◌}
-use mathlib.Core.Bool.{Bool}
 use Prim.Native.Nat.{ℕ, suc, ◌+◌, ◌≤◌, ◌<◌}
 use native.Mathlib.Omega.{arith}
 use lib.Dec.{ltb, eqb}
-use Rattle.laws.proofs.Updates.{upd, upd_same, upd_other, by_test}
+use Rattle.laws.proofs.Updates.{upd_same, upd_other, by_test}
 use Rattle.moir_model.specs.Points.{Point, idle, ll10, ll2, ll4, ll5, ll6, ll7, sc14, sc17, sc19, sc2, sc4, sc5, sc6, sc7, vl13}
 use Rattle.moir_linearization.proofs.GhostMachine.{Local, Shared, State, noisy, prev, eq_pair, step_at, step, Bounded}
 

@@ -1,9 +1,9 @@
 -- Tags: a version's number modulo M, the tag before and the tag after.
-use mathlib.Core.Path.{◌≡◌, refl, sym, ap, ◌∙◌}
-use Prim.Native.Nat.{ℕ, suc, ◌+◌, ◌-◌, ◌%◌, ◌≤◌, ◌<◌}
+use mathlib.Core.Path.{◌≡◌, sym, ap, ◌∙◌}
+use Prim.Native.Nat.{ℕ, suc, ◌+◌, ◌-◌, ◌%◌, ◌<◌}
 use native.Mathlib.Nat.{mod-lt, mod-eq_of_lt, suc-mod, mod-add-mod, add-mod_right}
 use native.Mathlib.Omega.{arith}
-use Rattle.laws.proofs.Residues.{mod_ne, mod_inj, suc_mod_ne}
+use Rattle.laws.proofs.Residues.{suc_mod_ne}
 use Rattle.moir_linearization.proofs.GhostMachine.{prev}
 
 module _ (M : ℕ) (two : 1 < M) where

@@ -1,7 +1,7 @@
 -- CR 8's theorems, each about moir_model's own definitions, with no assumption but those of its statement.
-use mathlib.Core.Path.{◌≡◌, refl, sym, subst, ◌∙◌}
+use mathlib.Core.Path.{◌≡◌, refl, sym, subst}
 use mathlib.Core.List.{List}
-use Prim.Native.Nat.{ℕ, ◌<◌}
+use Prim.Native.Nat.{ℕ}
 use lib.ListN.{get_or}
 use Rattle.llsc.specs.History.{Command}
 use Rattle.laws.proofs.ListFacts.{tab_whole}

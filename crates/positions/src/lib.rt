@@ -54,6 +54,7 @@ pub fn look(before: &[u8]) -> Seen
 }
 
 // One byte more.
+#[tactic(auto, unfolding(crate::specs::Positions::on_byte))]
 pub fn on_byte(s: Seen, b: u8) -> Seen
     requires { Small s }
     ensures { result ≡ on_byte b s }

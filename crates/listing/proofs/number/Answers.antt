@@ -46,14 +46,14 @@ pub slice_bounds-plain-count : goal.slice_bounds-plain-count
 slice_bounds-plain-count c = omega arith
 
 pub slice_bounds-plain-end : goal.slice_bounds-plain-end
-slice_bounds-plain-end c = omega (arith, filled_sized (omega arith) c.loop.invariant (20 - (c.loop.divisions + 1)))
+slice_bounds-plain-end c = omega (arith, filled_sized (omega arith) c.loop-rest.invariant (20 - (c.loop-rest.divisions + 1)))
 
 pub plain-requires : goal.plain-requires
 plain-requires c =
-    let all = filled_all (omega arith) c.loop.invariant (omega (arith, c.loop-test.true)) in
+    let all = filled_all (omega arith) c.loop-rest.invariant (omega (arith, c.if-rest-eq0.true)) in
     room_same (sym all) c.requires
 
 pub returns : goal.returns
 returns c =
-    let all = filled_all (omega arith) c.loop.invariant (omega (arith, c.loop-test.true)) in
+    let all = filled_all (omega arith) c.loop-rest.invariant (omega (arith, c.if-rest-eq0.true)) in
     same (sym all) c.plain.ensures

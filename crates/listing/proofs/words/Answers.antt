@@ -1,4 +1,5 @@
 -- `listing::words`: the loop's invariant is that the words passed are written.
+use Rattle.listing.specs.Lines.{words_of}
 use Prim.Native.Nat.{◌-◌}
 use mathlib.Core.Path.{sym}
 use native.Mathlib.Omega.{arith}
@@ -7,6 +8,7 @@ use Rattle.listing.proofs.LineLaws.{all_words, word_more, word_room}
 use Rattle.listing.proofs.words.Goals as goal
 
 pub loop-i-init : goal.loop-i-init
+unfolding words_of
 loop-i-init c = record { wrote = none _ _; within = omega arith }
 
 pub put-next-requires : goal.put-next-requires

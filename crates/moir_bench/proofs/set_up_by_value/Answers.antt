@@ -8,13 +8,9 @@ use Rattle.moir_bench.specs.SettingUp.{counted}
 use borrow.Author.Rules.{rules}
 use Rattle.moir_bench.proofs.set_up_by_value.Goals as goal
 
-records_to_write-requires c κs = search rules
-
 together : (n : ℕ) (out : Prepared) (ws : List ℕ) (k : ℕ) (z : Prepared × List ℕ) → (out, ws) ≡ z
     → k ≡ records_to_write out.number n → (record { number = out.number; bench = out.bench; count = k }, ws) ≡ counted n z
 together n out ws k z e f = ap (λ (j : ℕ). (record { number = out.number; bench = out.bench; count = j }, ws)) f ∙ ap (counted n) e
-
-pub records_to_write-count-requires : goal.records_to_write-count-requires
 
 pub returns : goal.returns
 returns c = together c.args.n

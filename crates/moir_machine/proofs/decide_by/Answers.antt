@@ -8,11 +8,6 @@ use Rattle.moir_machine.specs.declared.Outcome.{Outcome}
 use Rattle.moir_machine.proofs.ObeyLaws.{obeyable, process_small, refused_law, obeyed_law}
 use Rattle.moir_machine.proofs.decide_by.Goals as goal
 
-record_at-requires c κs =
-    let start = c.before.before.before in
-    let a = start.args in
-    process_small a.bench a.all.list a.len a.p a.order a.value.now a.words.now (sym start.requires ∙ c.if1.false)
-
 pub returns-then-number-ne0 : goal.returns-then-number-ne0
 returns-then-number-ne0 c =
     let a = c.args in
@@ -23,8 +18,6 @@ pub overflow_cast-process_number : goal.overflow_cast-process_number
 overflow_cast-process_number c =
     let a = c.args in
     omega (arith, process_small a.bench a.all.list a.len a.p a.order a.value.now a.words.now (sym c.requires ∙ c.if-number-ne0.false))
-
-pub record_at-process-requires : goal.record_at-process-requires
 
 pub obey-moved-requires : goal.obey-moved-requires
 obey-moved-requires c =

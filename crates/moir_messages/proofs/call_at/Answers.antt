@@ -5,10 +5,6 @@ use Rattle.moir_model.specs.Records.{record_at}
 use Rattle.moir_messages.specs.MoirCalls.{call_of}
 use Rattle.moir_messages.proofs.call_at.Goals as goal
 
-record_at-requires c κs = c.process_number.ensures.1
-
-pub record_at-requires : goal.record_at-requires
-
 pub returns : goal.returns
 returns c =
     c.call_of.ensures

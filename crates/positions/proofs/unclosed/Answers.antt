@@ -32,7 +32,7 @@ pub loop-left-preserved : goal.loop-left-preserved
 loop-left-preserved c =
     let x = c.loop-left in
     let text = c.args.text.now in
-    let on : c.closed_with.result ≡ _ = c.closed_with-closed.ensures in
+    let on : c.closed_with-closed.result ≡ _ = c.closed_with-closed.ensures in
     record {
       within = omega (arith, x.invariant.within, c.loop-left-test.true, on, one_more (get_or text (x.left - 1) 0) x.closed);
       same = ap (unclosed_below text (x.left - 1)) on

@@ -2,8 +2,6 @@
 use borrow.Author.Tests.{eq-eqb, ne_eqb}
 use Rattle.moir_bench.proofs.lent_records.records_to_write.Goals as goal
 
-records_to_write_spec = tie.close (tie.spec returns returns-2)
-
 pub returns-then-number-eq0 : goal.returns-then-number-eq0
 returns-then-number-eq0 c = simp (eq-eqb _ _ c.if-number-eq0.true)
 

@@ -11,4 +11,4 @@ returns c = simp (
   c.with_next_header-next.ensures,
   c.to.ensures,
   le-ltb _ _ c.if-word-w.false,
-returns =
+)

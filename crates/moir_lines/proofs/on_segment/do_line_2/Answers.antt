@@ -10,4 +10,4 @@ returns c = simp (
   c.with_y-2.ensures,
   c.to-next-2.ensures,
   ne_eqb _ _ (λ e. c.if-segment-previous.false (e ∙ sym c.previous-previous.ensures)),
-returns =
+)

@@ -5,12 +5,8 @@ use Rattle.laws.proofs.AndLaws.{pass, fail}
 use borrow.Author.Rules.{rules}
 use Rattle.moir_rows.proofs.ranges.in_range.Goals as goal
 
-records_ok-requires c κs = search rules
-
 pub returns-then-not-header_ok : goal.returns-then-not-header_ok
 returns-then-not-header_ok c = fail _ _ (sym c.header_ok.ensures ∙ not-true _ c.if-not-header_ok.taken)
-
-pub records_ok-requires : goal.records_ok-requires
 
 pub returns : goal.returns
 returns c = pass _ (sym c.header_ok.ensures ∙ not-false _ c.if-not-header_ok.left) c.records_ok.ensures

@@ -5,13 +5,6 @@ use borrow.Author.Tests.{leb-false}
 use Rattle.rows.proofs.RowLaws.{over, here}
 use Rattle.moir_rows.proofs.table.late_refusal.Goals as goal
 
-record_at-requires c κs = omega (
-  arith,
-  c.before.before.requires,
-  leb-false c.before.before.args.n
-      c.before.before.args.p (sym c.before.no_such_process.ensures ∙ c.if1.false),
-)
-
 pub returns-then-no_such_process : goal.returns-then-no_such_process
 returns-then-no_such_process c = here _ 4 _ (sym c.no_such_process.ensures ∙ c.if-no_such_process.true)
 
@@ -21,10 +14,7 @@ overflow_cast-p c = omega (
   c.requires,
   leb-false c.args.n
       c.args.p (sym c.no_such_process.ensures ∙ c.if-no_such_process.false),
-overflow_cast-p =
-
-pub record_at-process-requires : goal.record_at-process-requires
-
+)
 
 pub returns : goal.returns
 returns c = over _ 4 (sym c.no_such_process.ensures ∙ c.if-no_such_process.false)

@@ -3,12 +3,8 @@ use Rattle.moir_run.proofs.EntryLaws.{busy_far, busy_own}
 use borrow.Author.Rules.{rules}
 use Rattle.moir_run.proofs.entries.busy.Goals as goal
 
-record_at-requires c κs = search rules
-
 pub returns-then-p-gt15 : goal.returns-then-p-gt15
 returns-then-p-gt15 c = busy_far c.args.p c.args.all.list c.requires c.if-p-gt15.true
-
-pub record_at-process-requires : goal.record_at-process-requires
 
 pub returns : goal.returns
 returns c =

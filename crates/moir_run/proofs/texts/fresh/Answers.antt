@@ -2,9 +2,5 @@
 use borrow.Author.Rules.{rules}
 use Rattle.moir_run.proofs.texts.fresh.Goals as goal
 
-records_of-requires c κs = search rules
-
-pub records_of-all-requires : goal.records_of-all-requires
-
 pub returns : goal.returns
 returns c = rw (c.records_of-all.ensures, c.no_process.ensures)

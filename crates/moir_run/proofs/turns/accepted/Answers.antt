@@ -6,14 +6,8 @@ use Rattle.moir_run.proofs.TurnLaws.{process_few, ready_as, count_few, obeyable_
 use Rattle.moir_run.proofs.TurnLaws.{carried_as}
 use Rattle.moir_run.proofs.turns.accepted.Goals as goal
 
-record_at-requires c κs =
-    let c5 = c.before.before.before.before.before in
-    omega (arith, process_few c5.requires c.process_of.ensures)
-
 pub overflow_cast-own : goal.overflow_cast-own
 overflow_cast-own c = omega (arith, process_few c.requires c.process_of-p.ensures)
-
-pub record_at-process-requires : goal.record_at-process-requires
 
 pub access_seen-access-requires : goal.access_seen-access-requires
 access_seen-access-requires c =

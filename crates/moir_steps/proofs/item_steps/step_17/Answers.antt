@@ -27,4 +27,4 @@ returns c = simp (
   c.do_line_17-next.ensures,
   c.offer_word-from.ensures,
   c.announced_word-to.ensures,
-returns =
+)

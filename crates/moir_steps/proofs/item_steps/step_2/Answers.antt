@@ -7,4 +7,4 @@ returns c = simp (
   c.do_line_2-next.ensures,
   c.segment_with-segment.ensures,
   c.segment_word-at.ensures,
-returns =
+)

@@ -9,4 +9,4 @@ returns c = simp (
   c.do_line_5-left.ensures,
   c.segment_with-segment.ensures,
   c.segment_word-at.ensures,
-returns =
+)

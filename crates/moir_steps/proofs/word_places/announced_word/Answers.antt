@@ -8,11 +8,11 @@ overflow_mul-result c = omega (
   arith,
   fits {r = c.args.q.0} {w = c.args.w} {k = c.args.k}
       (omega arith) c.requires.0 c.requires.1,
-overflow_mul-result =
+)
 
 pub overflow_add-result : goal.overflow_add-result
 overflow_add-result c = omega (
   arith,
   fits {r = c.args.q.0} {w = c.args.w} {k = c.args.k}
       (omega arith) c.requires.0 c.requires.1,
-overflow_add-result =
+)

@@ -9,11 +9,11 @@ overflow_mul-result c = omega (
   arith,
   fits {r = c.args.n + 1 + c.args.p.0} {w = c.args.w}
       {k = c.args.k} (omega arith) c.requires.1.0 c.requires.1.1,
-overflow_mul-result =
+)
 
 pub overflow_add-result-3 : goal.overflow_add-result-3
 overflow_add-result-3 c = omega (
   arith,
   fits {r = c.args.n + 1 + c.args.p.0} {w = c.args.w}
       {k = c.args.k} (omega arith) c.requires.1.0 c.requires.1.1,
-overflow_add-result-3 =
+)
