@@ -3,16 +3,15 @@ use Rattle.boards.proofs.RefusalLaws.{trailer_of, row_of, they_are_there}
 use Rattle.board_rows.proofs.FileRows.{bad_trailer, long_enough, bad_record, right_file}
 use Rattle.board_rows.proofs.file_refusal.Goals as goal
 
-records_of-requires c κs =
-    let file = c.before.before.before.args.file.now in
-    long_enough file (trailer_of file c.before.good_trailer.ensures c.if1.false)
-
 pub returns-then-not-good_trailer : goal.returns-then-not-good_trailer
 returns-then-not-good_trailer c =
     let file = c.args.file.now in
     bad_trailer file (trailer_of file c.good_trailer.ensures c.if-not-good_trailer.true)
 
 pub records_of-from-requires : goal.records_of-from-requires
+records_of-from-requires c =
+    let file = c.args.file.now in
+    long_enough file (trailer_of file c.good_trailer.ensures c.if-not-good_trailer.false)
 
 pub good_records-requires : goal.good_records-requires
 good_records-requires c =
