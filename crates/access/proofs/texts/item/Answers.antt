@@ -5,6 +5,7 @@ use Rattle.access.specs.TraceLines.{item_text}
 use Rattle.access.proofs.texts.item.Goals as goal
 
 pub plain-requires : goal.plain-requires
+unfolding item_text
 plain-requires c = room_same (ap item_text c.in-X.is) c.requires
 
 pub plain-a-requires : goal.plain-a-requires
@@ -44,6 +45,7 @@ half_place-requires c =
     c.bracketed-b.ensures
 
 pub returns-in-X : goal.returns-in-X
+unfolding item_text
 returns-in-X c = same (ap item_text c.in-X.is) c.plain.ensures
 
 pub returns-in-Bank : goal.returns-in-Bank
