@@ -1,4 +1,5 @@
 -- `access::access_of::access_of`: each arm is its point's case of `access_on`.
+use Rattle.std.proofs.Common.{◌∙◌}
 use borrow.Author.Tests.{ne_eqb}
 use Rattle.access.proofs.PlaceLaws.{read_lies}
 use Rattle.access.proofs.access_of.access_of.Goals as goal
@@ -101,12 +102,13 @@ unfolding Rattle.access.specs.AccessOn.access_on
 returns-in-23 c = rw c.in-23.is c.vl-in-23.ensures
 
 pub returns-in_default : goal.returns-in_default
+unfolding Rattle.access.specs.AccessOn.access_on
 returns-in_default c =
     let r = c.in_default.in_default-own.rest in
     let s = r.0.0.0.0.0.0.0.0 in
     let t = s.0.0.0.0.0.0.0.0 in
+    c.no_access.ensures ∙
     simp (
-      c.no_access.ensures,
       ne_eqb _ _ r.1,
       ne_eqb _ _ r.0.1,
       ne_eqb _ _ r.0.0.1,

@@ -7,6 +7,7 @@ unfolding Rattle.access.specs.TraceLines.half_place_text
 bracketed-a-requires c = room_first _ _ c.requires
 
 pub half_name-requires : goal.half_name-requires
+unfolding Rattle.access.specs.TraceLines.half_place_text
 half_name-requires c = room_then _ c.requires c.bracketed-a.ensures
 
 pub returns : goal.returns

@@ -3,6 +3,7 @@ use Rattle.access.proofs.TextLaws.{values_room, values_wrote}
 use Rattle.access.proofs.texts.values.Goals as goal
 
 pub pair-requires : goal.pair-requires
+unfolding Rattle.access.specs.TraceLines.values_text
 pair-requires c = values_room _ _ c.in-X.is c.requires
 
 pub spaced-requires : goal.spaced-requires
@@ -10,6 +11,7 @@ unfolding Rattle.trace_parts.specs.TraceParts.spaced Rattle.access.specs.TraceLi
 spaced-requires c = values_room _ _ c.in-Bank.is c.requires
 
 pub pair-requires-in-Help : goal.pair-requires-in-Help
+unfolding Rattle.access.specs.TraceLines.values_text
 pair-requires-in-Help c = values_room _ _ c.in-Help.is c.requires
 
 pub spaced-requires-in-Half : goal.spaced-requires-in-Half
