@@ -1,5 +1,4 @@
 -- `listing::plain`: the loop's invariant is that the bytes passed are written.
-use Prim.Native.Nat.{◌-◌}
 use mathlib.Core.Path.{sym}
 use native.Mathlib.Omega.{arith}
 use lib.Seq.{take_all}

@@ -1,6 +1,5 @@
 -- `listing::words`: the loop's invariant is that the words passed are written.
 use Rattle.listing.specs.Lines.{words_of}
-use Prim.Native.Nat.{◌-◌}
 use mathlib.Core.Path.{sym}
 use native.Mathlib.Omega.{arith}
 use Rattle.listing.proofs.WritingLaws.{then, same, none, kept, room_first, room_then}
