@@ -1,17 +1,17 @@
 -- A file that is written and read again: the same records, a good trailer, no free bytes.
-use mathlib.Core.Path.{◌≡◌, refl, sym, ap, ap₂, subst, ◌∙◌}
-use mathlib.Core.List.{List, [], ◌∷◌, ◌++◌}
-use mathlib.Core.Bool.{Bool, true, false, not, ◌&&◌}
-use Prim.Native.Nat.{ℕ, zero, suc, ◌+◌, ◌-◌, ◌*◌, ◌/◌, ◌%◌, ◌≤◌, ◌<◌}
+use mathlib.Core.Path.{◌≡◌, refl, ap, ap₂, ◌∙◌}
+use mathlib.Core.List.{List, [], ◌∷◌}
+use mathlib.Core.Bool.{true, ◌&&◌}
+use Prim.Native.Nat.{ℕ, zero, suc, ◌+◌, ◌*◌, ◌/◌, ◌%◌, ◌≤◌, ◌<◌}
 use native.Mathlib.Omega.{arith}
-use lib.Dec.{eqb, leb}
+use lib.Dec.{eqb}
 use borrow.Author.Tests.{le-leb, eq-eqb}
-use lib.ListN.{length, get_or, drop}
+use lib.ListN.{length, drop}
 use lib.Seq.{get_or-append-add, get_or-drop, drop-drop}
 use lib.Pow.{shr-shr}
 use Rattle.llsc.specs.Linearizable.{All}
 use Rattle.laws.proofs.AndLaws.{left, right}
-use Rattle.boards.specs.Files.{BoardRecord, byte_at, joined, number4, bytes4, trailer_at, offset, count, marked, largest, good_trailer}
+use Rattle.boards.specs.Files.{BoardRecord, byte_at, joined, number4, trailer_at, offset, count, largest, good_trailer}
 use Rattle.boards.specs.Files.{record_of, good_record, good_front, records_of, good_fronts, rising, decode, good_records, trailer, record_bytes, records_bytes, encode}
 use Rattle.boards.specs.Promises.{Bytes}
 

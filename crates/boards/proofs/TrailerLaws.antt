@@ -1,13 +1,12 @@
 -- A trailer's tests, one after the other.
-use mathlib.Core.Path.{◌≡◌, refl, sym, ap, ap₂, ◌∙◌}
+use mathlib.Core.Path.{◌≡◌, sym, ap₂}
 use mathlib.Core.List.{List}
-use mathlib.Core.Bool.{Bool, true, false, ◌&&◌}
+use mathlib.Core.Bool.{Bool, false, ◌&&◌}
 use Prim.Native.Nat.{ℕ, ◌+◌, ◌*◌, ◌≤◌, ◌<◌}
-use native.Mathlib.Omega.{arith}
 use lib.Dec.{eqb, leb}
 use borrow.Author.Tests.{le-leb, lt-leb, eq-eqb, ne_eqb}
 use lib.ListN.{length}
-use Rattle.boards.specs.Files.{byte_at, number4, trailer_at, offset, count, marked, largest, ends_there, good_trailer}
+use Rattle.boards.specs.Files.{byte_at, trailer_at, offset, count, marked, largest, ends_there, good_trailer}
 use Rattle.laws.proofs.AndLaws.{pass, fail}
 
 module _ (bs : List ℕ) where

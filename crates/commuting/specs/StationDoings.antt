@@ -14,8 +14,8 @@ use Rattle.doings.specs.Doings.{acted, seen, Touching, nothing, one, doing}
 use Rattle.commuting.specs.Parts.{StationItem, item_of, put_item, own_of, put_own}
 
 -- what a process has for itself, as record j's bench has it; and put back, q being its process record before
-abbrev pub field_own : RecordNumber → Own StationProcess → Own Process
-field_own j o = record { process = process_of j o.process; returned = o.returned; offered = o.offered }
+abbrev pub own_at : RecordNumber → Own StationProcess → Own Process
+own_at j o = record { process = process_of j o.process; returned = o.returned; offered = o.offered }
 
 abbrev pub back_from : RecordNumber → StationProcess → Reply × Own Process → Reply × Own StationProcess
 back_from j q out = (
@@ -39,7 +39,7 @@ number_of c = record { 0 = c.process }
 abbrev pub does_from : ℕ → ℕ → StationOrder → Own StationProcess → Touching StationItem StationProcess
 does_from n w c o =
     let j = record_about c.order c.called o.process in
-    on_record j o.process (doing c.order n w (number_of c) c.value (field_own j o))
+    on_record j o.process (doing c.order n w (number_of c) c.value (own_at j o))
 
 abbrev pub does : StationMemory → StationOrder → Touching StationItem StationProcess
 does s c = does_from s.n s.w c (own_of s (number_of c))

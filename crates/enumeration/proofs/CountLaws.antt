@@ -1,5 +1,4 @@
 -- A schedule that is handed out has as many turns as its count says.
-use mathlib.Core.Path.{◌≡◌}
 use Prim.Native.Nat.{ℕ, ◌+◌, ◌-◌, ◌≤◌, ◌<◌}
 use mathlib.Core.List.{List}
 use native.Mathlib.Omega.{arith}
@@ -13,7 +12,7 @@ use Rattle.enumeration.specs.declared.Schedule.{Schedule}
 use Rattle.enumeration.specs.declared.Following.{Following}
 use Rattle.enumeration.specs.Replies.{number_refusal, turns_refusal, padded, found_for, following_of, following_for}
 use Rattle.enumeration.proofs.ScheduleFacts.{schedule_built, turns_length}
-use Rattle.enumeration.proofs.ReplyTheorems.{Given, none_refused_21}
+use Rattle.enumeration.proofs.ReplyTheorems.{none_refused_21}
 
 abbrev pub Counted : Schedule → Type 0
 Counted s = s.count ≤ length s.turns

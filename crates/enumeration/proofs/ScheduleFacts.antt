@@ -62,10 +62,14 @@ only0 (suc a) = first0 (only0 a)
 
 is_only1 : (b : ℕ) (ts : List ℕ) → Turns 0 b ts → ts ≡ replicate b 1
 is_only1 zero [] done = refl
+is_only1 zero (_ ∷ ts) s = elim s [ ]
+is_only1 (suc b) [] s = elim s [ ]
 is_only1 (suc b) (_ ∷ ts) (first1 s) = ap (1 ∷◌) (is_only1 b ts s)
 
 is_only0 : (a : ℕ) (ts : List ℕ) → Turns a 0 ts → ts ≡ replicate a 0
 is_only0 zero [] done = refl
+is_only0 zero (_ ∷ ts) s = elim s [ ]
+is_only0 (suc a) [] s = elim s [ ]
 is_only0 (suc a) (_ ∷ ts) (first0 s) = ap (0 ∷◌) (is_only0 a ts s)
 
 -- the schedule for a number is one, and has that number
@@ -92,6 +96,7 @@ pub number_below : (a b : ℕ) (ts : List ℕ) → Turns a b ts → number_for a
 unfolding number_for ways
 number_below zero b ts s = omega arith
 number_below (suc a) zero ts s = omega arith
+number_below (suc a) (suc b) [] s = elim s [ ]
 number_below (suc a) (suc b) (_ ∷ ts) (first0 s) = let z = number_below a (suc b) ts s in omega arith
 number_below (suc a) (suc b) (_ ∷ ts) (first1 s) = let z = number_below (suc a) b ts s in omega arith
 
@@ -99,6 +104,7 @@ pub schedule_number : (a b : ℕ) (ts : List ℕ) → Turns a b ts → schedule_
 unfolding schedule_for number_for
 schedule_number zero b ts s = sym (is_only1 b ts s)
 schedule_number (suc a) zero ts s = sym (is_only0 (suc a) ts s)
+schedule_number (suc a) (suc b) [] s = elim s [ ]
 schedule_number (suc a) (suc b) (_ ∷ ts) (first0 s) =
     rw (lt-ltb (number_for a (suc b) ts) (ways a (suc b)) (number_below a (suc b) ts s))
     (ap (0 ∷◌) (schedule_number a (suc b) ts s))
@@ -129,6 +135,8 @@ pub in_order : (a b : ℕ) (ts us : List ℕ) → Turns a b ts → Turns a b us
 unfolding number_for
 in_order zero b ts us s r = rw (is_only1 b ts s, is_only1 b us r) (before_not (replicate b 1))
 in_order (suc a) zero ts us s r = rw (is_only0 (suc a) ts s, is_only0 (suc a) us r) (before_not (replicate (suc a) 0))
+in_order (suc a) (suc b) [] us s r = elim s [ ]
+in_order (suc a) (suc b) (_ ∷ ts) [] s r = elim r [ ]
 in_order (suc a) (suc b) (_ ∷ ts) (_ ∷ us) (first0 s) (first0 r) = in_order a (suc b) ts us s r
 in_order (suc a) (suc b) (_ ∷ ts) (_ ∷ us) (first0 s) (first1 r) =
     let z = number_below a (suc b) ts s in

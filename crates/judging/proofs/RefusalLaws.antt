@@ -11,7 +11,7 @@ use lib.Dec.{eqb, leb}
 use lib.ListN.{length, get_or, drop}
 use lib.Seq.{get_or-drop, drop-drop}
 use borrow.Author.Tests.{eqb-true, ltb-false, leb-false, lt-leb, not-false}
-use Rattle.llsc.specs.Rows.{row1, row2, first, some}
+use Rattle.llsc.specs.Rows.{row1, row2, some}
 use Rattle.rows.proofs.RowLaws.{cleared, n_in, w_in}
 use Rattle.laws.proofs.AllLaws.{all_of, all_none, none_all, or_none}
 use Rattle.verdicts.specs.Log.{Entry, width, entry_of, rows, entries, begun}

@@ -30,6 +30,7 @@ pub fn store_at(processes: &mut [StationProcess], i: usize, q: StationProcess)
 }
 
 // The first sixteen records, with another one where there is none.
+#[tactic(auto, unfolding(station_records::specs::Gathered::gathered))]
 pub fn gather(processes: &[StationProcess], none: StationProcess) -> Processes
     ensures { result ≡ gathered processes.now none 16 }
 {
@@ -54,6 +55,7 @@ pub fn pick(all: Processes, i: usize) -> StationProcess
 }
 
 // The first n of sixteen records are stored back, where they are lent.
+#[tactic(auto, unfolding(station_records::specs::Gathered::processes_stored))]
 pub fn store_back(processes: &mut [StationProcess], all: Processes, n: usize)
     ensures { processes.new ≡ processes_stored processes.old all.list n }
 {

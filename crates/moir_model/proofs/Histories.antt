@@ -1,6 +1,5 @@
 -- Histories, computed: the calls of a run, with the numbers of their commands, answered and open; and its successes.
 use mathlib.Core.Path.{◌≡◌, refl}
-use Prim.Native.Nat.{ℕ}
 use mathlib.Core.List.{List, [], ◌∷◌, ◌++◌}
 use mathlib.Core.Bool.{true, false}
 use Rattle.llsc.specs.History.{Command}
@@ -10,7 +9,7 @@ use Rattle.moir_model.specs.Refusals.{in_range}
 use Rattle.moir_model.specs.Command.{command, refusal}
 use Rattle.moir_model.specs.SetUp.{set_up, set_up_refusal}
 use Rattle.moir_model.specs.Replies.{words, names, sc_truth, vl_truth}
-use Rattle.moir_model.specs.History.{Event, events, ended, pending, Call, calls_from, calls, successes_up_to}
+use Rattle.moir_model.specs.History.{events, ended, pending, calls_from, calls, successes_up_to}
 use Rattle.moir_model.proofs.Schedules.{l, v, s, steps, dirty}
 
 abbrev ready : Memory

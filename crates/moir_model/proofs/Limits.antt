@@ -2,11 +2,10 @@
 use mathlib.Core.Path.{◌≡◌, refl}
 use Prim.Native.Nat.{ℕ}
 use mathlib.Core.List.{List, [], ◌∷◌, ◌++◌}
-use mathlib.Core.Bool.{true, false}
+use mathlib.Core.Bool.{true}
 use lib.ListN.{replicate}
 use Rattle.llsc.specs.declared.Order.TheVariants.{StartLl}
 use Rattle.moir_model.specs.declared.Header.{Header}
-use Rattle.moir_model.specs.declared.Bench.{Bench}
 use Rattle.moir_model.specs.declared.Process.{Process}
 use Rattle.moir_model.specs.Records.{no_process}
 use Rattle.moir_model.specs.Machine.{Memory, step_at, obey}

@@ -1,6 +1,6 @@
 -- Runs of Moir's bench over the definitions, computed, and a schedule for each reading of Figure 6 that tears the record.
-use mathlib.Core.Path.{◌≡◌, refl}
-use mathlib.Core.List.{List, [], ◌∷◌, ◌++◌}
+use mathlib.Core.Path.{refl}
+use mathlib.Core.List.{[], ◌∷◌, ◌++◌}
 use mathlib.Core.Bool.{true, false}
 use Rattle.moir_model.specs.Machine.{step_at, obey}
 use Rattle.moir_model.specs.Refusals.{in_range}

@@ -9,7 +9,7 @@ use Rattle.moir_model.specs.declared.Process.{Process}
 use Rattle.moir_model.specs.declared.Reply.TheVariants.{Accepted, WllAnswered, WllNamed, ScAnswered, VlAnswered}
 use Rattle.moir_model.specs.declared.LineStep.{LineStep}
 use Rattle.moir_model.specs.Tags.{next_tag, previous_tag}
-use Rattle.moir_model.specs.Points.{Point, line_number, ll2, sc17, sc19, sc2}
+use Rattle.moir_model.specs.Points.{ll2, sc17, sc19, sc2}
 use Rattle.moir_model.specs.Records.{to_line, to, rest, marked, with_word, with_x, with_old, with_new, with_h, with_y, with_z}
 
 -- two headers, two segments are equal: tag and process, tag and word

@@ -1,5 +1,5 @@
 -- The process record with some of its numbers set: what the lines of Figure 6 do to their own process.
-use Rattle.std.specs.Prelude.{ℕ, ◌+◌, List, Bool, true, false, get_or}
+use Rattle.std.specs.Prelude.{ℕ, ◌+◌, List, true, false, get_or}
 use Rattle.llsc.specs.declared.ProcessNumber.{ProcessNumber}
 use Rattle.moir_model.specs.declared.Header.{Header}
 use Rattle.moir_model.specs.declared.Segment.{Segment}

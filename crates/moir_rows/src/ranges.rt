@@ -93,6 +93,7 @@ pub fn records_ok(n: usize, w: usize, all: Records) -> bool
 }
 
 // Row 9, over the bench and the records.
+#[tactic(auto, unfolding(moir_model::specs::Refusals::in_range))]
 pub fn in_range(bench: Bench, all: Records) -> bool
     requires { (bench.n ≤ 16) × (bench.w ≤ 64) }
     ensures { result ≡ in_range (record { bench = bench; records = all.list; words = [] }) }

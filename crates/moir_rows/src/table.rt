@@ -10,6 +10,7 @@ use llsc::{Order, ProcessNumber};
 use moir_model::{Bench, Process};
 
 // The number of the first row that holds, 0 for none.
+#[tactic(auto, unfolding(crate::specs::CommandRows::decision_number, crate::specs::CommandRows::late_number))]
 pub fn refusal(
     bench: Bench,
     all: Records,
@@ -37,6 +38,7 @@ pub fn refusal(
 }
 
 // Rows 4, 8, 5, 6, 7: all that a command can be refused for where the lent memory is in order.
+#[tactic(auto, unfolding(crate::specs::CommandRows::late_number))]
 fn late_refusal(n: usize, w: usize, all: Records, p: usize, order: Order, value: usize) -> u8
     requires { n ≤ 16 }
     ensures { result ≡ late_number n w all.list p order value }

@@ -21,6 +21,7 @@ fn step_19(bench: Bench, process: Process) -> Moved
 }
 
 // An idle process, and a line that is none (row 9 refuses it), stay as they are.
+#[tactic(auto, unfolding(moir_model::specs::Machine::step_at))]
 pub fn step(p: ProcessNumber, bench: Bench, process: Process, words: &mut [u64]) -> Moved
     requires { Ready bench process p words.old }
     ensures { (result, words.new) ≡ step_at (point_of process.line) p bench process words.old }

@@ -6,9 +6,6 @@ use mathlib.Core.Bool.{Bool, true, false, cond, true≢false}
 use native.Mathlib.Omega.{arith}
 use borrow.Author.Tests.{leb-true, le-leb, lt-leb, eqb-true, eqb-false, eq-eqb, ne_eqb}
 use lib.Dec.{eqb, leb}
-use types.Run.{OneOf, miss}
-use denote.Enum.Declared.{tag_of}
-use Rattle.notation.specs.contracts.Kind.{the_type}
 use Rattle.listing.specs.Quoted.{byte}
 use Rattle.notation.specs.declared.Mark.{Mark}
 use Rattle.notation.specs.declared.Mark.TheVariants.{Ll, Vl, One, All}
@@ -107,9 +104,9 @@ ok_small v d h = leb-true (v * 10 + d) largest (unless_zero v (leb (v * 10 + d) 
 pub ok : (v d : ℕ) → 0 < v → v * 10 + d ≤ largest → digit_ok v d ≡ true
 ok v d p h = simp (ne_eqb v 0 (λ z. omega arith), le-leb _ _ h)
 
--- a kind whose tag is not the digit's
-pub not_digit : (k : Kind) → OneOf (1 ∷ 2 ∷ 3 ∷ 4 ∷ 5 ∷ 6 ∷ []) (tag_of the_type k) → is_digit k ≡ false
-not_digit (Digit d) h = absurd (miss (1 ∷ 2 ∷ 3 ∷ 4 ∷ 5 ∷ 6 ∷ []) 0 tt h)
+-- a kind that is not the digit's
+pub not_digit : (k : Kind) → ((d : ℕ) → k ≡ Digit d → ⊥) → is_digit k ≡ false
+not_digit (Digit d) h = absurd (h d refl)
 not_digit Gap h = refl
 not_digit (Marked m) h = refl
 not_digit Offer h = refl
@@ -118,9 +115,9 @@ not_digit Close h = refl
 not_digit Other h = refl
 
 -- or not the gap's
-pub not_gap : (k : Kind) → OneOf (0 ∷ 2 ∷ 3 ∷ 4 ∷ 5 ∷ 6 ∷ []) (tag_of the_type k) → is_gap k ≡ false
+pub not_gap : (k : Kind) → (k ≡ Gap → ⊥) → is_gap k ≡ false
 not_gap (Digit d) h = refl
-not_gap Gap h = absurd (miss (0 ∷ 2 ∷ 3 ∷ 4 ∷ 5 ∷ 6 ∷ []) 1 tt h)
+not_gap Gap h = absurd (h refl)
 not_gap (Marked m) h = refl
 not_gap Offer h = refl
 not_gap Open h = refl
@@ -150,14 +147,15 @@ offer_not p Close h = refl
 offer_not p Other h = refl
 
 -- after a number that is no item by itself: neither a mark nor `s` nor `(`
-pub unsigned : (s : List ℕ) (v place : ℕ) (k : Kind) → OneOf (0 ∷ 1 ∷ 5 ∷ 6 ∷ []) (tag_of the_type k) → Signed s v place k (Wrong place)
-unsigned s v place (Digit d) o = refl
-unsigned s v place Gap o = refl
-unsigned s v place (Marked m) o = absurd (miss (0 ∷ 1 ∷ 5 ∷ 6 ∷ []) 2 tt o)
-unsigned s v place Offer o = absurd (miss (0 ∷ 1 ∷ 5 ∷ 6 ∷ []) 3 tt o)
-unsigned s v place Open o = absurd (miss (0 ∷ 1 ∷ 5 ∷ 6 ∷ []) 4 tt o)
-unsigned s v place Close o = refl
-unsigned s v place Other o = refl
+pub unsigned : (s : List ℕ) (v place : ℕ) (k : Kind) → ((m : Mark) → k ≡ Marked m → ⊥) → (k ≡ Offer → ⊥) → (k ≡ Open → ⊥)
+    → Signed s v place k (Wrong place)
+unsigned s v place (Digit d) m o p = refl
+unsigned s v place Gap m o p = refl
+unsigned s v place (Marked x) m o p = absurd (m x refl)
+unsigned s v place Offer m o p = absurd (o refl)
+unsigned s v place Open m o p = absurd (p refl)
+unsigned s v place Close m o p = refl
+unsigned s v place Other m o p = refl
 
 -- what a count makes of a `(`
 pub count_zero : (v x place : ℕ) → v ≡ 0 → Wrong place ≡ cond (count_ok v) (Group v x) (Wrong place)
@@ -170,24 +168,24 @@ pub count_fits : (v x place : ℕ) → (v ≡ 0 → ⊥) → v ≤ 255 → Group
 count_fits v x place h l = simp (ne_eqb _ _ h, le-leb _ _ l)
 
 -- right after an item, neither a gap nor a `)`
-pub stray : (s : List ℕ) (at : ℕ) (k : Kind) → OneOf (0 ∷ 2 ∷ 3 ∷ 4 ∷ 6 ∷ []) (tag_of the_type k) → After s at k (Stray at)
-stray s at (Digit d) o = refl
-stray s at Gap o = absurd (miss (0 ∷ 2 ∷ 3 ∷ 4 ∷ 6 ∷ []) 1 tt o)
-stray s at (Marked m) o = refl
-stray s at Offer o = refl
-stray s at Open o = refl
-stray s at Close o = absurd (miss (0 ∷ 2 ∷ 3 ∷ 4 ∷ 6 ∷ []) 5 tt o)
-stray s at Other o = refl
+pub stray : (s : List ℕ) (at : ℕ) (k : Kind) → (k ≡ Gap → ⊥) → (k ≡ Close → ⊥) → After s at k (Stray at)
+stray s at (Digit d) g c = refl
+stray s at Gap g c = absurd (g refl)
+stray s at (Marked m) g c = refl
+stray s at Offer g c = refl
+stray s at Open g c = refl
+stray s at Close g c = absurd (c refl)
+stray s at Other g c = refl
 
 -- behind gaps, neither a digit nor a `)`
-pub gap_stray : (next : ℕ) (k : Kind) → OneOf (1 ∷ 2 ∷ 3 ∷ 4 ∷ 6 ∷ []) (tag_of the_type k) → Stray next ≡ behind_of next k
-gap_stray next (Digit d) o = absurd (miss (1 ∷ 2 ∷ 3 ∷ 4 ∷ 6 ∷ []) 0 tt o)
-gap_stray next Gap o = refl
-gap_stray next (Marked m) o = refl
-gap_stray next Offer o = refl
-gap_stray next Open o = refl
-gap_stray next Close o = absurd (miss (1 ∷ 2 ∷ 3 ∷ 4 ∷ 6 ∷ []) 5 tt o)
-gap_stray next Other o = refl
+pub gap_stray : (next : ℕ) (k : Kind) → ((d : ℕ) → k ≡ Digit d → ⊥) → (k ≡ Close → ⊥) → Stray next ≡ behind_of next k
+gap_stray next (Digit d) n c = absurd (n d refl)
+gap_stray next Gap n c = refl
+gap_stray next (Marked m) n c = refl
+gap_stray next Offer n c = refl
+gap_stray next Open n c = refl
+gap_stray next Close n c = absurd (c refl)
+gap_stray next Other n c = refl
 
 -- the number of an `s` ends at a byte that is no digit
 pub offer_move : (p v : ℕ) (k : Kind) → is_digit k ≡ false → (move (offer_num p v) k ≡ move done k) × (said (offer_num p v) k ≡ StartSc p v ∷ [])

@@ -71,6 +71,7 @@ pub fn keep(list: &mut [u64], to: usize, e: Entry, place: usize) -> usize
 }
 
 // The entry that a number of the list keeps.
+#[tactic(auto, unfolding(crate::specs::EntryWords::entry_in))]
 pub fn entry_in(word: u64) -> Entry
     ensures { result ≡ entry_in word }
 {

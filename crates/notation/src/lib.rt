@@ -77,6 +77,7 @@ pub enum Follow {
 }
 
 // What a byte is.
+#[tactic(auto, unfolding(crate::specs::Bytes::kind_of))]
 pub fn class(b: u8) -> Kind
     ensures { result ≡ kind_of b }
 {

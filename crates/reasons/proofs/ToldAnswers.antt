@@ -1,11 +1,10 @@
 -- What the reason of condition 5 says is what Figure 1's object answers there, and the calls before are answered alike.
 use mathlib.Core.Path.{◌≡◌, refl, sym, ap, ap₂, ◌∙◌}
-use Prim.Native.Nat.{ℕ, zero, suc, ◌+◌}
+use Prim.Native.Nat.{ℕ, suc, ◌+◌}
 use mathlib.Core.List.{List, [], ◌∷◌, ◌++◌, map}
 use mathlib.Core.Bool.{Bool, true, false, not, ◌&&◌, cond}
 use native.Mathlib.Omega.{arith}
 use lib.Dec.{eqb, leb}
-use lib.ListN.{length}
 use borrow.Author.Tests.{eqb-true}
 use Rattle.llsc.specs.Answers.{Answer, ll_words, sc_truth, vl_truth}
 use Rattle.llsc.specs.Object.{ll, sc, vl, Object, fresh, tell, feed, serve}

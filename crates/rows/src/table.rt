@@ -5,6 +5,7 @@ ghost use Rattle.rows.specs.CommandRows.{lent_number};
 use crate::causes;
 
 // Rows 1, 2, 3, with which a set-up begins: the number of the first that holds, 0 for none.
+#[tactic(auto, unfolding(crate::specs::CommandRows::lent_number))]
 pub fn lent_refusal(n: usize, w: usize, records: usize, words: usize) -> u8
     ensures { result ≡ lent_number n w records words }
 {

@@ -59,6 +59,7 @@ const MOST_LISTINGS: u64 = 4096;
 const LONGEST_LISTING: usize = 65536;
 
 // The sums before the first listing.
+#[tactic(auto, unfolding(crate::specs::Season::empty_sums))]
 pub fn empty_sums(n: u64, w: u64) -> Sums
     ensures { result ≡ empty_sums n w }
 {
@@ -122,6 +123,7 @@ pub fn add_listing(sums: Sums, listing: &[u8]) -> Added
 }
 
 // The table.
+#[tactic(auto, unfolding(crate::specs::Fractions::table))]
 pub fn table_of(sums: Sums) -> Table
     ensures { result ≡ table sums }
 {

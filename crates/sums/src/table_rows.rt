@@ -34,6 +34,7 @@ fn lowest_terms(a: u64, b: u64) -> Fraction
 }
 
 // The row of a process.
+#[tactic(auto, unfolding(crate::specs::Fractions::row_of))]
 fn row_of(s: Sum) -> Row
     ensures { result ≡ row_of s }
 {

@@ -1,10 +1,6 @@
 -- `boards::merge` meets its contract.
-use Rattle.boards.proofs.RefusalLaws.{merge_refused, second_long, ready, merge_done}
+use Rattle.boards.proofs.RefusalLaws.{merge_refused, first_long, second_long, ready, merge_done}
 use Rattle.boards.proofs.merge.Goals as goal
-
-records_of-requires-2 c κs =
-    let r = c.before.before in let x = r.before.before.before.before.args in
-    second_long x.first.now x.second.now x.out.now _ r.refusal.ensures c.before.if1.false
 
 pub returns-then-number-ne0 : goal.returns-then-number-ne0
 returns-then-number-ne0 c =
@@ -12,8 +8,14 @@ returns-then-number-ne0 c =
     merge_refused x.first.now x.second.now x.out.now _ c.refusal-number.ensures c.if-number-ne0.true
 
 pub records_of-a-requires : goal.records_of-a-requires
+records_of-a-requires c =
+    let x = c.args in
+    first_long x.first.now x.second.now x.out.now _ c.refusal-number.ensures c.if-number-ne0.false
 
 pub records_of-b-requires : goal.records_of-b-requires
+records_of-b-requires c =
+    let x = c.args in
+    second_long x.first.now x.second.now x.out.now _ c.refusal-number.ensures c.if-number-ne0.false
 
 pub write_merged-written-requires : goal.write_merged-written-requires
 write_merged-written-requires c =

@@ -1,5 +1,4 @@
 -- `logtext::read` meets its contract.
-use Prim.Native.Nat.{◌-◌}
 use native.Mathlib.Omega.{arith}
 use Rattle.logtext.proofs.ReadingLaws.{read_begin, read_stop, stop_long, read_go, read_end, end_long}
 use borrow.Author.Rules.{rules}

@@ -28,7 +28,7 @@ returns-in-Digit c =
 pub returns-in_default-sign : goal.returns-in_default-sign
 returns-in_default-sign c =
     D.byte c.if-text-at.false (sym c.class-k.ensures ∙ c.in-Gap.is)
-    (record { next = _; skipped = c.skip-next.ensures; behind = D.byte c.if-text-next.false (sym c.class-sign.ensures) (gap_stray _ c.class-sign.result c.in_default-sign.in_default-sign-own.keys3) })
+    (record { next = _; skipped = c.skip-next.ensures; behind = D.byte c.if-text-next.false (sym c.class-sign.ensures) (gap_stray _ c.class-sign.result c.in_default-sign.not-Digit c.in_default-sign.not-Close) })
 
 pub returns-in_default : goal.returns-in_default
-returns-in_default c = D.byte c.if-text-at.false (sym c.class-k.ensures) (stray _ _ c.class-k.result c.in_default.in_default-own.keys3)
+returns-in_default c = D.byte c.if-text-at.false (sym c.class-k.ensures) (stray _ _ c.class-k.result c.in_default.not-Gap c.in_default.not-Close)

@@ -54,4 +54,4 @@ returns-else-v-gt255 c =
 pub returns-in_default : goal.returns-in_default
 returns-in_default c =
     let w = subst (NumberAtSays _ _) c.in-Value.is c.number_at-got.ensures in
-    begin_again (signed w c.if-text-next.false (sym c.class-sign.ensures) (unsigned _ _ _ c.class-sign.result c.in_default.in_default-own.keys4))
+    begin_again (signed w c.if-text-next.false (sym c.class-sign.ensures) (unsigned _ _ _ c.class-sign.result c.in_default.not-Marked c.in_default.not-Offer c.in_default.not-Open))

@@ -3,7 +3,6 @@ use Prim.Native.Nat.{◌-◌}
 use mathlib.Core.Path.{sym, ap, ◌∙◌}
 use native.Mathlib.Omega.{arith}
 use native.Mathlib.Nat.{lt_irrefl, lt_of_lt_of_le}
-use borrow.Author.Tests.{not-true, not-false}
 use Rattle.notation.specs.Bytes.{is_digit}
 use Rattle.notation.specs.Readers.{still, digit}
 use Rattle.notation.proofs.KindLaws.{digit_small, ok_small, not_digit}
@@ -18,7 +17,7 @@ bounds-text-next c = omega arith
 pub returns-in_default : goal.returns-in_default
 returns-in_default c =
     record
-    { stops = λ h. ap is_digit (sym c.class-k.ensures) ∙ not_digit c.class-k.result c.in_default.in_default-own.keys2; small = c.loop-next.invariant.small; on = c.loop-next.invariant.on; within = c.loop-next.invariant.within; counts = c.loop-next.invariant.counts }
+    { stops = λ h. ap is_digit (sym c.class-k.ensures) ∙ not_digit c.class-k.result c.in_default.not-Digit; small = c.loop-next.invariant.small; on = c.loop-next.invariant.on; within = c.loop-next.invariant.within; counts = c.loop-next.invariant.counts }
 
 pub may_follow-requires : goal.may_follow-requires
 may_follow-requires c =
@@ -32,7 +31,7 @@ returns-then-not-may_follow c =
       counts = c.loop-next.invariant.counts;
       here = c.loop-next-test.true;
       is = sym c.class-k.ensures ∙ c.in-Digit.is;
-      not = sym c.may_follow.ensures ∙ not-true _ c.if-not-may_follow.true;
+      not = sym c.may_follow.ensures ∙ c.if-not-may_follow.true;
     }
 
 pub overflow_mul-value : goal.overflow_mul-value
@@ -50,7 +49,7 @@ loop-next-smaller c = omega arith
 
 pub loop-next-preserved : goal.loop-next-preserved
 loop-next-preserved c =
-    let ok = sym c.may_follow.ensures ∙ not-false _ c.if-not-may_follow.false in
+    let ok = sym c.may_follow.ensures ∙ c.if-not-may_follow.false in
     record {
       counts = digit c.loop-next.invariant.counts c.loop-next-test.true (sym c.class-k.ensures ∙ c.in-Digit.is) ok;
       on = omega (arith, c.loop-next.invariant.on);

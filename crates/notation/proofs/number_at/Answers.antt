@@ -13,7 +13,7 @@ returns-then-text-at c = ends c.if-text-at.true
 pub returns-in_default : goal.returns-in_default
 returns-in_default c =
     other c.if-text-at.false
-    (ap is_digit (sym c.class-k.ensures) ∙ not_digit c.class-k.result c.in_default.in_default-own.keys2)
+    (ap is_digit (sym c.class-k.ensures) ∙ not_digit c.class-k.result c.in_default.not-Digit)
 
 pub number-requires : goal.number-requires
 number-requires c =

@@ -17,7 +17,7 @@ bounds-text-next c = omega arith
 pub returns-in_default : goal.returns-in_default
 returns-in_default c =
     record
-    { gaps = c.loop-next.invariant.gaps; on = c.loop-next.invariant.on; within = c.loop-next.invariant.within; stops = λ h. ap is_gap (sym c.class-k.ensures) ∙ not_gap c.class-k.result c.in_default.in_default-own.keys2 }
+    { gaps = c.loop-next.invariant.gaps; on = c.loop-next.invariant.on; within = c.loop-next.invariant.within; stops = λ h. ap is_gap (sym c.class-k.ensures) ∙ not_gap c.class-k.result c.in_default.not-Gap }
 
 pub overflow_add-next : goal.overflow_add-next
 overflow_add-next c = omega arith

@@ -5,22 +5,29 @@ use Rattle.access.specs.TraceLines.{written_text}
 use Rattle.access.proofs.texts.written.Goals as goal
 
 pub plain-requires : goal.plain-requires
-plain-requires c = room_same (ap written_text c.enum_told-1.given.1) c.requires
+unfolding written_text
+plain-requires c = room_same (ap written_text c.in-X.is) c.requires
 
 pub plain-requires-in-Bank : goal.plain-requires-in-Bank
-plain-requires-in-Bank c = room_same (ap written_text c.enum_told-in-Bank-1.given.1) c.requires
+unfolding written_text
+plain-requires-in-Bank c = room_same (ap written_text c.in-Bank.is) c.requires
 
 pub plain-requires-in-Help : goal.plain-requires-in-Help
-plain-requires-in-Help c = room_same (ap written_text c.enum_told-in-Help-1.given.1) c.requires
+unfolding written_text
+plain-requires-in-Help c = room_same (ap written_text c.in-Help.is) c.requires
 
 pub returns-in-X : goal.returns-in-X
-returns-in-X c = same (ap written_text c.enum_told-1.given.1) c.plain.ensures
+unfolding written_text
+returns-in-X c = same (ap written_text c.in-X.is) c.plain.ensures
 
 pub returns-in-Bank : goal.returns-in-Bank
-returns-in-Bank c = same (ap written_text c.enum_told-in-Bank-1.given.1) c.plain-in-Bank.ensures
+unfolding written_text
+returns-in-Bank c = same (ap written_text c.in-Bank.is) c.plain-in-Bank.ensures
 
 pub returns-in-Help : goal.returns-in-Help
-returns-in-Help c = same (ap written_text c.enum_told-in-Help-1.given.1) c.plain-in-Help.ensures
+unfolding written_text
+returns-in-Help c = same (ap written_text c.in-Help.is) c.plain-in-Help.ensures
 
 pub returns-in-Half : goal.returns-in-Half
+unfolding written_text
 returns-in-Half c = same (ap written_text c.in-Half.is) (none _ _)

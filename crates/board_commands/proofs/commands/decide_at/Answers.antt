@@ -9,7 +9,7 @@ use Rattle.board_commands.proofs.CommandLaws.{at_most, record_decided}
 use Rattle.board_commands.proofs.commands.decide_at.Goals as goal
 
 pub overflow_cast-p : goal.overflow_cast-p
-overflow_cast-p c = record { fits = omega (arith, c.type_inv.file.given (c.args.at + 8)) }
+overflow_cast-p c = record { fits = omega (arith, c.type_inv.file (c.args.at + 8)) }
 
 pub slice_bounds-value-end : goal.slice_bounds-value-end
 slice_bounds-value-end c =

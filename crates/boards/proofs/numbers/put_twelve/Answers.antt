@@ -6,5 +6,5 @@ use Rattle.boards.proofs.numbers.put_twelve.Goals as goal
 pub returns : goal.returns
 returns c =
     let a = c.args in
-    twelve_stored a.out.now c.put_number.new.0 c.put_number-2.new.0 c.put_bytes.new.0 a.to a.v a.w (a.a ∷ a.b ∷ a.c ∷ a.d ∷ [])
+    twelve_stored a.out.now c.put_number.new.out c.put_number-2.new.out c.put_bytes.new.out a.to a.v a.w (a.a ∷ a.b ∷ a.c ∷ a.d ∷ [])
     c.put_number.ensures c.put_number-2.ensures c.put_bytes.ensures

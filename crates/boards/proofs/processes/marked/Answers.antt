@@ -16,10 +16,10 @@ pub bounds-s-at : goal.bounds-s-at
 bounds-s-at c = omega (arith, c.loop-left.invariant.there, c.loop-left-test.true)
 
 pub overflow_cast-table : goal.overflow_cast-table
-overflow_cast-table c = omega (arith, c.type_inv.s.given (c.loop-left.at + 8))
+overflow_cast-table c = omega (arith, c.type_inv.s (c.loop-left.at + 8))
 
 pub bounds-table-s : goal.bounds-table-s
-bounds-table-s c = omega (arith, c.type_inv.s.given (c.loop-left.at + 8))
+bounds-table-s c = omega (arith, c.type_inv.s (c.loop-left.at + 8))
 
 pub overflow_add-at : goal.overflow_add-at
 overflow_add-at c = omega (arith, c.loop-left.invariant.there, c.loop-left-test.true)

@@ -11,4 +11,4 @@ returns c =
     let a = c.args in let ys = left_of a.second.now a.b in
     c.some_marked.ensures
     ∙ ap (λ t. some_marked t ys) c.marked-table.ensures
-    ∙ shared_by_table (left_of a.first.now a.a) ys (processes_small a.second.now a.b.at a.b.count (λ i. omega (arith, c.type_inv.second.given i)))
+    ∙ shared_by_table (left_of a.first.now a.a) ys (processes_small a.second.now a.b.at a.b.count (λ i. omega (arith, c.type_inv.second i)))

@@ -16,16 +16,13 @@ pub bounds-s-at : goal.bounds-s-at
 bounds-s-at c = omega (arith, c.loop-left.invariant.there, c.loop-left-test.true)
 
 pub overflow_cast-s : goal.overflow_cast-s
-overflow_cast-s c = omega (arith, c.type_inv.s.given (c.loop-left.at + 8))
+overflow_cast-s c = omega (arith, c.type_inv.s (c.loop-left.at + 8))
 
 pub bounds-table-s : goal.bounds-table-s
-bounds-table-s c = omega (arith, c.shared_slice_known-1.given (c.loop-left.at + 8))
+bounds-table-s c = omega (arith, c.type_inv.s (c.loop-left.at + 8))
 
 pub returns-then-table-s : goal.returns-then-table-s
 returns-then-table-s c = found c.loop-left.invariant c.loop-left-test.true c.if-table-s.true
-
-pub overflow_add-at : goal.overflow_add-at
-overflow_add-at c = omega (arith, c.loop.invariant.there, c.loop-test.true)
 
 pub loop-left-preserved : goal.loop-left-preserved
 loop-left-preserved c = look_on c.loop-left.invariant c.loop-left-test.true c.if-table-s.false

@@ -1,7 +1,6 @@
 -- `boards::records::good_records` meets its contract.
 use mathlib.Core.Path.{refl}
 use native.Mathlib.Omega.{arith}
-use borrow.Author.Tests.{not-true, not-false}
 use Rattle.boards.proofs.FrontLaws.{record_fails, tick_falls, record_passes, none_left}
 use Rattle.boards.proofs.records.good_records.Goals as goal
 
@@ -13,14 +12,14 @@ good_at-requires c = omega (arith, c.loop-left.invariant.there, c.loop-left-test
 
 pub returns-then-not-good_at : goal.returns-then-not-good_at
 returns-then-not-good_at c =
-    record_fails c.loop-left.invariant c.loop-left-test.true _ c.good_at.ensures (not-true _ c.if-not-good_at.true)
+    record_fails c.loop-left.invariant c.loop-left-test.true _ c.good_at.ensures c.if-not-good_at.true
 
 pub number_at-next-requires : goal.number_at-next-requires
 number_at-next-requires c = omega (arith, c.loop-left.invariant.there, c.loop-left-test.true)
 
 pub returns-then-next-tick : goal.returns-then-next-tick
 returns-then-next-tick c =
-    tick_falls c.loop-left.invariant c.loop-left-test.true _ c.good_at.ensures _ c.number_at-next.ensures.same (not-false _ c.if-not-good_at.false) (omega (arith, c.if-next-tick.true))
+    tick_falls c.loop-left.invariant c.loop-left-test.true _ c.good_at.ensures _ c.number_at-next.ensures.same c.if-not-good_at.false (omega (arith, c.if-next-tick.true))
 
 pub overflow_add-at : goal.overflow_add-at
 overflow_add-at c = omega (arith, c.loop-left.invariant.there, c.loop-left-test.true)
@@ -33,7 +32,7 @@ loop-left-smaller c = omega (arith, c.loop-left-test.true)
 
 pub loop-left-preserved : goal.loop-left-preserved
 loop-left-preserved c =
-    record_passes c.loop-left.invariant c.loop-left-test.true _ c.good_at.ensures _ c.number_at-next.ensures.same (not-false _ c.if-not-good_at.false) (omega (arith, c.if-next-tick.false))
+    record_passes c.loop-left.invariant c.loop-left-test.true _ c.good_at.ensures _ c.number_at-next.ensures.same c.if-not-good_at.false (omega (arith, c.if-next-tick.false))
 
 pub returns : goal.returns
 returns c = none_left c.loop-left.invariant (omega arith)

@@ -2,8 +2,5 @@
 use mathlib.Core.Path.{ap₂}
 use Rattle.boards.proofs.trailers.records_of.Goals as goal
 
-records_of_spec =
-    tie.close (tie.spec sub_at number_at-requires add-number_at number_at-requires-2 returns)
-
 pub returns : goal.returns
 returns c = ap₂ (λ a k. record { at = a; count = k }) c.number_at-offset.ensures.same c.number_at-count.ensures.same

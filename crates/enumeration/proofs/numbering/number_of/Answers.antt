@@ -1,6 +1,5 @@
 use native.Mathlib.Omega.{arith}
 use mathlib.Core.Path.{◌∙◌}
-use Prim.Native.Nat.{◌-◌}
 use Rattle.enumeration.proofs.LoopLaws.{ways_fit, count_begins, count_fits, count_goes_on, count_stops, count_short, count_ends}
 use borrow.Author.Rules.{rules}
 use Rattle.enumeration.proofs.numbering.number_of.Goals as goal

@@ -1,6 +1,5 @@
 -- `judging::object::not_alike` meets its contract.
 use native.Mathlib.Omega.{arith}
-use Prim.Native.Nat.{◌-◌}
 use Rattle.judging.proofs.ObjectLaws.{serve_begin, good_at_is, serve_stop, serve_go, serve_end}
 use borrow.Author.Rules.{rules}
 use Rattle.judging.proofs.object.not_alike.Goals as goal

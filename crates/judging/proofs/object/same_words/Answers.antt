@@ -1,6 +1,5 @@
 -- `judging::object::same_words` meets its contract.
 use native.Mathlib.Omega.{arith}
-use Prim.Native.Nat.{◌-◌}
 use Rattle.judging.proofs.ObjectLaws.{words_begin, words_stop, words_go, words_end}
 use borrow.Author.Rules.{rules}
 use Rattle.judging.proofs.object.same_words.Goals as goal

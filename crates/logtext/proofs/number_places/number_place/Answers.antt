@@ -1,6 +1,5 @@
 -- `logtext::number_places::number_place` meets its contract.
 use native.Mathlib.Omega.{arith}
-use Prim.Native.Nat.{◌-◌}
 use Rattle.logtext.proofs.PlaceLaws.{place_stop, place_go, place_end}
 use borrow.Author.Rules.{rules}
 use Rattle.logtext.proofs.number_places.number_place.Goals as goal

@@ -1,6 +1,5 @@
 -- `logtext::number_places::stray_place` meets its contract.
 use native.Mathlib.Omega.{arith}
-use Prim.Native.Nat.{◌-◌}
 use Rattle.logtext.proofs.PlaceLaws.{stray_stop, stray_go, stray_end}
 use borrow.Author.Rules.{rules}
 use Rattle.logtext.proofs.number_places.stray_place.Goals as goal

@@ -9,7 +9,7 @@ pub returns-in-2 : goal.returns-in-2
 returns-in-2 c = rw c.in-2.is c.read-in-2.ensures
 
 pub returns-in-4 : goal.returns-in-4
-returns-in-4 c = rw c.in-4.keys3 c.read-in-4.ensures
+returns-in-4 c = rw c.in-4.is c.read-in-4.ensures
 
 pub returns-in-5 : goal.returns-in-5
 returns-in-5 c = rw c.in-5.is c.cas.ensures
@@ -33,7 +33,7 @@ pub returns-in-22 : goal.returns-in-22
 returns-in-22 c = rw c.in-22.is c.read-in-22.ensures
 
 pub returns-in-24 : goal.returns-in-24
-returns-in-24 c = rw c.in-24.keys11 c.read-in-24.ensures
+returns-in-24 c = rw c.in-24.is c.read-in-24.ensures
 
 pub returns-in-25 : goal.returns-in-25
 returns-in-25 c = rw c.in-25.is c.cas-in-25.ensures

@@ -6,7 +6,7 @@ use Rattle.moir_access.proofs.texts.item.Goals as goal
 
 pub plain-requires : goal.plain-requires
 plain-requires c =
-    room_same (ap item_text c.enum_told-1.given.1) c.requires
+    room_same (ap item_text c.in-Hdr.is) c.requires
 
 pub plain-a-requires : goal.plain-a-requires
 plain-a-requires c =
@@ -30,7 +30,7 @@ bracketed-requires-in-Announced c =
 
 pub returns-in-Hdr : goal.returns-in-Hdr
 returns-in-Hdr c =
-    same (ap item_text c.enum_told-1.given.1) c.plain.ensures
+    same (ap item_text c.in-Hdr.is) c.plain.ensures
 
 pub returns-in-Data : goal.returns-in-Data
 returns-in-Data c =

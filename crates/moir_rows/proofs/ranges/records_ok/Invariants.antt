@@ -6,21 +6,6 @@ use Rattle.llsc.specs.Rows.{every}
 use Rattle.moir_model.specs.Refusals.{process_ok}
 use Rattle.moir_rows.proofs.ranges.records_ok.Given as goal
 
-records_ok_spec =
-    tie.close
-    (tie.spec
-    invariant_loop
-    decreases_loop
-    loop-holds
-    mul-process
-    element_copy_out-process
-    process_ok-requires
-    returns
-    add-i
-    loop-less
-    loop-again
-    returns-2)
-
 abbrev pub invariant-loop-i : goal.invariant-loop-i
 invariant-loop-i l = (l.i ≤ l.n) × (every (process_ok l.n l.w) (take (l.n) l.all.list) ≡ every (process_ok l.n l.w) (take (l.n - l.i) (drop l.i l.all.list)))
 

@@ -14,9 +14,11 @@ named_in true r k e h t = omega (arith, leb-false r k e)
 named_in false r k e h t = subst (λ (b : Bool). cond b (k < 8) (Unit {0})) t tt
 
 pub returns-then-no_such_process : goal.returns-then-no_such_process
+unfolding Rattle.station_rows.specs.StationCommandRows.station_late_number
 returns-then-no_such_process c = here _ 4 _ (sym c.no_such_process.ensures ∙ c.if-no_such_process.true)
 
 pub returns-then-no_such_record : goal.returns-then-no_such_record
+unfolding Rattle.station_rows.specs.StationCommandRows.station_late_number
 returns-then-no_such_record c =
     let no4 = sym c.no_such_process.ensures ∙ c.if-no_such_process.false in
     over _ 4 no4 (here _ 24 _ (sym c.no_such_record.ensures ∙ c.if-no_such_record.true))
@@ -36,6 +38,7 @@ call_refusal-requires c =
     named_in _ c.args.station.r c.args.named (sym c.no_such_record.ensures ∙ c.if-no_such_record.false) c.requires.1
 
 pub returns : goal.returns
+unfolding Rattle.station_rows.specs.StationCommandRows.station_late_number
 returns c =
     let no4 = sym c.no_such_process.ensures ∙ c.if-no_such_process.false in
     let no24 = sym c.no_such_record.ensures ∙ c.if-no_such_record.false in

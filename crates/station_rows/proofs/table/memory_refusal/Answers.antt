@@ -6,6 +6,7 @@ use Rattle.station_rows.proofs.StationRowLaws.{lent_answers, lent_passed, is_len
 use Rattle.station_rows.proofs.table.memory_refusal.Goals as goal
 
 pub returns-then-number-ne0 : goal.returns-then-number-ne0
+unfolding Rattle.station_rows.specs.StationCommandRows.station_memory_number
 returns-then-number-ne0 c =
     let e = c.lent_refusal-number.ensures in
     e ∙ lent_answers _ _ _ _ _ _ (λ z. c.if-number-ne0.true (e ∙ z))

@@ -33,13 +33,9 @@ put_back-requires c =
     let r = c.requires.ready_in.ready in
     (simp c.bank_index-i.ensures (bank_index_small r y), simp c.help_index-j.ensures (help_index_small r y))
 
-pub shape_of-words : goal.shape_of-words
-shape_of-words c =
-    c.words-2-1.given ∙ c.words-1.given
-
 pub returns : goal.returns
 returns c =
     let a = c.args in
     let w = whole_order_in (layout_from a.rows) a.p a.bench a.process a.words.now a.order a.value.now in
-    ap (λ (r : Moved). (r, c.obey_taken_in-stepped.new.1.1.1.1.1.1.1.0)) c.put_back.ensures ∙
+    ap (λ (r : Moved). (r, c.obey_taken_in-stepped.new.words)) c.put_back.ensures ∙
     w c.offer.ensures c.bank_index-i.ensures c.help_index-j.ensures c.take-places.ensures c.obey_taken_in-stepped.ensures

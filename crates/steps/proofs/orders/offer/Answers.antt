@@ -24,9 +24,6 @@ not_offered StartSc e l p w value ws = absurd (miss (0 ∷ 2 ∷ 3 ∷ []) 1 tt 
 not_offered StartVl e l p w value ws = refl
 not_offered Step e l p w value ws = refl
 
-pub returns-in_default : goal.returns-in_default
-returns-in_default c = not_offered c.args.order c.in_default.in_default-own.keys2 _ _ _ _ _
-
 pub copy_in-requires : goal.copy_in-requires
 copy_in-requires c =
     let o = c.in-StartSc.is in

@@ -40,138 +40,161 @@ step_17-requires c =
     writes_offer c.requires
 
 pub returns-in-1 : goal.returns-in-1
+unfolding step_on_in
 returns-in-1 c =
     let a = c.args in
     let e = c.after_help.ensures ∙ ap (after_help a.taken) c.do_line_1.ensures in
-    ap (λ (s : Stepped). (s, a.words.now)) e ∙ arm (layout_from a.rows) a.p a.n a.w a.taken a.process a.words.now c.in-1.keys1
+    ap (λ (s : Stepped). (s, a.words.now)) e ∙ arm (layout_from a.rows) a.p a.n a.w a.taken a.process a.words.now c.in-1.is
 
 pub returns-in-2 : goal.returns-in-2
+unfolding step_on_in
 returns-in-2 c =
     let a = c.args in
     let e = c.after_x.ensures ∙ ap (after_x a.taken) c.do_line_2.ensures in
-    ap (λ (s : Stepped). (s, a.words.now)) e ∙ arm (layout_from a.rows) a.p a.n a.w a.taken a.process a.words.now c.in-2.keys2
+    ap (λ (s : Stepped). (s, a.words.now)) e ∙ arm (layout_from a.rows) a.p a.n a.w a.taken a.process a.words.now c.in-2.is
 
 pub returns-in-3 : goal.returns-in-3
+unfolding step_on_in
 returns-in-3 c =
     let a = c.args in
     let e = ap (after_words a.taken) c.read_word.ensures in
     rw c.after_word.ensures (e ∙ arm (layout_from a.rows) a.p a.n a.w a.taken a.process a.words.now c.in-3.is)
 
 pub returns-in-4 : goal.returns-in-4
+unfolding step_on_in
 returns-in-4 c =
     let a = c.args in
     let e = c.after_help-in-4.ensures ∙ ap (after_help a.taken) c.do_line_4.ensures in
-    ap (λ (s : Stepped). (s, a.words.now)) e ∙ arm (layout_from a.rows) a.p a.n a.w a.taken a.process a.words.now c.in-4.keys4
+    ap (λ (s : Stepped). (s, a.words.now)) e ∙ arm (layout_from a.rows) a.p a.n a.w a.taken a.process a.words.now c.in-4.is
 
 pub returns-in-5 : goal.returns-in-5
+unfolding step_on_in
 returns-in-5 c =
     let a = c.args in
     let e = c.after_x-in-5.ensures ∙ ap (after_x a.taken) c.do_line_2-in-5.ensures in
-    ap (λ (s : Stepped). (s, a.words.now)) e ∙ arm (layout_from a.rows) a.p a.n a.w a.taken a.process a.words.now c.in-5.keys5
+    ap (λ (s : Stepped). (s, a.words.now)) e ∙ arm (layout_from a.rows) a.p a.n a.w a.taken a.process a.words.now c.in-5.is
 
 pub returns-in-6 : goal.returns-in-6
+unfolding step_on_in
 returns-in-6 c =
     let a = c.args in
     let e = ap (after_words a.taken) c.read_word-in-6.ensures in
     rw c.after_word-in-6.ensures (e ∙ arm (layout_from a.rows) a.p a.n a.w a.taken a.process a.words.now c.in-6.is)
 
 pub returns-in-7 : goal.returns-in-7
+unfolding step_on_in
 returns-in-7 c =
     let a = c.args in
     let e = c.after_x-in-7.ensures ∙ ap (after_x a.taken) c.do_line_7.ensures in
-    ap (λ (s : Stepped). (s, a.words.now)) e ∙ arm (layout_from a.rows) a.p a.n a.w a.taken a.process a.words.now c.in-7.keys7
+    ap (λ (s : Stepped). (s, a.words.now)) e ∙ arm (layout_from a.rows) a.p a.n a.w a.taken a.process a.words.now c.in-7.is
 
 pub returns-in-24 : goal.returns-in-24
+unfolding step_on_in
 returns-in-24 c =
     let a = c.args in
     let e = ap (after_words a.taken) c.read_word-in-24.ensures in
-    rw c.after_word-in-24.ensures (e ∙ arm (layout_from a.rows) a.p a.n a.w a.taken a.process a.words.now c.in-24.keys8)
+    rw c.after_word-in-24.ensures (e ∙ arm (layout_from a.rows) a.p a.n a.w a.taken a.process a.words.now c.in-24.is)
 
 pub returns-in-8 : goal.returns-in-8
+unfolding step_on_in
 returns-in-8 c =
     let a = c.args in
     let e = c.after_help-in-8.ensures ∙ ap (after_help a.taken) c.do_line_8.ensures in
-    ap (λ (s : Stepped). (s, a.words.now)) e ∙ arm (layout_from a.rows) a.p a.n a.w a.taken a.process a.words.now c.in-8.keys9
+    ap (λ (s : Stepped). (s, a.words.now)) e ∙ arm (layout_from a.rows) a.p a.n a.w a.taken a.process a.words.now c.in-8.is
 
 pub returns-in-9 : goal.returns-in-9
+unfolding step_on_in
 returns-in-9 c =
     let a = c.args in
     let e = c.after_help-in-9.ensures ∙ ap (after_help a.taken) c.do_line_9.ensures in
-    ap (λ (s : Stepped). (s, a.words.now)) e ∙ arm (layout_from a.rows) a.p a.n a.w a.taken a.process a.words.now c.in-9.keys10
+    ap (λ (s : Stepped). (s, a.words.now)) e ∙ arm (layout_from a.rows) a.p a.n a.w a.taken a.process a.words.now c.in-9.is
 
 pub returns-in-10 : goal.returns-in-10
+unfolding step_on_in
 returns-in-10 c =
     let a = c.args in
     let e = c.after_help-in-10.ensures ∙ ap (after_help a.taken) c.do_line_10.ensures in
-    ap (λ (s : Stepped). (s, a.words.now)) e ∙ arm (layout_from a.rows) a.p a.n a.w a.taken a.process a.words.now c.in-10.keys11
+    ap (λ (s : Stepped). (s, a.words.now)) e ∙ arm (layout_from a.rows) a.p a.n a.w a.taken a.process a.words.now c.in-10.is
 
 pub returns-in-11 : goal.returns-in-11
+unfolding step_on_in
 returns-in-11 c =
     let a = c.args in
     let e = ap (after_words a.taken) c.step_11.ensures in
     rw c.after_word-in-11.ensures (e ∙ arm (layout_from a.rows) a.p a.n a.w a.taken a.process a.words.now c.in-11.is)
 
 pub returns-in-12 : goal.returns-in-12
+unfolding step_on_in
 returns-in-12 c =
     let a = c.args in
     let e = c.after_bank.ensures ∙ ap (after_bank a.taken) c.do_line_12.ensures in
-    ap (λ (s : Stepped). (s, a.words.now)) e ∙ arm (layout_from a.rows) a.p a.n a.w a.taken a.process a.words.now c.in-12.keys13
+    ap (λ (s : Stepped). (s, a.words.now)) e ∙ arm (layout_from a.rows) a.p a.n a.w a.taken a.process a.words.now c.in-12.is
 
 pub returns-in-25 : goal.returns-in-25
+unfolding step_on_in
 returns-in-25 c =
     let a = c.args in
     let e = c.after_x-in-25.ensures ∙ ap (after_x a.taken) c.do_line_12_valid.ensures in
-    ap (λ (s : Stepped). (s, a.words.now)) e ∙ arm (layout_from a.rows) a.p a.n a.w a.taken a.process a.words.now c.in-25.keys14
+    ap (λ (s : Stepped). (s, a.words.now)) e ∙ arm (layout_from a.rows) a.p a.n a.w a.taken a.process a.words.now c.in-25.is
 
 pub returns-in-13 : goal.returns-in-13
+unfolding step_on_in
 returns-in-13 c =
     let a = c.args in
     let e = c.after_bank-in-13.ensures ∙ ap (after_bank a.taken) c.do_line_13.ensures in
-    ap (λ (s : Stepped). (s, a.words.now)) e ∙ arm (layout_from a.rows) a.p a.n a.w a.taken a.process a.words.now c.in-13.keys15
+    ap (λ (s : Stepped). (s, a.words.now)) e ∙ arm (layout_from a.rows) a.p a.n a.w a.taken a.process a.words.now c.in-13.is
 
 pub returns-in-14 : goal.returns-in-14
+unfolding step_on_in
 returns-in-14 c =
     let a = c.args in
     let e = c.after_help-in-14.ensures ∙ ap (after_help a.taken) c.do_line_14.ensures in
-    ap (λ (s : Stepped). (s, a.words.now)) e ∙ arm (layout_from a.rows) a.p a.n a.w a.taken a.process a.words.now c.in-14.keys16
+    ap (λ (s : Stepped). (s, a.words.now)) e ∙ arm (layout_from a.rows) a.p a.n a.w a.taken a.process a.words.now c.in-14.is
 
 pub returns-in-26 : goal.returns-in-26
+unfolding step_on_in
 returns-in-26 c =
     let a = c.args in
     let e = c.after_x-in-26.ensures ∙ ap (after_x a.taken) c.do_line_14_valid.ensures in
-    ap (λ (s : Stepped). (s, a.words.now)) e ∙ arm (layout_from a.rows) a.p a.n a.w a.taken a.process a.words.now c.in-26.keys17
+    ap (λ (s : Stepped). (s, a.words.now)) e ∙ arm (layout_from a.rows) a.p a.n a.w a.taken a.process a.words.now c.in-26.is
 
 pub returns-in-15 : goal.returns-in-15
+unfolding step_on_in
 returns-in-15 c =
     let a = c.args in
     let e = c.after_help-in-15.ensures ∙ ap (after_help a.taken) c.do_line_15.ensures in
-    ap (λ (s : Stepped). (s, a.words.now)) e ∙ arm (layout_from a.rows) a.p a.n a.w a.taken a.process a.words.now c.in-15.keys18
+    ap (λ (s : Stepped). (s, a.words.now)) e ∙ arm (layout_from a.rows) a.p a.n a.w a.taken a.process a.words.now c.in-15.is
 
 pub returns-in-17 : goal.returns-in-17
+unfolding step_on_in
 returns-in-17 c =
     let a = c.args in
     let e = ap (after_words a.taken) c.step_17.ensures in
     rw c.after_word-in-17.ensures (e ∙ arm (layout_from a.rows) a.p a.n a.w a.taken a.process a.words.now c.in-17.is)
 
 pub returns-in-18 : goal.returns-in-18
+unfolding step_on_in
 returns-in-18 c =
     let a = c.args in
     let e = c.after_bank-in-18.ensures ∙ ap (after_bank a.taken) c.do_line_18.ensures in
-    ap (λ (s : Stepped). (s, a.words.now)) e ∙ arm (layout_from a.rows) a.p a.n a.w a.taken a.process a.words.now c.in-18.keys20
+    ap (λ (s : Stepped). (s, a.words.now)) e ∙ arm (layout_from a.rows) a.p a.n a.w a.taken a.process a.words.now c.in-18.is
 
 pub returns-in-19 : goal.returns-in-19
+unfolding step_on_in
 returns-in-19 c =
     let a = c.args in
     let e = c.after_x-in-19.ensures ∙ ap (after_x a.taken) c.do_line_19.ensures in
-    ap (λ (s : Stepped). (s, a.words.now)) e ∙ arm (layout_from a.rows) a.p a.n a.w a.taken a.process a.words.now c.in-19.keys21
+    ap (λ (s : Stepped). (s, a.words.now)) e ∙ arm (layout_from a.rows) a.p a.n a.w a.taken a.process a.words.now c.in-19.is
 
 pub returns-in-23 : goal.returns-in-23
+unfolding step_on_in
 returns-in-23 c =
     let a = c.args in
     let e = c.after_x-in-23.ensures ∙ ap (after_x a.taken) c.do_line_23.ensures in
-    ap (λ (s : Stepped). (s, a.words.now)) e ∙ arm (layout_from a.rows) a.p a.n a.w a.taken a.process a.words.now c.in-23.keys22
+    ap (λ (s : Stepped). (s, a.words.now)) e ∙ arm (layout_from a.rows) a.p a.n a.w a.taken a.process a.words.now c.in-23.is
 
 pub returns-in_default : goal.returns-in_default
+unfolding step_on_in
 returns-in_default c =
     let r1 = c.in_default.in_default-own.rest in
     let r2 = r1.0 in
@@ -195,8 +218,8 @@ returns-in_default c =
     let r20 = r19.0 in
     let r21 = r20.0 in
     let r22 = r21.0 in
+    ap (λ (s : Stepped). (s, c.args.words.now)) c.unmoved.ensures ∙
     simp (
-      c.unmoved.ensures,
       ne_eqb _ _ r1.1,
       ne_eqb _ _ r2.1,
       ne_eqb _ _ r3.1,

@@ -1,4 +1,3 @@
-use borrow.Author.Tests.{not-true, not-false}
 use native.Mathlib.Omega.{arith}
 use Prim.Native.Nat.{◌-◌}
 use mathlib.Core.Path.{refl, sym, ◌∙◌}
@@ -21,7 +20,7 @@ pub bounds-each-last : goal.bounds-each-last
 bounds-each-last c = omega (arith, c.loop-k.invariant.1)
 
 pub returns-then-not-ok : goal.returns-then-not-ok
-returns-then-not-ok c = sym (small_stop _ _ c.loop-k-test.true (sym c.small_sum-ok.ensures ∙ not-true _ c.if-not-ok.true)) ∙ c.loop-k.invariant.0
+returns-then-not-ok c = sym (small_stop _ _ c.loop-k-test.true (sym c.small_sum-ok.ensures ∙ c.if-not-ok.true)) ∙ c.loop-k.invariant.0
 
 pub loop-k-smaller : goal.loop-k-smaller
 loop-k-smaller c = omega (arith, c.loop-k-test.true)
@@ -29,7 +28,7 @@ loop-k-smaller c = omega (arith, c.loop-k-test.true)
 pub loop-k-preserved : goal.loop-k-preserved
 loop-k-preserved c =
     let i = c.loop-k.invariant in
-    let ok = sym c.small_sum-ok.ensures ∙ not-false _ c.if-not-ok.false in
+    let ok = sym c.small_sum-ok.ensures ∙ c.if-not-ok.false in
     (sym (small_step _ _ c.loop-k-test.true ok) ∙ i.0, omega (arith, i.1))
 
 pub returns : goal.returns

@@ -1,3 +1,4 @@
+use Rattle.sums.specs.Fractions.{lowest}
 use borrow.Author.Tests.{eq-eqb}
 use native.Mathlib.Omega.{arith}
 use Rattle.sums.proofs.GcdLaws.{gcd_positive, lowest_is}
@@ -6,6 +7,7 @@ use Rattle.sums.proofs.table_rows.gcd_of.Reads as gcd_of_reads
 use Rattle.sums.proofs.table_rows.lowest_terms.Goals as goal
 
 pub returns-then-b-eq0 : goal.returns-then-b-eq0
+unfolding lowest
 returns-then-b-eq0 c = simp (eq-eqb _ _ c.if-b-eq0.true)
 
 pub nonzero_div-result : goal.nonzero_div-result

@@ -10,6 +10,7 @@ use Rattle.sums.proofs.table_rows.row_of.Reads as row_of_reads
 use Rattle.sums.proofs.table_rows.rows_of.Goals as goal
 
 pub loop-k-init : goal.loop-k-init
+unfolding rows_of
 loop-k-init c = (simp c.no_row-none.ensures, omega arith)
 
 pub offset_bounds-each-k : goal.offset_bounds-each-k

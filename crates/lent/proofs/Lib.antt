@@ -1,2 +1,0 @@
-pub mod Locals
-pub mod Again
