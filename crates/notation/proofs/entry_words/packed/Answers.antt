@@ -3,15 +3,6 @@ use native.Mathlib.Omega.{arith}
 use Rattle.notation.proofs.WordLaws.{kept_small, packed_reads, packed_below}
 use Rattle.notation.proofs.entry_words.packed.Goals as goal
 
-pub overflow_mul-result : goal.overflow_mul-result
-overflow_mul-result c = omega (arith, c.kept_process-process.ensures, kept_small c.args.p)
-
-pub overflow_add-result : goal.overflow_add-result
-overflow_add-result c = omega (arith, c.kept_process-process.ensures, kept_small c.args.p)
-
-pub overflow_add-result-2 : goal.overflow_add-result-2
-overflow_add-result-2 c = omega (arith, c.kept_process-process.ensures, kept_small c.args.p)
-
 pub returns : goal.returns
 returns c =
     let a = c.args in let e = c.kept_process-process.ensures in
