@@ -1,5 +1,4 @@
 -- `notation::entry_words::packed`: the three parts don't overlap, so each is read again.
-use native.Mathlib.Omega.{arith}
 use Rattle.notation.proofs.WordLaws.{kept_small, packed_reads, packed_below}
 use Rattle.notation.proofs.entry_words.packed.Goals as goal
 

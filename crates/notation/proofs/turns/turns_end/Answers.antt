@@ -1,6 +1,5 @@
 -- `notation::turns::turns_end`: the quotient says whether the other turns fit.
-use native.Mathlib.Omega.{arith}
-use Rattle.notation.proofs.BlockLaws.{turns_none, turns_cut, turns_room, turns_fit}
+use Rattle.notation.proofs.BlockLaws.{turns_none, turns_cut, turns_fit}
 use Rattle.notation.proofs.turns.turns_end.Goals as goal
 
 pub returns-then-size-eq0 : goal.returns-then-size-eq0
