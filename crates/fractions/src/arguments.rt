@@ -2,23 +2,33 @@
 ghost use Rattle.std.specs.Prelude.{◌≡◌, ◌≤◌};
 ghost use Rattle.fractions.specs.Arguments.{number_told};
 
+use std::env::{Env, FillError};
+
 // The largest number that is taken; any other argument is worth more.
 pub(crate) const LARGEST: u64 = 4294967295;
 
 // What an argument is worth that is no such number.
 const NONE: u64 = 4294967296;
 
+// How many arguments the program was started with, its own name among them.
+pub(crate) fn count(rt: &impl Env) -> usize {
+    let mut first = [0u8; 1];
+    for i in 0..usize::MAX {
+        if let Err(FillError::NotPresent) = rt.arg(i, &mut first) {
+            return i;
+        }
+    }
+    usize::MAX
+}
+
 // Argument i as a number: what its digits are worth, where the operating system has it.
-pub(crate) fn number_argument(i: usize) -> u64 {
+pub(crate) fn number_argument(rt: &impl Env, i: usize) -> u64 {
     let mut text = [0u8; 20];
-    let got = os::arg(i, &mut text);
-    if os::errno() != 0 {
-        return NONE;
+    match rt.arg(i, &mut text) {
+        Ok(0) => NONE,
+        Ok(got) => digits(&text[..got]),
+        Err(_) => NONE,
     }
-    if got == 0 {
-        return NONE;
-    }
-    digits(&text[..got])
 }
 
 // The number that the digits make.

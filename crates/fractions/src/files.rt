@@ -3,45 +3,75 @@ ghost use Rattle.std.specs.Prelude.{◌≡◌};
 ghost use Rattle.sums.specs.Season.{added};
 
 use crate::notices;
+use std::env::Env;
+use std::fs::File;
+use std::io::{Read, Write};
+use std::rt::Files;
+use std::str;
 
 // The file that argument i names, added to the sums; where it can't be read the sums stay.
-pub(crate) fn add_file(sums: sums::Sums, i: usize) -> sums::Sums {
-    let mut name = io::buffer();
-    let length = os::arg(i, &mut name);
-    if os::errno() != 0 {
-        os::fail(b"fractions: the name of a file");
-        return sums;
+pub(crate) fn add_file<R: Env + Files + Alloc>(
+    rt: &R,
+    errors: &mut impl Write,
+    sums: sums::Sums,
+    i: usize,
+) -> sums::Sums {
+    let mut name = [0u8; 4096];
+    match rt.arg(i, &mut name) {
+        Ok(length) => add_named(rt, errors, sums, &name[..length]),
+        Err(_) => {
+            let _ = notices::no_name(errors);
+            sums
+        }
     }
-    let file = os::open_read(&name[..length]);
-    if file < 0 {
-        os::fail(&name[..length]);
+}
+
+// The file of this name. A path is UTF-8 text here.
+fn add_named<R: Env + Files + Alloc>(
+    rt: &R,
+    errors: &mut impl Write,
+    sums: sums::Sums,
+    name: &[u8],
+) -> sums::Sums {
+    let Ok(path) = str::from_utf8(name) else {
+        let _ = notices::no_text(errors, name);
         return sums;
+    };
+    match File::open(rt, path) {
+        Ok(mut file) => add_open(rt, errors, sums, &mut file, name),
+        Err(e) => {
+            let _ = notices::not_read(errors, rt.alloc(), name, e);
+            sums
+        }
     }
-    let after = add_open(sums, file, &name[..length]);
-    libc::close(file);
-    after
 }
 
 // An open file, read up to a byte more than the longest listing has.
-fn add_open(sums: sums::Sums, file: i32, name: &[u8]) -> sums::Sums {
+fn add_open<R: Alloc>(
+    rt: &R,
+    errors: &mut impl Write,
+    sums: sums::Sums,
+    file: &mut impl Read,
+    name: &[u8],
+) -> sums::Sums {
     let mut text = [0u8; 65537];
-    let got = io::read_full(file, &mut text);
+    let got = console::read_full(file, &mut text);
     let mut more = [0u8; 1];
-    if libc::read(file, &mut more) < 0 {
-        os::fail(name);
+    if let Err(e) = file.read(&mut more) {
+        let _ = notices::not_read(errors, rt.alloc(), name, e);
         return sums;
     }
-    add_text(sums, name, &text[..got])
+    add_text(errors, sums, name, &text[..got])
 }
 
 // A listing's bytes added; where they are refused, that is told and the sums stay.
-fn add_text(sums: sums::Sums, name: &[u8], text: &[u8]) -> sums::Sums
+fn add_text(errors: &mut impl Write, sums: sums::Sums, name: &[u8], text: &[u8]) -> sums::Sums
     ensures { result ≡ (added sums text.now).sums }
 {
     let out = sums::add_listing(sums, text);
     let after = out.sums;
     if out.number != 0 {
-        notices::file_refused(name, out.number, text, out.at);
+        let _ = notices::file_refused(errors, name, out.number, text, out.at);
     }
     after
 }

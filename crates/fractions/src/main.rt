@@ -7,70 +7,81 @@ mod arguments;
 mod files;
 mod notices;
 
-use libc::STDOUT_FILENO;
+use std::env::Env;
+use std::io;
+use std::io::Write;
+use std::rt::Files;
 
-fn main() {
-    let count = os::arg_count();
+fn main(rt: HostRuntime) {
+    let mut errors = rt.stderr();
+    let count = arguments::count(&rt);
     if count < 4 {
-        notices::usage();
+        let _ = notices::usage(&mut errors);
         return;
     }
-    let n = arguments::number_argument(1);
-    let w = arguments::number_argument(2);
+    let n = arguments::number_argument(&rt, 1);
+    let w = arguments::number_argument(&rt, 2);
     if arguments::LARGEST < n {
-        notices::usage();
+        let _ = notices::usage(&mut errors);
         return;
     }
     if arguments::LARGEST < w {
-        notices::usage();
+        let _ = notices::usage(&mut errors);
         return;
     }
+    let mut table_to = rt.stdout();
     let empty = sums::empty_sums(n, w);
     let number = sums::table_of(empty).number;
     if number != 0 {
-        notices::refused(STDOUT_FILENO, number);
+        let _ = notices::refused(&mut table_to, number);
         return;
     }
-    let sums = season(empty, count);
-    notices::taken(sums.taken, count);
+    let sums = season(&rt, &mut errors, empty, count);
+    let _ = notices::taken(&mut table_to, sums.taken, count);
     let table = sums::table_of(sums);
     let rows = table.rows;
-    print_rows(rows, n as usize);
+    let _ = print_rows(&mut table_to, rows, n as usize);
 }
 
 // The files of the arguments from 3 on, one after the other.
-fn season(empty: sums::Sums, count: usize) -> sums::Sums {
+fn season<R: Env + Files + Alloc>(
+    rt: &R,
+    errors: &mut impl Write,
+    empty: sums::Sums,
+    count: usize,
+) -> sums::Sums {
     let mut sums = empty;
     let mut i = 3;
     while i < count {
-        let next = files::add_file(sums, i);
+        let next = files::add_file(rt, errors, sums, i);
         sums = next;
         i += 1;
-        notices::progress(i, count);
+        let _ = notices::progress(errors, i, count);
     }
     sums
 }
 
 // A line for each process below n: its number and its two fractions.
-fn print_rows(rows: [sums::Row; 16], n: usize) {
+fn print_rows(to: &mut impl Write, rows: [sums::Row; 16], n: usize) -> io::Result<()> {
     let mut k = 0;
     while k < n {
         if 16 <= k {
-            return;
+            return Ok(());
         }
         let row = rows[k];
-        io::print_decimal(STDOUT_FILENO, k as u64);
-        print_fraction(row.successes);
-        print_fraction(row.steps);
-        io::write_all(STDOUT_FILENO, b"\n");
+        saying::number(to, k as u64)?;
+        print_fraction(to, row.successes)?;
+        print_fraction(to, row.steps)?;
+        saying::say(to, b"\n")?;
         k += 1;
     }
+    Ok(())
 }
 
 // A fraction after a space.
-fn print_fraction(f: sums::Fraction) {
-    io::write_all(STDOUT_FILENO, b" ");
-    io::print_decimal(STDOUT_FILENO, f.over);
-    io::write_all(STDOUT_FILENO, b"/");
-    io::print_decimal(STDOUT_FILENO, f.under);
+fn print_fraction(to: &mut impl Write, f: sums::Fraction) -> io::Result<()> {
+    saying::say(to, b" ")?;
+    saying::number(to, f.over)?;
+    saying::say(to, b"/")?;
+    saying::number(to, f.under)
 }

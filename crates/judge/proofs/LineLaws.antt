@@ -2,80 +2,16 @@
 use mathlib.Core.Path.{◌≡◌, sym, ap, ap₂, ◌∙◌}
 use Prim.Native.Nat.{ℕ, ◌+◌, ◌≤◌, ◌<◌}
 use mathlib.Core.List.{List}
-use mathlib.Core.Bool.{Bool, true, false, not, cond}
+use mathlib.Core.Bool.{Bool, cond}
 use native.Mathlib.Numerals.{add-one}
-use lib.Dec.{eqb, ltb}
 use lib.ListN.{length, get_or, drop, drop_of_length-le}
 use lib.Seq.{drop-cons}
-use borrow.Author.Tests.{eq-eqb, ne_eqb, lt-ltb, le-ltb}
+use borrow.Author.Tests.{eq-eqb, ne_eqb}
 use Rattle.positions.specs.Positions.{is_digit}
 use Rattle.judge.specs.declared.log_lines.Lines.{Lines}
-use Rattle.judge.specs.LogLines.{more_by, together_of, begins_at, is_odd_line, ended_line, within_line, on_byte, lines_from}
-
--- one more, or as many where a count is full
-module _ (n : ℕ) (t : Bool) (e : t ≡ true) where
-  counts : more_by n t ≡ cond (ltb n 18446744073709551615) (n + 1) n
-  counts = ap (λ t. cond t (cond (ltb n 18446744073709551615) (n + 1) n) n) e
-
-  pub one_more : n < 18446744073709551615 → n + 1 ≡ more_by n t
-  one_more h = sym (counts ∙ ap (λ b. cond b (n + 1) n) (lt-ltb n 18446744073709551615 h))
-
-  pub no_more : 18446744073709551615 ≤ n → n ≡ more_by n t
-  no_more h = sym (counts ∙ ap (λ b. cond b (n + 1) n) (le-ltb n 18446744073709551615 h))
-
-module _ (a b : ℕ) where
-  added : Bool → ℕ
-  added t = cond t (cond (ltb b 9223372036854775807) (a + b) a) a
-
-  pub large_first : 9223372036854775807 ≤ a → a ≡ together_of a b
-  unfolding added
-  large_first h = sym (ap added (le-ltb a 9223372036854775807 h))
-
-  module _ (h : a < 9223372036854775807) where
-    small_first : together_of a b ≡ cond (ltb b 9223372036854775807) (a + b) a
-    unfolding added
-    small_first = ap added (lt-ltb a 9223372036854775807 h)
-
-    pub both_small : b < 9223372036854775807 → a + b ≡ together_of a b
-    both_small k = sym (small_first ∙ ap (λ t. cond t (a + b) a) (lt-ltb b 9223372036854775807 k))
-
-    pub large_second : 9223372036854775807 ≤ b → a ≡ together_of a b
-    large_second k = sym (small_first ∙ ap (λ t. cond t (a + b) a) (le-ltb b 9223372036854775807 k))
+use Rattle.judge.specs.LogLines.{more_by, begins_at, ended_line, within_line, on_byte, lines_from}
 
 module _ (s : Lines) (w : ℕ) where
-  abbrev late : Bool
-  late = not (eqb s.here (6 + w))
-
-  abbrev early : Bool
-  early = ltb (2 + w) (together_of s.before s.here)
-
-  abbrev filled : Bool → Bool
-  filled t = cond t false (cond (ltb s.before (2 + w)) early late)
-
-  abbrev first : Bool → Bool
-  first t = cond t (filled (eqb s.here 0)) false
-
-  pub odd_known : (s.odd ≡ 0 → ⊥) → false ≡ is_odd_line s w
-  odd_known n = sym (ap first (ne_eqb s.odd 0 n))
-
-  module _ (e : s.odd ≡ 0) where
-    so_far : is_odd_line s w ≡ filled (eqb s.here 0)
-    so_far = ap first (eq-eqb s.odd 0 e)
-
-    pub empty_line : s.here ≡ 0 → false ≡ is_odd_line s w
-    empty_line h = sym (so_far ∙ ap filled (eq-eqb s.here 0 h))
-
-    module _ (n : s.here ≡ 0 → ⊥) where
-      has_numbers : is_odd_line s w ≡ cond (ltb s.before (2 + w)) early late
-      has_numbers = so_far ∙ ap filled (ne_eqb s.here 0 n)
-
-      pub first_lines : (k : ℕ) → k ≡ together_of s.before s.here → s.before < 2 + w → ltb (2 + w) k ≡ is_odd_line s w
-      first_lines k g h =
-          ap (ltb (2 + w)) g ∙ sym (has_numbers ∙ ap (λ t. cond t early late) (lt-ltb s.before (2 + w) h))
-
-      pub later_lines : 2 + w ≤ s.before → late ≡ is_odd_line s w
-      later_lines h = sym (has_numbers ∙ ap (λ t. cond t early late) (le-ltb s.before (2 + w) h))
-
   module _ (b : ℕ) where
     abbrev byte : Bool → Lines
     byte t = cond t (ended_line s w) (within_line b s)

@@ -3,6 +3,8 @@ ghost use Rattle.std.specs.Prelude.{◌≡◌, ◌≤◌, ◌-◌, length, get_o
 ghost use Rattle.judge.specs.LogCalls.{width_told, first_of, part_of};
 
 use logtext::number_places;
+use std::io;
+use std::io::Write;
 
 pub(crate) const PROCESS: usize = 0;
 
@@ -69,42 +71,49 @@ pub(crate) fn after(numbers: &[u64], index: usize) -> u64
 }
 
 // The line in which a call begins.
-pub(crate) fn line(numbers: &[u64], call: usize, text: &[u8]) {
+pub(crate) fn line(
+    to: &mut impl Write,
+    numbers: &[u64],
+    call: usize,
+    text: &[u8],
+) -> io::Result<()> {
     saying::line(
+        to,
         text,
         number_places::number_place(text, first_of(numbers, call)),
-    );
+    )
 }
 
 // A call by its process and kind.
-pub(crate) fn name(numbers: &[u64], call: usize) {
-    saying::say(b"process ");
-    saying::number(part(numbers, call, PROCESS));
-    saying::say(b"'s ");
+pub(crate) fn name(to: &mut impl Write, numbers: &[u64], call: usize) -> io::Result<()> {
+    saying::say(to, b"process ")?;
+    saying::number(to, part(numbers, call, PROCESS))?;
+    saying::say(to, b"'s ")?;
     match part(numbers, call, KIND) {
-        1 => saying::say(b"LL"),
-        2 => saying::say(b"SC"),
-        3 => saying::say(b"VL"),
-        _ => saying::say(b"call"),
+        1 => saying::say(to, b"LL"),
+        2 => saying::say(to, b"SC"),
+        3 => saying::say(to, b"VL"),
+        _ => saying::say(to, b"call"),
     }
 }
 
 // The W numbers from an index on.
-pub(crate) fn words(numbers: &[u64], from: usize)
+pub(crate) fn words(to: &mut impl Write, numbers: &[u64], from: usize) -> io::Result<()>
     requires { from ≤ 5000006 }
 {
     let w = width(numbers);
     let mut k = 0;
     while k < w {
-        word(at(numbers, from + k), k);
+        word(to, at(numbers, from + k), k)?;
         k += 1;
     }
+    Ok(())
 }
 
 // A word, with a space after the one before it.
-fn word(n: u64, k: usize) {
+fn word(to: &mut impl Write, n: u64, k: usize) -> io::Result<()> {
     if k > 0 {
-        saying::say(b" ");
+        saying::say(to, b" ")?;
     }
-    saying::number(n);
+    saying::number(to, n)
 }

@@ -4,6 +4,8 @@ ghost use Rattle.judge.specs.LogLines.{more_by, together_of, begins_at, is_odd_l
 ghost use Rattle.judge.specs.LogLines.{on_byte};
 
 use crate::calls;
+use std::io;
+use std::io::Write;
 
 // The line at which the reader is, from 1 on; the numbers before it and in it; whether the last byte is a digit. Lines of
 // so many numbers as a call has, and the first other one after the value: its line, 0 for none, its numbers, and how many
@@ -20,32 +22,34 @@ struct Lines {
     from: usize,
 }
 
-pub(crate) fn remark(numbers: &[u64], text: &[u8]) {
+pub(crate) fn remark(to: &mut impl Write, numbers: &[u64], text: &[u8]) -> io::Result<()> {
     let w = calls::width(numbers);
     if w == 0 {
-        return;
+        return Ok(());
     }
     let seen = looked(text, w);
     if seen.odd == 0 {
-        return;
+        return Ok(());
     }
     if seen.calls == 0 {
-        return;
+        return Ok(());
     }
-    saying::say(b"line ");
-    saying::number(seen.odd as u64);
-    saying::say(b" has ");
-    saying::number(seen.numbers as u64);
-    saying::say(b" numbers");
+    saying::say(to, b"line ")?;
+    saying::number(to, seen.odd as u64)?;
+    saying::say(to, b" has ")?;
+    saying::number(to, seen.numbers as u64)?;
+    saying::say(to, b" numbers")?;
     if seen.from < 2 + w {
-        saying::say(b", of the value and of a call: one of N, W and the value may be lost\n");
-        return;
+        return saying::say(
+            to,
+            b", of the value and of a call: one of N, W and the value may be lost\n",
+        );
     }
-    saying::say(b"; a call of W = ");
-    saying::number(w as u64);
-    saying::say(b" has ");
-    saying::number((6 + w) as u64);
-    saying::say(b"\n");
+    saying::say(to, b"; a call of W = ")?;
+    saying::number(to, w as u64)?;
+    saying::say(to, b" has ")?;
+    saying::number(to, (6 + w) as u64)?;
+    saying::say(to, b"\n")
 }
 
 fn looked(text: &[u8], w: usize) -> Lines

@@ -13,28 +13,36 @@ mod why;
 ghost use Rattle.std.specs.Prelude.{◌≡◌, ◌≤◌, length, replicate};
 
 use logtext::Reading;
+use std::io;
+use std::io::Write;
 use verdicts::{Judgement, Verdict};
 
-fn main() {
+fn main(rt: HostRuntime) {
     let mut text = text_room();
-    let got = io::read_full(0, &mut text);
+    let got = console::read_full(&mut rt.stdin(), &mut text);
+    let mut errors = rt.stderr();
     if got == text.len() {
-        faults::too_long();
+        let _ = faults::too_long(&mut errors);
         return;
     }
     let given = &text[..got];
     let mut numbers = number_room();
     let reading = logtext::read(given, &mut numbers);
-    told(reading, &numbers, given);
+    let _ = told(&mut rt.stdout(), &mut errors, reading, &numbers, given);
 }
 
 // What there is to say once the text is read.
-fn told(reading: Reading, numbers: &[u64], text: &[u8]) {
+fn told(
+    to: &mut impl Write,
+    errors: &mut impl Write,
+    reading: Reading,
+    numbers: &[u64],
+    text: &[u8],
+) -> io::Result<()> {
     if reading.fault != 0 {
-        faults::tell(reading.fault, reading.count, text);
-        return;
+        return faults::tell(errors, reading.fault, reading.count, text);
     }
-    answer(numbers, reading.count, text);
+    answer(to, errors, numbers, reading.count, text)
 }
 
 // Room for 512 calls of 64 words and their spaces, twice and more.
@@ -54,39 +62,52 @@ fn number_room() -> [u64; 65536]
 }
 
 // The verdict on the first numbers of the room, and why it is not yes.
-fn answer(numbers: &[u64], count: usize, text: &[u8]) {
+fn answer(
+    to: &mut impl Write,
+    errors: &mut impl Write,
+    numbers: &[u64],
+    count: usize,
+    text: &[u8],
+) -> io::Result<()> {
     if count < 2 {
-        faults::lacks_n_and_w(count);
-        return;
+        return faults::lacks_n_and_w(errors, count);
     }
     if count <= numbers.len() {
-        judged(&numbers[..count], text);
+        return judged(to, errors, &numbers[..count], text);
     }
+    Ok(())
 }
 
-fn judged(numbers: &[u64], text: &[u8])
+fn judged(
+    to: &mut impl Write,
+    errors: &mut impl Write,
+    numbers: &[u64],
+    text: &[u8],
+) -> io::Result<()>
     requires { 2 ≤ length numbers.now }
 {
     let judgement = logtext::judge_numbers(numbers);
-    print(judgement);
-    why::explain(judgement, numbers, text);
+    print(to, errors, judgement)?;
+    why::explain(errors, judgement, numbers, text)
 }
 
-fn print(judgement: Judgement) {
+fn print(to: &mut impl Write, errors: &mut impl Write, judgement: Judgement) -> io::Result<()> {
     let verdict = judgement.verdict;
     match verdict {
-        Verdict::Yes => out(b"yes\n"),
-        Verdict::No => out(b"no\n"),
+        Verdict::Yes => out(to, errors, b"yes\n"),
+        Verdict::No => out(to, errors, b"no\n"),
         Verdict::Refused(number) => {
-            out(b"refused ");
-            io::print_decimal(1, number as u64);
-            out(b"\n");
+            out(to, errors, b"refused ")?;
+            let _ = console::print_decimal(to, number as u64);
+            out(to, errors, b"\n")
         }
     }
 }
 
-fn out(bytes: &[u8]) {
-    if !io::write_all(1, bytes) {
-        saying::say(b"standard output could not be written\n");
+// What can't be written to standard output is told on standard error.
+fn out(to: &mut impl Write, errors: &mut impl Write, bytes: &[u8]) -> io::Result<()> {
+    if to.write_all(bytes).is_err() {
+        return saying::say(errors, b"standard output could not be written\n");
     }
+    Ok(())
 }

@@ -1,121 +1,129 @@
 // Why the verdict is not yes.
 use crate::{calls, log_lines, refusals};
+use std::io;
+use std::io::Write;
 use verdicts::{Judgement, Reason, Verdict};
 
-pub(crate) fn explain(judgement: Judgement, numbers: &[u64], text: &[u8]) {
+pub(crate) fn explain(
+    to: &mut impl Write,
+    judgement: Judgement,
+    numbers: &[u64],
+    text: &[u8],
+) -> io::Result<()> {
     let verdict = judgement.verdict;
     let reason = judgement.reason;
     match verdict {
-        Verdict::Yes => {}
+        Verdict::Yes => Ok(()),
         Verdict::No => {
-            no(reason, numbers, text);
-            log_lines::remark(numbers, text);
+            no(to, reason, numbers, text)?;
+            log_lines::remark(to, numbers, text)
         }
         Verdict::Refused(number) => {
-            refusals::refused(number, reason, numbers, text);
-            log_lines::remark(numbers, text);
+            refusals::refused(to, number, reason, numbers, text)?;
+            log_lines::remark(to, numbers, text)
         }
     }
 }
 
-fn no(reason: Reason, numbers: &[u64], text: &[u8]) {
-    saying::say(b"no: condition ");
-    saying::number(reason.condition as u64);
-    saying::say(b": ");
+fn no(to: &mut impl Write, reason: Reason, numbers: &[u64], text: &[u8]) -> io::Result<()> {
+    saying::say(to, b"no: condition ")?;
+    saying::number(to, reason.condition as u64)?;
+    saying::say(to, b": ")?;
     let condition = reason.condition;
     match condition {
-        1 => kind(reason, numbers, text),
-        2 => overlap(reason, numbers, text),
-        3 => moment(reason, numbers, text),
-        4 => outside(reason, numbers, text),
-        5 => answer(reason, numbers, text),
-        _ => no_ll(reason, numbers, text),
-    }
-    saying::say(b"\n");
+        1 => kind(to, reason, numbers, text),
+        2 => overlap(to, reason, numbers, text),
+        3 => moment(to, reason, numbers, text),
+        4 => outside(to, reason, numbers, text),
+        5 => answer(to, reason, numbers, text),
+        _ => no_ll(to, reason, numbers, text),
+    }?;
+    saying::say(to, b"\n")
 }
 
-fn kind(reason: Reason, numbers: &[u64], text: &[u8]) {
-    calls::line(numbers, reason.call, text);
-    saying::say(b": ");
-    calls::name(numbers, reason.call);
-    saying::say(b" has the kind ");
-    saying::number(calls::part(numbers, reason.call, calls::KIND));
-    saying::say(b", not 1 (LL), 2 (SC) or 3 (VL)");
+fn kind(to: &mut impl Write, reason: Reason, numbers: &[u64], text: &[u8]) -> io::Result<()> {
+    calls::line(to, numbers, reason.call, text)?;
+    saying::say(to, b": ")?;
+    calls::name(to, numbers, reason.call)?;
+    saying::say(to, b" has the kind ")?;
+    saying::number(to, calls::part(numbers, reason.call, calls::KIND))?;
+    saying::say(to, b", not 1 (LL), 2 (SC) or 3 (VL)")
 }
 
 // The lines of both calls.
-fn both_lines(reason: Reason, numbers: &[u64], text: &[u8]) {
-    calls::line(numbers, reason.call, text);
-    saying::say(b" and ");
-    calls::line(numbers, reason.other, text);
-    saying::say(b": ");
+fn both_lines(to: &mut impl Write, reason: Reason, numbers: &[u64], text: &[u8]) -> io::Result<()> {
+    calls::line(to, numbers, reason.call, text)?;
+    saying::say(to, b" and ")?;
+    calls::line(to, numbers, reason.other, text)?;
+    saying::say(to, b": ")
 }
 
-fn overlap(reason: Reason, numbers: &[u64], text: &[u8]) {
-    both_lines(reason, numbers, text);
-    span(numbers, reason.call);
-    saying::say(b" and ");
-    span(numbers, reason.other);
-    saying::say(b" overlap");
+fn overlap(to: &mut impl Write, reason: Reason, numbers: &[u64], text: &[u8]) -> io::Result<()> {
+    both_lines(to, reason, numbers, text)?;
+    span(to, numbers, reason.call)?;
+    saying::say(to, b" and ")?;
+    span(to, numbers, reason.other)?;
+    saying::say(to, b" overlap")
 }
 
-fn span(numbers: &[u64], call: usize) {
-    calls::name(numbers, call);
-    saying::say(b" from ");
-    saying::number(calls::part(numbers, call, calls::START));
-    saying::say(b" to ");
-    saying::number(calls::part(numbers, call, calls::ANSWER));
+fn span(to: &mut impl Write, numbers: &[u64], call: usize) -> io::Result<()> {
+    calls::name(to, numbers, call)?;
+    saying::say(to, b" from ")?;
+    saying::number(to, calls::part(numbers, call, calls::START))?;
+    saying::say(to, b" to ")?;
+    saying::number(to, calls::part(numbers, call, calls::ANSWER))
 }
 
-fn moment(reason: Reason, numbers: &[u64], text: &[u8]) {
-    both_lines(reason, numbers, text);
-    calls::name(numbers, reason.call);
-    saying::say(b" and ");
-    calls::name(numbers, reason.other);
-    saying::say(b" have one moment, ");
-    saying::number(calls::part(numbers, reason.call, calls::MOMENT));
+fn moment(to: &mut impl Write, reason: Reason, numbers: &[u64], text: &[u8]) -> io::Result<()> {
+    both_lines(to, reason, numbers, text)?;
+    calls::name(to, numbers, reason.call)?;
+    saying::say(to, b" and ")?;
+    calls::name(to, numbers, reason.other)?;
+    saying::say(to, b" have one moment, ")?;
+    saying::number(to, calls::part(numbers, reason.call, calls::MOMENT))
 }
 
-fn outside(reason: Reason, numbers: &[u64], text: &[u8]) {
-    calls::line(numbers, reason.call, text);
-    saying::say(b": ");
-    span(numbers, reason.call);
-    saying::say(b" has the moment ");
-    saying::number(calls::part(numbers, reason.call, calls::MOMENT));
-    saying::say(b", not after its start and by its answer");
+fn outside(to: &mut impl Write, reason: Reason, numbers: &[u64], text: &[u8]) -> io::Result<()> {
+    calls::line(to, numbers, reason.call, text)?;
+    saying::say(to, b": ")?;
+    span(to, numbers, reason.call)?;
+    saying::say(to, b" has the moment ")?;
+    saying::number(to, calls::part(numbers, reason.call, calls::MOMENT))?;
+    saying::say(to, b", not after its start and by its answer")
 }
 
-fn answer(reason: Reason, numbers: &[u64], text: &[u8]) {
-    calls::line(numbers, reason.call, text);
-    saying::say(b": ");
-    calls::name(numbers, reason.call);
-    saying::say(b" answered ");
+fn answer(to: &mut impl Write, reason: Reason, numbers: &[u64], text: &[u8]) -> io::Result<()> {
+    calls::line(to, numbers, reason.call, text)?;
+    saying::say(to, b": ")?;
+    calls::name(to, numbers, reason.call)?;
+    saying::say(to, b" answered ")?;
     if calls::part(numbers, reason.call, calls::KIND) == 1 {
-        calls::words(numbers, calls::first_of(numbers, reason.call) + 6);
-        saying::say(b"; Figure 1's object answers ");
-        held(reason, numbers, text);
-        return;
+        calls::words(to, numbers, calls::first_of(numbers, reason.call) + 6)?;
+        saying::say(to, b"; Figure 1's object answers ")?;
+        return held(to, reason, numbers, text);
     }
-    saying::number(calls::part(numbers, reason.call, calls::TRUTH));
-    saying::say(b"; Figure 1's object answers ");
-    saying::number(reason.truth as u64);
+    saying::number(to, calls::part(numbers, reason.call, calls::TRUTH))?;
+    saying::say(to, b"; Figure 1's object answers ")?;
+    saying::number(to, reason.truth as u64)
 }
 
 // The words that the object holds, and whose they are.
-fn held(reason: Reason, numbers: &[u64], text: &[u8]) {
+fn held(to: &mut impl Write, reason: Reason, numbers: &[u64], text: &[u8]) -> io::Result<()> {
     if reason.given {
-        calls::words(numbers, 2);
-        saying::say(b", the value");
-        return;
+        calls::words(to, numbers, 2)?;
+        return saying::say(to, b", the value");
     }
-    calls::words(numbers, calls::first_of(numbers, reason.other) + 6);
-    saying::say(b", written by the SC of ");
-    calls::line(numbers, reason.other, text);
+    calls::words(to, numbers, calls::first_of(numbers, reason.other) + 6)?;
+    saying::say(to, b", written by the SC of ")?;
+    calls::line(to, numbers, reason.other, text)
 }
 
-fn no_ll(reason: Reason, numbers: &[u64], text: &[u8]) {
-    calls::line(numbers, reason.call, text);
-    saying::say(b": ");
-    calls::name(numbers, reason.call);
-    saying::say(b" has no LL of its process before it in the order of the moments");
+fn no_ll(to: &mut impl Write, reason: Reason, numbers: &[u64], text: &[u8]) -> io::Result<()> {
+    calls::line(to, numbers, reason.call, text)?;
+    saying::say(to, b": ")?;
+    calls::name(to, numbers, reason.call)?;
+    saying::say(
+        to,
+        b" has no LL of its process before it in the order of the moments",
+    )
 }

@@ -1,6 +1,6 @@
 -- Kind, line and word moves of every program point of Figure 2, by computation.
 use mathlib.Core.Path.{◌≡◌, refl}
-use mathlib.Core.List.{List, [], ◌∷◌, map}
+use mathlib.Core.List.{[], ◌∷◌, map}
 use Rattle.model.specs.Points.{Point, idle, line_number, busy_points}
 use Rattle.messages.specs.OpenCalls.{kind_of, figure_line, moves_of}
 

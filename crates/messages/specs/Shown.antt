@@ -1,5 +1,5 @@
 -- What a message shows of a text.
-use Rattle.std.specs.Prelude.{ℕ, suc, min, List, [], ◌∷◌, Bool, true, false, ◌&&◌, cond, eqb, leb, length, get_or}
+use Rattle.std.specs.Prelude.{ℕ, suc, min, List, [], ◌∷◌, Bool, true, ◌&&◌, cond, eqb, leb, length, get_or}
 use Rattle.positions.specs.Positions.{is_digit}
 
 -- the bytes of an item that is no group (01: "a process number and directly `l`, `v`, `.`, `!`, or `s` with a number")

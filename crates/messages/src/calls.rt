@@ -4,6 +4,8 @@ ghost use Rattle.std.specs.Prelude.{◌≡◌, ◌<◌};
 ghost use Rattle.messages.specs.OpenCalls.{place_of};
 
 use llsc::ProcessNumber;
+use std::io;
+use std::io::Write;
 
 pub const IDLE: u8 = 0;
 
@@ -48,74 +50,71 @@ pub fn process_number(p: u64) -> ProcessNumber
 }
 
 // The line of process p, if its call is open.
-pub fn open_line(p: usize, method: Method, call: Call) {
+pub fn open_line(to: &mut impl Write, p: usize, method: Method, call: Call) -> io::Result<()> {
     if call.kind == IDLE {
-        return;
+        return Ok(());
     }
-    saying::say(b"open: process ");
-    saying::number(p as u64);
-    saying::say(b", ");
-    told(method, call);
-    saying::say(b"\n");
+    saying::say(to, b"open: process ")?;
+    saying::number(to, p as u64)?;
+    saying::say(to, b", ")?;
+    told(to, method, call)?;
+    saying::say(to, b"\n")
 }
 
 // Whether the process that a command named is idle, or its call.
-pub(crate) fn busy_or_idle(method: Method, call: Call) {
+pub(crate) fn busy_or_idle(to: &mut impl Write, method: Method, call: Call) -> io::Result<()> {
     if call.kind == IDLE {
-        saying::say(b" is idle");
-        return;
+        return saying::say(to, b" is idle");
     }
-    saying::say(b" is busy: ");
-    told(method, call);
+    saying::say(to, b" is busy: ")?;
+    told(to, method, call)
 }
 
-fn told(method: Method, call: Call) {
-    kind(call.kind);
-    saying::say(b", line ");
-    saying::number(call.line as u64);
-    saying::say(b" of Figure ");
-    saying::number(method.figure as u64);
-    word(method.w, call.moves, call.place);
-    saying::say(b" next, ");
-    saying::number(call.count as u64);
+fn told(to: &mut impl Write, method: Method, call: Call) -> io::Result<()> {
+    kind(to, call.kind)?;
+    saying::say(to, b", line ")?;
+    saying::number(to, call.line as u64)?;
+    saying::say(to, b" of Figure ")?;
+    saying::number(to, method.figure as u64)?;
+    word(to, method.w, call.moves, call.place)?;
+    saying::say(to, b" next, ")?;
+    saying::number(to, call.count as u64)?;
     if call.count == 1 {
-        saying::say(b" own step so far");
-        return;
+        return saying::say(to, b" own step so far");
     }
-    saying::say(b" own steps so far");
+    saying::say(to, b" own steps so far")
 }
 
-fn kind(kind: u8) {
+fn kind(to: &mut impl Write, kind: u8) -> io::Result<()> {
     match kind {
-        LL => saying::say(b"LL"),
-        VL => saying::say(b"VL"),
-        _ => saying::say(b"SC"),
+        LL => saying::say(to, b"LL"),
+        VL => saying::say(to, b"VL"),
+        _ => saying::say(to, b"SC"),
     }
 }
 
 // The word of a line that moves words, from 0 on as in a trace.
-fn word(w: u64, moves: u8, place: usize) {
+fn word(to: &mut impl Write, w: u64, moves: u8, place: usize) -> io::Result<()> {
     match moves {
-        WHOLE => word_of(place, w),
+        WHOLE => word_of(to, place, w),
         HALVES => {
-            word_of(place / 2, w);
-            half(place % 2);
+            word_of(to, place / 2, w)?;
+            half(to, place % 2)
         }
-        _ => {}
+        _ => Ok(()),
     }
 }
 
-fn word_of(k: usize, w: u64) {
-    saying::say(b", word ");
-    saying::number(k as u64);
-    saying::say(b" of ");
-    saying::number(w);
+fn word_of(to: &mut impl Write, k: usize, w: u64) -> io::Result<()> {
+    saying::say(to, b", word ")?;
+    saying::number(to, k as u64)?;
+    saying::say(to, b" of ")?;
+    saying::number(to, w)
 }
 
-fn half(half: usize) {
+fn half(to: &mut impl Write, half: usize) -> io::Result<()> {
     if half == 0 {
-        saying::say(b", low half");
-        return;
+        return saying::say(to, b", low half");
     }
-    saying::say(b", high half");
+    saying::say(to, b", high half")
 }

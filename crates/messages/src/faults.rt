@@ -3,6 +3,8 @@ ghost use Rattle.std.specs.Prelude.{◌≡◌};
 ghost use Rattle.messages.specs.Shown.{is_order_mark};
 
 use positions::Seen;
+use std::io;
+use std::io::Write;
 
 // The bytes with which some editors begin a text.
 const MARK_0: u8 = 239;
@@ -12,40 +14,44 @@ const MARK_1: u8 = 187;
 const MARK_2: u8 = 191;
 
 // The text is split at the fault's place.
-pub(crate) fn fault(number: u8, before: &[u8], rest: &[u8]) {
+pub(crate) fn fault(to: &mut impl Write, number: u8, before: &[u8], rest: &[u8]) -> io::Result<()> {
     let s = positions::look(before);
-    saying::say(b"line ");
-    saying::next(s.feeds);
-    saying::say(b", column ");
-    saying::next(s.since);
-    saying::say(b": ");
+    saying::say(to, b"line ")?;
+    saying::next(to, s.feeds)?;
+    saying::say(to, b", column ")?;
+    saying::next(to, s.since)?;
+    saying::say(to, b": ")?;
     if number == 11 {
-        saying::say(b"groups nest at most eight deep, and this ( would open a ninth");
-        return;
+        return saying::say(
+            to,
+            b"groups nest at most eight deep, and this ( would open a ninth",
+        );
     }
     if rest.len() == 0 {
-        expected(s, true, 0);
-        saying::say(b"; here the text ends");
-        unclosed(before);
-        return;
+        expected(to, s, true, 0)?;
+        saying::say(to, b"; here the text ends")?;
+        return unclosed(to, before);
     }
     if is_order_mark(rest) {
-        saying::say(b"the text begins with a byte order mark; save it as plain text, without one");
-        return;
+        return saying::say(
+            to,
+            b"the text begins with a byte order mark; save it as plain text, without one",
+        );
     }
     let here = rest[0];
-    expected(s, false, here);
-    saying::say(b"; here is ");
-    saying::byte(here);
+    expected(to, s, false, here)?;
+    saying::say(to, b"; here is ")?;
+    saying::byte(to, here)
 }
 
 // Where the group begins that is open at the text's end.
-fn unclosed(text: &[u8]) {
+fn unclosed(to: &mut impl Write, text: &[u8]) -> io::Result<()> {
     let at = saying::within(positions::unclosed(text), text);
     if at < text.len() {
-        saying::say(b"; its ( is at ");
-        saying::place(positions::look(&text[..at]));
+        saying::say(to, b"; its ( is at ")?;
+        saying::place(to, positions::look(&text[..at]))?;
     }
+    Ok(())
 }
 
 fn is_order_mark(rest: &[u8]) -> bool
@@ -63,100 +69,98 @@ fn is_order_mark(rest: &[u8]) -> bool
     rest[2] == MARK_2
 }
 
-fn expected(s: Seen, ended: bool, here: u8) {
+fn expected(to: &mut impl Write, s: Seen, ended: bool, here: u8) -> io::Result<()> {
     if positions::is_digit(s.last) {
         if positions::is_digit(here) {
-            stray_digit(s);
-            return;
+            return stray_digit(to, s);
         }
     }
     if s.feeds == 0 {
-        in_first_line(s.spaces, positions::is_digit(s.last));
-        return;
+        return in_first_line(to, s.spaces, positions::is_digit(s.last));
     }
-    in_items(s, ended, here);
+    in_items(to, s, ended, here)
 }
 
 // A digit after a digit is wrong only after a leading zero, or where it makes the number too large.
-fn stray_digit(s: Seen) {
+fn stray_digit(to: &mut impl Write, s: Seen) -> io::Result<()> {
     if s.last == b'0' {
         if !positions::is_digit(s.earlier) {
-            saying::say(b"a number has no leading zero");
-            return;
+            return saying::say(to, b"a number has no leading zero");
         }
     }
-    saying::say(b"a number is at most 4,294,967,295");
+    saying::say(to, b"a number is at most 4,294,967,295")
 }
 
 // The first line is N, W and the initial number.
-fn in_first_line(spaces: usize, in_number: bool) {
+fn in_first_line(to: &mut impl Write, spaces: usize, in_number: bool) -> io::Result<()> {
     if in_number {
-        match spaces {
-            0 => saying::say(b"after N comes one space"),
-            1 => saying::say(b"after W comes one space"),
-            _ => saying::say(b"after the initial number comes a line feed"),
-        }
-        return;
+        return match spaces {
+            0 => saying::say(to, b"after N comes one space"),
+            1 => saying::say(to, b"after W comes one space"),
+            _ => saying::say(to, b"after the initial number comes a line feed"),
+        };
     }
     match spaces {
-        0 => saying::say(b"the text begins with N, a number"),
-        1 => saying::say(b"after N and one space comes W, a number"),
-        _ => saying::say(b"after W and one space comes the initial number"),
+        0 => saying::say(to, b"the text begins with N, a number"),
+        1 => saying::say(to, b"after N and one space comes W, a number"),
+        _ => saying::say(to, b"after W and one space comes the initial number"),
     }
 }
 
 // What is expected is told by the last byte.
-fn in_items(s: Seen, ended: bool, here: u8) {
+fn in_items(to: &mut impl Write, s: Seen, ended: bool, here: u8) -> io::Result<()> {
     let last = s.last;
     match last {
-        b'0'..=b'9' => after_digit(s.mark, ended, here),
-        b's' => saying::say(b"after s comes a number"),
-        b'\n' | b' ' | b'(' => before_item(s.solid, ended, here),
-        _ => after_item(ended, here),
+        b'0'..=b'9' => after_digit(to, s.mark, ended, here),
+        b's' => saying::say(to, b"after s comes a number"),
+        b'\n' | b' ' | b'(' => before_item(to, s.solid, ended, here),
+        _ => after_item(to, ended, here),
     }
 }
 
 // The number is the value of an `s`, or the first of its item.
-fn after_digit(mark: u8, ended: bool, here: u8) {
+fn after_digit(to: &mut impl Write, mark: u8, ended: bool, here: u8) -> io::Result<()> {
     if mark == b's' {
-        after_item(ended, here);
-        return;
+        return after_item(to, ended, here);
     }
     if here == b'(' {
-        saying::say(b"the count of a group is 1 to 255");
-        return;
+        return saying::say(to, b"the count of a group is 1 to 255");
     }
-    saying::say(b"after a process number comes one of l v . ! s, or ( after a count");
+    saying::say(
+        to,
+        b"after a process number comes one of l v . ! s, or ( after a count",
+    )
 }
 
-fn before_item(solid: u8, ended: bool, here: u8) {
+fn before_item(to: &mut impl Write, solid: u8, ended: bool, here: u8) -> io::Result<()> {
     if ended {
-        saying::say(b"an open group ends with )");
-        return;
+        return saying::say(to, b"an open group ends with )");
     }
     if here == b')' {
-        close(solid);
-        return;
+        return close(to, solid);
     }
-    saying::say(b"an item begins with a process number, or with the count of a group");
+    saying::say(
+        to,
+        b"an item begins with a process number, or with the count of a group",
+    )
 }
 
-fn close(solid: u8) {
+fn close(to: &mut impl Write, solid: u8) -> io::Result<()> {
     if solid == b'(' {
-        saying::say(b"a group has at least one item");
-        return;
+        return saying::say(to, b"a group has at least one item");
     }
-    saying::say(b"no group is open");
+    saying::say(to, b"no group is open")
 }
 
-fn after_item(ended: bool, here: u8) {
+fn after_item(to: &mut impl Write, ended: bool, here: u8) -> io::Result<()> {
     if ended {
-        saying::say(b"an open group ends with )");
-        return;
+        return saying::say(to, b"an open group ends with )");
     }
     if here == b')' {
-        saying::say(b"no group is open");
-        return;
+        return saying::say(to, b"no group is open");
     }
-    saying::say(b"after an item comes a space, a line feed or the ) of its group");
+    saying::say(
+        to,
+        b"after an item comes a space, a line feed or the ) of its group",
+    )
 }

@@ -2,9 +2,12 @@
 use crate::calls::{Call, Method};
 use crate::{calls, shown};
 use positions::StopReport;
+use std::io;
+use std::io::Write;
 
 // The text is split where the item begins.
 pub(crate) fn refused(
+    to: &mut impl Write,
     figure: u8,
     number: u8,
     entries: usize,
@@ -12,49 +15,51 @@ pub(crate) fn refused(
     call: Call,
     before: &[u8],
     rest: &[u8],
-) {
+) -> io::Result<()> {
     let s = positions::look(before);
     let end = saying::within(shown::item(rest), rest);
-    saying::say(b"entry ");
-    saying::next(entries);
-    saying::say(b", item ");
-    saying::say(&rest[..end]);
-    saying::say(b" at ");
-    saying::place(s);
-    saying::say(b": ");
-    limit(number);
-    state(figure, report, call);
+    saying::say(to, b"entry ")?;
+    saying::next(to, entries)?;
+    saying::say(to, b", item ")?;
+    saying::say(to, &rest[..end])?;
+    saying::say(to, b" at ")?;
+    saying::place(to, s)?;
+    saying::say(to, b": ")?;
+    limit(to, number)?;
+    state(to, figure, report, call)?;
     if number == 7 {
-        saying::say(b", and no LL of it was ever answered");
+        saying::say(to, b", and no LL of it was ever answered")?;
     }
+    Ok(())
 }
 
 // The refusals that are no fault of the process named.
-fn limit(number: u8) {
+fn limit(to: &mut impl Write, number: u8) -> io::Result<()> {
     match number {
-        12 => saying::say(b"60,000 entries are done, which is the most; "),
-        14 => saying::say(b"there is no room for another line; "),
-        _ => {}
+        12 => saying::say(to, b"60,000 entries are done, which is the most; "),
+        14 => saying::say(to, b"there is no room for another line; "),
+        _ => Ok(()),
     }
 }
 
 // The state of the process that the entry named. A number above 15 is reported as 16; the item shows it.
-fn state(figure: u8, report: StopReport, call: Call) {
+fn state(to: &mut impl Write, figure: u8, report: StopReport, call: Call) -> io::Result<()> {
     if 15 < report.process {
-        saying::say(b"its process number is above 15, and so not below N, which is ");
-        saying::number(report.n);
-        return;
+        saying::say(
+            to,
+            b"its process number is above 15, and so not below N, which is ",
+        )?;
+        return saying::number(to, report.n);
     }
-    saying::say(b"process ");
-    saying::number(report.process);
+    saying::say(to, b"process ")?;
+    saying::number(to, report.process)?;
     if report.n <= report.process {
-        saying::say(b" is not below N, which is ");
-        saying::number(report.n);
-        return;
+        saying::say(to, b" is not below N, which is ")?;
+        return saying::number(to, report.n);
     }
     let method = Method {
         figure,
         w: report.w,
     };
-    calls::busy_or_idle(method, call);
+    calls::busy_or_idle(to, method, call)
 }

@@ -3,21 +3,31 @@
 
 #![tactic(auto)]
 
-fn main() {
+use std::io::Write;
+
+fn main(rt: HostRuntime) {
     let mut text = [0; 16385];
-    let got = io::read_full(0, &mut text);
+    let got = console::read_full(&mut rt.stdin(), &mut text);
     let given = &text[..got];
-    let mut list = io::large_buffer();
+    let mut list = console::large_buffer();
     let out = moir_run::texts::run_text(given, false, &mut list);
-    print(&list, out.written);
-    moir_messages::explain(out.number, out.entries, out.report, out.all, given);
+    let mut errors = rt.stderr();
+    print(&mut rt.stdout(), &mut errors, &list, out.written);
+    let _ = moir_messages::explain(
+        &mut errors,
+        out.number,
+        out.entries,
+        out.report,
+        out.all,
+        given,
+    );
 }
 
 // The first bytes of the listing, as many as the run wrote.
-fn print(list: &[u8], written: usize) {
+fn print(to: &mut impl Write, errors: &mut impl Write, list: &[u8], written: usize) {
     if written <= list.len() {
-        if !io::write_all(1, &list[0..written]) {
-            messages::not_written();
+        if to.write_all(&list[0..written]).is_err() {
+            let _ = messages::not_written(errors);
         }
     }
 }

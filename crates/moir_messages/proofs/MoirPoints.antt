@@ -1,6 +1,6 @@
 -- Kind, line and word moves of every program point of Figure 6, by computation.
 use mathlib.Core.Path.{◌≡◌, refl}
-use mathlib.Core.List.{List, [], ◌∷◌, map}
+use mathlib.Core.List.{[], ◌∷◌, map}
 use Rattle.moir_model.specs.Points.{Point, idle, line_number, busy_points}
 use Rattle.moir_messages.specs.MoirCalls.{kind_of, figure_line, moves_of}
 

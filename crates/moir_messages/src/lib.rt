@@ -13,6 +13,8 @@ use moir_model::Process;
 use moir_rows::records;
 use moir_rows::records::Records;
 use positions::StopReport;
+use std::io;
+use std::io::Write;
 
 const FIGURE: u8 = 6;
 
@@ -21,12 +23,19 @@ const COPY_OF_SC: u8 = 20;
 
 // The message of a run: of its number (0: not refused), the entries done, what it reports of its stop, and the records
 // that it left. Nothing where it was not refused and no call is open.
-pub fn explain(number: u8, entries: usize, report: StopReport, all: Records, text: &[u8]) {
+pub fn explain(
+    to: &mut impl Write,
+    number: u8,
+    entries: usize,
+    report: StopReport,
+    all: Records,
+    text: &[u8],
+) -> io::Result<()> {
     if number != 0 {
         let call = call_at(report.process, all);
-        messages::refused(FIGURE, number, entries, report, call, text);
+        messages::refused(to, FIGURE, number, entries, report, call, text)?;
     }
-    still_open(report.n, report.w, all);
+    still_open(to, report.n, report.w, all)
 }
 
 // The kind of the call whose next line has this number.
@@ -93,13 +102,14 @@ fn call_at(p: u64, all: Records) -> Call
 }
 
 // A line for each process below N that has an open call.
-fn still_open(n: u64, w: u64, all: Records) {
+fn still_open(to: &mut impl Write, n: u64, w: u64, all: Records) -> io::Result<()> {
     let mut p = 0;
     while p < 16 {
         if (p as u64) < n {
             let method = Method { figure: FIGURE, w };
-            calls::open_line(p, method, call_of(all.list[p]));
+            calls::open_line(to, p, method, call_of(all.list[p]))?;
         }
         p += 1;
     }
+    Ok(())
 }

@@ -1,50 +1,59 @@
-// Bytes, numbers and places of a text to standard error, for the programs. What can't be written there is lost: there is
-// no other place to say so.
+// Bytes, numbers and places of a text to a writer, for the programs, which hand in standard error. What can't be written
+// there is lost: there is no other place to say so, and so a program lets the error go.
 
 #![tactic(auto)]
 
-ghost use Rattle.std.specs.Prelude.{◌≡◌};
-ghost use Rattle.io.specs.Counts.{IsPrefixLen};
+ghost use Rattle.std.specs.Prelude.{◌≡◌, OnOk};
+ghost use Rattle.std.specs.Io.KnownBytes.{Appends};
+ghost use Rattle.console.specs.Counts.{IsPrefixLen};
+ghost use Rattle.listing.specs.Decimal.{decimal};
 ghost use Rattle.saying.specs.Within.{within_text};
 
 use positions::Seen;
+use std::io;
+use std::io::Write;
 
-pub fn say(bytes: &[u8]) {
-    io::write_all(2, bytes);
+pub fn say<W: Write>(to: &mut W, bytes: &[u8]) -> io::Result<()>
+    ensures { OnOk result (Appends (W.contents to.old) (W.contents to.new) bytes.now) }
+{
+    to.write_all(bytes)
 }
 
-pub fn number(n: u64) {
-    io::print_decimal(2, n);
+pub fn number<W: Write>(to: &mut W, n: u64) -> io::Result<()>
+    ensures { OnOk result (Appends (W.contents to.old) (W.contents to.new) (decimal n)) }
+{
+    console::print_decimal(to, n)
 }
 
 // The number after n: what is counted from 1.
-pub fn next(n: usize) {
+pub fn next(to: &mut impl Write, n: usize) -> io::Result<()> {
     if n < 18446744073709551615 {
-        number((n + 1) as u64);
+        number(to, (n + 1) as u64)?;
     }
+    Ok(())
 }
 
 // Line and column.
-pub fn place(s: Seen) {
-    next(s.feeds);
-    say(b":");
-    next(s.since);
+pub fn place(to: &mut impl Write, s: Seen) -> io::Result<()> {
+    next(to, s.feeds)?;
+    say(to, b":")?;
+    next(to, s.since)
 }
 
 // The line of a place of the text.
-pub fn line(text: &[u8], place: usize) {
+pub fn line(to: &mut impl Write, text: &[u8], place: usize) -> io::Result<()> {
     let seen = positions::look(&text[..within(place, text)]);
-    say(b"line ");
-    next(seen.feeds);
+    say(to, b"line ")?;
+    next(to, seen.feeds)
 }
 
 // Its line and column.
-pub fn position(text: &[u8], place: usize) {
+pub fn position(to: &mut impl Write, text: &[u8], place: usize) -> io::Result<()> {
     let seen = positions::look(&text[..within(place, text)]);
-    say(b"line ");
-    next(seen.feeds);
-    say(b", column ");
-    next(seen.since);
+    say(to, b"line ")?;
+    next(to, seen.feeds)?;
+    say(to, b", column ")?;
+    next(to, seen.since)
 }
 
 // A place of the text, at most its end: what may be lent as its beginning.
@@ -59,21 +68,21 @@ pub fn within(place: usize, text: &[u8]) -> usize
 }
 
 // A byte by its name, or by itself where it has a shape.
-pub fn byte(b: u8) {
+pub fn byte(to: &mut impl Write, b: u8) -> io::Result<()> {
     match b {
-        9 => say(b"a tab"),
-        10 => say(b"a line feed"),
-        13 => say(b"a carriage return"),
-        32 => say(b"a space"),
-        33..=126 => shape(b),
+        9 => say(to, b"a tab"),
+        10 => say(to, b"a line feed"),
+        13 => say(to, b"a carriage return"),
+        32 => say(to, b"a space"),
+        33..=126 => shape(to, b),
         _ => {
-            say(b"byte ");
-            number(b as u64);
+            say(to, b"byte ")?;
+            number(to, b as u64)
         }
     }
 }
 
-fn shape(b: u8) {
+fn shape(to: &mut impl Write, b: u8) -> io::Result<()> {
     let one = [b; 1];
-    say(&one);
+    say(to, &one)
 }

@@ -4,56 +4,72 @@
 
 #![tactic(auto)]
 
-ghost use Rattle.std.specs.Prelude.{◌≡◌, ◌≤◌, length};
+ghost use Rattle.std.specs.Prelude.{◌≡◌, ◌≤◌, length, IfOk};
 
 use marking::output;
+use std::alloc::{AllocError, Global};
+use std::io::Write;
 
-fn main() {
+fn main(rt: HostRuntime) -> Result<(), AllocError> {
     let mut text = [0; 16385];
-    let got = io::read_full(0, &mut text);
+    let got = console::read_full(&mut rt.stdin(), &mut text);
     let given = &text[..got];
     let mut words = [0; 5120];
-    let mut list = room();
+    let mut list = room(rt.alloc())?;
     let bench = model::empty_bench();
     let all = tables::records::records_of(tables::records::no_process());
     let out = run::text_run::trace_by_value(bench, all, 16, &mut words, given, &mut list);
+    let mut errors = rt.stderr();
     if out.written <= list.len() {
-        if !print(&list, out.written) {
-            messages::not_written();
+        if !print(rt.alloc(), &mut rt.stdout(), &list, out.written)? {
+            let _ = messages::not_written(&mut errors);
         }
     }
-    messages::figure2::explain(out.number, out.entries, out.report, out.all, given);
+    let _ = messages::figure2::explain(
+        &mut errors,
+        out.number,
+        out.entries,
+        out.report,
+        out.all,
+        given,
+    );
+    Ok(())
 }
 
 // Room for the trace of 60,000 entries.
-fn room() -> [u8; 3145728]
-    ensures { 3145728 ≡ length result }
+fn room(alloc: Global) -> Result<Vec<u8>, AllocError>
+    ensures { IfOk result (λ room. 3145728 ≡ length room.items) }
 {
-    [0; 3145728]
+    vec![in alloc; 0; 3145728]
 }
 
 // Room for it with two columns before each line.
-fn marked_room() -> [u8; 3265730]
-    ensures { 3265730 ≡ length result }
+fn marked_room(alloc: Global) -> Result<Vec<u8>, AllocError>
+    ensures { IfOk result (λ room. 3265730 ≡ length room.items) }
 {
-    [0; 3265730]
+    vec![in alloc; 0; 3265730]
 }
 
 // The trace with its marks, into lent bytes and out; whether all was written.
-fn print_marked(trace: &[u8], out: &mut [u8]) -> bool
+fn print_marked(to: &mut impl Write, trace: &[u8], out: &mut [u8]) -> bool
     requires { length trace.now ≤ 4294967295 }
 {
     let count = output::mark_lines(trace, out);
     if out.len() < count {
         return false;
     }
-    io::write_all(1, &out[0..count])
+    to.write_all(&out[0..count]).is_ok()
 }
 
 // The first bytes of the trace, as many as the run wrote.
-fn print(list: &[u8], written: usize) -> bool
+fn print(
+    alloc: Global,
+    to: &mut impl Write,
+    list: &[u8],
+    written: usize,
+) -> Result<bool, AllocError>
     requires { (written ≤ length list.now) × (length list.now ≤ 3145728) }
 {
-    let mut out = marked_room();
-    print_marked(&list[0..written], &mut out)
+    let mut out = marked_room(alloc)?;
+    Ok(print_marked(to, &list[0..written], &mut out))
 }

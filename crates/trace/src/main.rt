@@ -3,33 +3,45 @@
 
 #![tactic(auto)]
 
-ghost use Rattle.std.specs.Prelude.{◌≡◌, length};
+ghost use Rattle.std.specs.Prelude.{◌≡◌, length, IfOk};
 
-fn main() {
+use std::alloc::{AllocError, Global};
+use std::io::Write;
+
+fn main(rt: HostRuntime) -> Result<(), AllocError> {
     let mut text = [0; 16385];
-    let got = io::read_full(0, &mut text);
+    let got = console::read_full(&mut rt.stdin(), &mut text);
     let given = &text[..got];
     let mut words = [0; 5120];
-    let mut list = room();
+    let mut list = room(rt.alloc())?;
     let bench = model::empty_bench();
     let all = tables::records::records_of(tables::records::no_process());
     let out = run::text_run::trace_by_value(bench, all, 16, &mut words, given, &mut list);
-    print(&list, out.written);
-    messages::figure2::explain(out.number, out.entries, out.report, out.all, given);
+    let mut errors = rt.stderr();
+    print(&mut rt.stdout(), &mut errors, &list, out.written);
+    let _ = messages::figure2::explain(
+        &mut errors,
+        out.number,
+        out.entries,
+        out.report,
+        out.all,
+        given,
+    );
+    Ok(())
 }
 
 // Room for the trace of 60,000 entries.
-fn room() -> [u8; 3145728]
-    ensures { 3145728 ≡ length result }
+fn room(alloc: Global) -> Result<Vec<u8>, AllocError>
+    ensures { IfOk result (λ room. 3145728 ≡ length room.items) }
 {
-    [0; 3145728]
+    vec![in alloc; 0; 3145728]
 }
 
 // The first bytes of the trace, as many as the run wrote.
-fn print(list: &[u8], written: usize) {
+fn print(to: &mut impl Write, errors: &mut impl Write, list: &[u8], written: usize) {
     if written <= list.len() {
-        if !io::write_all(1, &list[0..written]) {
-            messages::not_written();
+        if to.write_all(&list[0..written]).is_err() {
+            let _ = messages::not_written(errors);
         }
     }
 }

@@ -8,4 +8,4 @@ zeros : (n : ℕ) → n ≡ length (replicate {A = ℕ} n 0)
 zeros n = sym (length-replicate n 0)
 
 pub returns : goal.returns
-returns c = (zeros 65536, refl)
+returns c = record { value = zeros 65536; value_2 = refl }

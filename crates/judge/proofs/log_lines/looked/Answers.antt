@@ -1,5 +1,5 @@
 -- `judge::log_lines::looked`: the loop's invariant is that the bytes left lead to the same lines.
-use Prim.Native.Nat.{◌+◌, ◌-◌}
+use Prim.Native.Nat.{◌+◌}
 use mathlib.Core.Path.{refl, sym, ap, ◌∙◌}
 use native.Mathlib.Omega.{arith}
 use lib.ListN.{drop}

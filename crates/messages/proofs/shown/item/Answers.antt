@@ -1,5 +1,4 @@
 -- `messages::shown::item`: byte after byte of the item, up to 24.
-use Prim.Native.Nat.{◌-◌}
 use native.Mathlib.Omega.{arith}
 use Rattle.messages.proofs.ShownLaws.{item_most, item_stop, item_go, item_end}
 use Rattle.messages.proofs.shown.item.Goals as goal
