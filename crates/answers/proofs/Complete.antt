@@ -1,21 +1,21 @@
 -- The readers take every listing of the shape, and gain what its answers add.
 use Prim.Native.Nat.{ℕ, zero, suc, ◌+◌, ◌-◌, ◌*◌, ◌/◌, ◌%◌, ◌≤◌, ◌<◌}
-use mathlib.Core.Path.{◌≡◌, refl, sym, ap, subst, ◌∙◌}
+use mathlib.Core.Path.{◌≡◌, refl, sym, ap, ◌∙◌}
 use mathlib.Core.List.{List, [], ◌∷◌, ◌++◌, append_assoc}
-use mathlib.Core.Bool.{Bool, true, false, cond}
+use mathlib.Core.Bool.{Bool, true, false}
 use native.Mathlib.Omega.{arith}
 use native.Mathlib.Nat.{mod-lt, div-add-mod', div-lt_iff_lt-mul}
-use borrow.Author.Tests.{ltb-true, ltb-false, lt-ltb, le-ltb, le-leb, eq-eqb}
-use lib.Dec.{ltb, leb, eqb}
-use lib.ListN.{length, drop}
-use Rattle.listing.specs.Quoted.{quoted, byte}
-use Rattle.listing.specs.Decimal.{digits, decimal, tens}
+use borrow.Author.Tests.{ltb-true, ltb-false, lt-ltb, le-ltb, le-leb}
+use lib.Dec.{ltb}
+use lib.ListN.{length}
+use Rattle.listing.specs.Quoted.{quoted}
+use Rattle.listing.specs.Decimal.{decimal, tens}
 use Rattle.listing.specs.Lines.{space, line_feed, letter_l, letter_s, letter_v, answer_head, words_of, ll_line, truth, truth_line, end_line, refused_line}
 use Rattle.listing.proofs.DecimalLaws.{one_digit, last_digit}
 use Rattle.answers.specs.declared.Sum.{Sum}
-use Rattle.answers.specs.Shape.{largest, Answer, ll, sc, vl, Last, end, refused, line_of, last_of, lines_of, Fit, no_words, word, Fits, ll_fits, sc_fits, vl_fits, AllFit, no_lines, line, LastFits, end_fits, refused_fits, Shaped}
-use Rattle.answers.specs.Gains.{no_sum, ll_gain, sc_gain, bit, gain_of, process_of, tally, gained}
-use Rattle.answers.specs.Readers.{first, is_digit, Got, none, digits_after, number_in, spaced_number, Passed, expected, words_in, closed, ll_tail, truth_tail, Told, told, by_letter, answer_in, finished, end_in, refused_in, last_in, Read, lines_in}
+use Rattle.answers.specs.Shape.{largest, Answer, ll, sc, vl, Last, end, refused, line_of, last_of, lines_of, Fit, no_words, word, Fits, ll_fits, sc_fits, vl_fits, AllFit, no_lines, line, LastFits, end_fits, refused_fits}
+use Rattle.answers.specs.Gains.{bit, gain_of, process_of, tally, gained}
+use Rattle.answers.specs.Readers.{first, is_digit, Got, none, digits_after, number_in, spaced_number, Passed, expected, words_in, closed, ll_tail, truth_tail, Told, by_letter, answer_in, finished, end_in, refused_in, last_in, lines_in}
 use Rattle.answers.proofs.NumberLaws.{a_digit, no_more, one_more}
 
 tenth : (n m : ℕ) → n < m * 10 → n / 10 < m

@@ -1,15 +1,15 @@
 -- Laws of the readers of numbers and of expected bytes, over places.
-use Prim.Native.Nat.{ℕ, zero, suc, ◌+◌, ◌-◌, ◌*◌, ◌≤◌, ◌<◌}
+use Prim.Native.Nat.{ℕ, ◌+◌, ◌-◌, ◌*◌, ◌≤◌, ◌<◌}
 use mathlib.Core.Path.{◌≡◌, refl, sym, ap, ◌∙◌}
-use mathlib.Core.List.{List, [], ◌∷◌}
-use mathlib.Core.Bool.{Bool, true, false, ◌&&◌, cond, true≢false}
+use mathlib.Core.List.{List, ◌∷◌}
+use mathlib.Core.Bool.{Bool, true, false, ◌&&◌, true≢false}
 use native.Mathlib.Omega.{arith}
 use borrow.Author.Tests.{le-leb, lt-leb, eq-eqb, ne_eqb, leb-true}
-use lib.Dec.{leb, eqb}
+use lib.Dec.{leb}
 use lib.ListN.{length, get_or, drop}
 use Rattle.listing.specs.Lines.{space}
 use Rattle.answers.specs.Shape.{largest}
-use Rattle.answers.specs.Readers.{first, is_digit, Got, none, number_missing, digits_after, number_in, spaced_number, Passed, expected}
+use Rattle.answers.specs.Readers.{is_digit, Got, none, number_missing, digits_after, number_in, spaced_number, Passed, expected}
 use Rattle.answers.proofs.PlaceLaws.{first_at, rest_at, split, ended}
 
 pub below_digits : (c : ℕ) → c < 48 → is_digit c ≡ false

@@ -1,10 +1,10 @@
 -- Laws of the sums: gains are added in any order, and how much they add.
-use Prim.Native.Nat.{ℕ, zero, suc, ◌+◌, ◌≤◌, ◌<◌}
-use mathlib.Core.Path.{◌≡◌, refl, sym, ap, ◌∙◌}
+use Prim.Native.Nat.{ℕ, zero, suc, ◌+◌, ◌≤◌}
+use mathlib.Core.Path.{◌≡◌, refl, ap, ◌∙◌}
 use mathlib.Core.List.{List, [], ◌∷◌}
 use native.Mathlib.Omega.{arith}
 use native.Mathlib.Nat.{add_right_comm}
-use lib.ListN.{get_or, set}
+use lib.ListN.{get_or}
 use Rattle.answers.specs.declared.Sum.{Sum}
 use Rattle.answers.specs.Shape.{Answer}
 use Rattle.answers.specs.Gains.{no_sum, plus, gain_of, process_of, tally, gained}

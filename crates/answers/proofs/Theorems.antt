@@ -1,14 +1,14 @@
 -- What the reader of listings is worth: it takes exactly the listings of 01's shape, and gains what their answers add.
-use Prim.Native.Nat.{ℕ, zero, suc, ◌+◌, ◌*◌, ◌≤◌, ◌<◌}
-use mathlib.Core.Path.{◌≡◌, refl, sym, ap, ◌∙◌}
+use Prim.Native.Nat.{ℕ, zero, suc, ◌≤◌}
+use mathlib.Core.Path.{◌≡◌, refl, ap, ◌∙◌}
 use mathlib.Core.List.{List, [], ◌∷◌, ◌++◌}
 use mathlib.Core.Bool.{Bool, true, false, cond}
 use native.Mathlib.Omega.{arith}
-use lib.ListN.{length, length-append, get_or}
+use lib.ListN.{length, length-append}
 use Rattle.answers.specs.declared.Sum.{Sum}
 use Rattle.answers.specs.Shape.{Answer, line_of, lines_of, last_of, Shaped}
 use Rattle.answers.specs.Gains.{tally, gained}
-use Rattle.answers.specs.Readers.{first, is_digit, Told, answer_in, last_in, Read, lines_in, listing_in}
+use Rattle.answers.specs.Readers.{first, is_digit, Told, answer_in, Read, lines_in, listing_in}
 use Rattle.answers.proofs.Sound.{lines_sound}
 use Rattle.answers.proofs.Complete.{lines_read}
 use Rattle.answers.proofs.WholeLaws.{line_bytes_lem}

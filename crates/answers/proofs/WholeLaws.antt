@@ -1,8 +1,8 @@
 -- Laws of the loop over a listing's lines.
-use Prim.Native.Nat.{ℕ, zero, suc, ◌+◌, ◌-◌, ◌*◌, ◌≤◌, ◌<◌}
+use Prim.Native.Nat.{ℕ, zero, suc, ◌+◌, ◌*◌, ◌≤◌, ◌<◌}
 use mathlib.Core.Path.{◌≡◌, refl, sym, ap, subst, ◌∙◌}
 use mathlib.Core.List.{List, [], ◌∷◌, ◌++◌}
-use mathlib.Core.Bool.{Bool, true, false, cond, true≢false}
+use mathlib.Core.Bool.{Bool, true, false, cond}
 use native.Mathlib.Omega.{arith}
 use lib.ListN.{length, length-append, length-drop, get_or, set, drop}
 use Rattle.listing.specs.Decimal.{decimal}
@@ -10,14 +10,13 @@ use Rattle.listing.specs.Lines.{space, answer_head, words_of, ll_line, truth, tr
 use Rattle.answers.specs.declared.Sum.{Sum}
 use Rattle.answers.specs.declared.Line.{Line}
 use Rattle.answers.specs.declared.Spot.{Spot}
-use Rattle.answers.specs.declared.Reading.{Reading}
-use Rattle.answers.specs.Shape.{largest, longest_listing, Answer, ll, sc, vl, line_of, Fits, ll_fits, sc_fits, vl_fits}
+use Rattle.answers.specs.Shape.{largest, Answer, ll, sc, vl, line_of, Fits, ll_fits, sc_fits, vl_fits}
 use Rattle.answers.specs.Gains.{no_sum, plus, bit, gain_of, process_of, tally}
-use Rattle.answers.specs.Readers.{first, is_digit, Passed, Told, answer_in, last_in, Read, lines_in, listing_in, told_at, GivesSpot, GivesLine, GivesReading}
+use Rattle.answers.specs.Readers.{first, is_digit, Passed, Told, answer_in, last_in, lines_in, listing_in, told_at, GivesSpot, GivesLine, GivesReading}
 use Rattle.answers.specs.Ranges.{Below, AllBelow, Readable}
 use Rattle.answers.proofs.PlaceLaws.{first_at}
 use Rattle.answers.proofs.SumLaws.{tally_below, weaker}
-use Rattle.answers.proofs.Sound.{Tells, answer_sound}
+use Rattle.answers.proofs.Sound.{answer_sound}
 
 -- an answer line adds at most the largest number, and has bytes
 bit_small : (t : Bool) → bit t ≤ 1

@@ -1,6 +1,6 @@
 -- How long what a trace shows of an access is: with the entry number, the process and ` answers ` at most the 128 bytes
 -- that a trace keeps beside the listing's line.
-use Prim.Native.Nat.{ℕ, ◌≤◌}
+use Prim.Native.Nat.{◌≤◌}
 use mathlib.Core.List.{◌++◌}
 use mathlib.Core.Bool.{Bool}
 use native.Mathlib.Omega.{arith}

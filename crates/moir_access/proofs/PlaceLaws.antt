@@ -16,7 +16,6 @@ use Rattle.words.proofs.WordLaws.{within}
 use Rattle.moir_steps.proofs.PlaceLaws.{lies}
 use Rattle.moir_access.specs.declared.Item.{Item}
 use Rattle.moir_access.specs.declared.Item.TheVariants.{Hdr, Data, Announced}
-use Rattle.moir_access.specs.declared.Content.{Content}
 use Rattle.moir_access.specs.Items.{word_content, item_at, InBench}
 
 -- a word's place tells its row and its place in the row

@@ -1,6 +1,5 @@
 -- The accesses of a bench in range, none of whose numbers has more than ten digits, are small.
 use mathlib.Core.List.{List}
-use mathlib.Core.Bool.{Bool}
 use Prim.Native.Nat.{ℕ, ◌+◌, ◌*◌, ◌≤◌, ◌<◌}
 use native.Mathlib.Omega.{arith}
 use lib.ListN.{get_or}
@@ -12,10 +11,8 @@ use Rattle.moir_model.specs.declared.Process.{Process}
 use Rattle.moir_model.specs.Sizes.{lent_words}
 use Rattle.moir_model.specs.Points.{Point, idle, ll10, ll2, ll4, ll5, ll6, ll7, sc14, sc17, sc19, sc2, sc4, sc5, sc6, sc7, vl13}
 use Rattle.moir_model.specs.Words.{segment_at}
-use Rattle.moir_model.specs.Records.{no_header}
 use Rattle.moir_steps.specs.Ranges.{Ready}
 use Rattle.words.proofs.WordLaws.{within}
-use Rattle.moir_access.specs.declared.Content.{Content}
 use Rattle.moir_access.specs.Items.{header_content, segment_content, word_content}
 use Rattle.moir_access.specs.Accesses.{no_content, header_read, segment_read, segment_cas, word_read, access_of}
 use Rattle.moir_access.proofs.Lengths.{SmallContent, SmallAccess}

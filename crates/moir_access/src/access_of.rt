@@ -17,6 +17,7 @@ pub fn no_access() -> Access
 }
 
 // From the memory before the step. An idle process and a line that is none are never stepped.
+#[tactic(auto, unfolding(crate::specs::Accesses::access_of))]
 pub fn access_of(bench: Bench, p: ProcessNumber, process: Process, words: &[u64]) -> Access
     requires { Ready bench process p words.now }
     ensures { result ≡ access_of (point_of process.line) p bench process words.now }

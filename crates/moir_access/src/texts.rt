@@ -4,6 +4,7 @@ ghost use Rattle.moir_access.specs.TraceParts.{item_text, pair_text, values_text
 
 use crate::{Act, Content, Item};
 
+#[tactic(auto, unfolding(crate::specs::TraceParts::item_text))]
 pub fn item(list: &mut [u8], at: usize, item: Item) -> usize
     requires { Room list.old at (item_text item) }
     ensures { Wrote list.old at (item_text item) list.new result }
@@ -22,6 +23,7 @@ pub fn item(list: &mut [u8], at: usize, item: Item) -> usize
     }
 }
 
+#[tactic(auto, unfolding(crate::specs::TraceParts::pair_text))]
 fn pair(list: &mut [u8], at: usize, v: Content) -> usize
     requires { Room list.old at (pair_text v) }
     ensures { Wrote list.old at (pair_text v) list.new result }
@@ -31,6 +33,7 @@ fn pair(list: &mut [u8], at: usize, v: Content) -> usize
 }
 
 // The values that an item of this kind has.
+#[tactic(auto, unfolding(crate::specs::TraceParts::values_text))]
 fn values(list: &mut [u8], at: usize, item: Item, v: Content) -> usize
     requires { Room list.old at (values_text item v) }
     ensures { Wrote list.old at (values_text item v) list.new result }
@@ -43,6 +46,7 @@ fn values(list: &mut [u8], at: usize, item: Item, v: Content) -> usize
 }
 
 // A CAS: the values expected, the new ones, and whether it was done.
+#[tactic(auto, unfolding(crate::specs::TraceParts::cas_text))]
 fn cas(list: &mut [u8], at: usize, item: Item, v: Content, u: Content, t: bool) -> usize
     requires { Room list.old at (cas_text item v u t) }
     ensures { Wrote list.old at (cas_text item v u t) list.new result }
@@ -54,6 +58,7 @@ fn cas(list: &mut [u8], at: usize, item: Item, v: Content, u: Content, t: bool) 
 }
 
 // The act, with the values that it names.
+#[tactic(auto, unfolding(crate::specs::TraceParts::act_text))]
 pub fn act(list: &mut [u8], at: usize, act: Act, item: Item, v: Content, u: Content) -> usize
     requires { Room list.old at (act_text act item v u) }
     ensures { Wrote list.old at (act_text act item v u) list.new result }

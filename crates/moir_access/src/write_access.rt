@@ -4,6 +4,7 @@ ghost use Rattle.moir_access.specs.TraceParts.{shown};
 
 use crate::{Access, texts};
 
+#[tactic(auto, unfolding(crate::specs::TraceParts::shown))]
 pub fn write_access(list: &mut [u8], at: usize, access: Access) -> usize
     requires { Room list.old at (shown access) }
     ensures { Wrote list.old at (shown access) list.new result }

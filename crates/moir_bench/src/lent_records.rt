@@ -27,6 +27,7 @@ pub fn store_at(records: &mut [Process], i: usize, q: Process)
 }
 
 // The first sixteen records, with another one where there is none.
+#[tactic(auto, unfolding(moir_rows::specs::Gathered::gathered))]
 pub fn gather(records: &[Process], none: Process) -> Records
     ensures { result ≡ gathered records.now none 16 }
 {
@@ -41,6 +42,7 @@ pub fn gather(records: &[Process], none: Process) -> Records
 }
 
 // How many records a set-up writes: a refused one writes none.
+#[tactic(auto, unfolding(crate::specs::Lent::records_to_write))]
 pub fn records_to_write(number: u8, n: usize) -> usize
     ensures { result ≡ records_to_write number n }
 {
@@ -51,6 +53,7 @@ pub fn records_to_write(number: u8, n: usize) -> usize
 }
 
 // The first `count` records are set up, where they are lent.
+#[tactic(auto, unfolding(crate::specs::Lent::records_written))]
 pub fn set_up_records(records: &mut [Process], count: usize)
     ensures { records.new ≡ records_written records.old count }
 {

@@ -16,6 +16,7 @@ pub struct Prepared {
 }
 
 // The refusal by the lengths of what is lent: rows 1, 2, 3, 8.
+#[tactic(auto, unfolding(crate::specs::SetUpByValue::set_up_number))]
 pub fn set_up_number(n: usize, w: usize, records: usize, words: usize, value: usize) -> u8
     ensures { result ≡ set_up_number n w records words value }
 {

@@ -4,7 +4,7 @@ use mathlib.Core.Path.{◌≡◌, refl, sym, ap, ◌∙◌}
 use mathlib.Core.List.{List, [], ◌∷◌, ◌++◌, append_assoc, append-nil}
 use mathlib.Core.Bool.{Bool, true, false}
 use Rattle.notation.specs.declared.Kind.{Kind}
-use Rattle.notation.specs.declared.Kind.TheVariants.{Digit, Gap, Marked, Offer, Open, Close, Other}
+use Rattle.notation.specs.declared.Kind.TheVariants.{Open, Close}
 use Rattle.notation.specs.declared.Entry.{Entry}
 use Rattle.notation.specs.declared.Entry.TheVariants.{StartSc}
 use Rattle.notation.specs.Bytes.{space, line_feed, kind_of, entry_of, is_digit}
@@ -13,7 +13,7 @@ use Rattle.notation.specs.Grammar.{Byte, Number, Gaps, Item, Items, Lead, Schedu
 use Rattle.notation.specs.Grammar.{count_ok, times, item_bytes, items_bytes, lead_bytes, schedule_bytes, first_bytes}
 use Rattle.notation.specs.Grammar.{bytes, item_says, items_say, lead_says, schedule_says, says}
 use Rattle.notation.specs.Scan.{Mode, between, num, offer, offer_num, done, to, leave, move, said, Frame, end, at_end, go, scan}
-use Rattle.notation.specs.FirstLine.{Place, before_n, in_n, before_w, in_w, before_initial, in_initial, Next, goes, begins, step, whole, proceed, read_from, past}
+use Rattle.notation.specs.FirstLine.{Place, before_n, Next, goes, step, whole, proceed, read_from, past}
 use Rattle.notation.specs.Readings.{right}
 use Rattle.notation.proofs.KindLaws.{offer_move}
 use Rattle.notation.proofs.ScanLaws.{Gathers, Leads, gathers_num, gathers_offer, leads_num, leads_offer, more_fits}

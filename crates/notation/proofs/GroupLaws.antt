@@ -1,19 +1,18 @@
 -- Laws of groups: a reading under an open group, turns, items in a row, and the whole text.
-use Prim.Native.Nat.{ℕ, zero, suc, ◌+◌, ◌-◌, ◌≤◌, ◌<◌}
+use Prim.Native.Nat.{ℕ, zero, suc, ◌-◌, ◌≤◌, ◌<◌}
 use mathlib.Core.Path.{◌≡◌, refl, sym, ap, ◌∙◌}
 use mathlib.Core.List.{List, [], ◌∷◌, ◌++◌, append_assoc, append-nil}
 use mathlib.Core.Bool.{true, false}
 use native.Mathlib.Omega.{arith}
-use native.Mathlib.Nat.{zero-add, suc-add}
 use lib.ListN.{length, drop, length-drop}
 use Rattle.notation.specs.declared.Entry.{Entry}
 use Rattle.notation.specs.Bytes.{kind_of}
 use Rattle.notation.specs.Grammar.{count_ok, times, deepest}
 use Rattle.notation.specs.Scan.{Mode, between, num, offer, offer_num, done, Move, to, enter, leave, bad, move, said, Frame, Verdict, end, shut, fault, at_end, entered, go, scan}
-use Rattle.notation.specs.FirstLine.{before_n, whole, read}
+use Rattle.notation.specs.FirstLine.{whole, read}
 use Rattle.notation.specs.Readings.{right, wrong}
 use Rattle.notation.specs.Readers.{Skipped, Headed, NotHeaded}
-use Rattle.notation.specs.Stretches.{Goes, Faults, Begun, Once, Onward, Ends, Shuts}
+use Rattle.notation.specs.Stretches.{Faults, Begun, Once, Onward, Ends, Shuts}
 use Rattle.notation.specs.Groups.{ItemRead, ItemBroken, ItemsEnded, ItemsClosed, ItemsBroken, Sofar}
 use Rattle.notation.proofs.ScanLaws.{opening, scan_end, gaps}
 use Rattle.notation.proofs.HeaderLaws.{headed_reads, not_headed_reads}

@@ -1,9 +1,8 @@
 -- The byte-at-a-time reading is a reader by the grammar, and there is no other.
-use Prim.Native.Nat.{ℕ, ◌+◌}
+use Prim.Native.Nat.{ℕ}
 use mathlib.Core.Path.{◌≡◌, refl, ap, ◌∙◌}
 use mathlib.Core.List.{List}
 use native.Mathlib.Omega.{arith}
-use lib.ListN.{length}
 use Rattle.notation.specs.Readings.{Reading, right, wrong, Reads, Reader}
 use Rattle.notation.specs.FirstLine.{read}
 use Rattle.notation.proofs.Theorems.{read_is_right, says_one_thing, wrong_has_fault, fault_is_wrong, one_place, wrong_at_fault, one_number}

@@ -6,7 +6,7 @@ use mathlib.Core.Bool.{Bool, true, false, true≢false}
 use native.Mathlib.Omega.{arith}
 use borrow.Author.Tests.{ltb-true, ltb-false}
 use lib.Dec.{ltb}
-use lib.ListN.{length, get_or}
+use lib.ListN.{get_or}
 use Rattle.notation.specs.declared.Kind.{Kind}
 use Rattle.notation.specs.declared.Kind.TheVariants.{Digit, Gap, Marked, Offer, Open, Close, Other}
 use Rattle.notation.specs.declared.Digits.{Digits}
@@ -16,7 +16,7 @@ use Rattle.notation.specs.declared.Start.TheVariants.{Wrong}
 use Rattle.notation.specs.declared.Follow.{Follow}
 use Rattle.notation.specs.declared.Header.{Header}
 use Rattle.notation.specs.declared.Header.TheVariants.{First, NoFirst}
-use Rattle.notation.specs.Bytes.{space, line_feed, kind_of, is_digit, is_gap}
+use Rattle.notation.specs.Bytes.{kind_of, is_digit, is_gap}
 use Rattle.notation.specs.Grammar.{digit_ok}
 use Rattle.notation.specs.Readers as D
 use Rattle.notation.specs.Readers.{Counts, Numbered, StrayDigit, NumberSays, Whole, NoneAt, NumberAtSays, Ended}

@@ -1,7 +1,7 @@
 -- Laws of the reading: one byte, the end, and stretches put together.
 use Prim.Native.Nat.{ℕ, suc, ◌+◌, ◌-◌, ◌*◌, ◌≤◌, ◌<◌}
 use mathlib.Core.Path.{◌≡◌, refl, sym, ap, ◌∙◌}
-use mathlib.Core.List.{List, [], ◌∷◌, ◌++◌, append_assoc, append-nil}
+use mathlib.Core.List.{List, [], ◌++◌, append_assoc, append-nil}
 use mathlib.Core.Bool.{Bool, true, false, cond}
 use native.Mathlib.Omega.{arith}
 use native.Mathlib.Numerals.{add-one}
@@ -10,10 +10,9 @@ use lib.Seq.{drop-cons}
 use Rattle.notation.specs.declared.Kind.{Kind}
 use Rattle.notation.specs.declared.Kind.TheVariants.{Digit, Gap}
 use Rattle.notation.specs.declared.Entry.{Entry}
-use Rattle.notation.specs.declared.Entry.TheVariants.{StartSc}
 use Rattle.notation.specs.Bytes.{kind_of}
 use Rattle.notation.specs.Grammar.{digit_ok}
-use Rattle.notation.specs.Scan.{on_digit, Mode, between, num, offer, offer_num, done, to, bad, more, move, said, Frame, Verdict, fault, at_end, entered, go, scan}
+use Rattle.notation.specs.Scan.{on_digit, Mode, between, num, offer, offer_num, to, bad, more, move, said, Frame, Verdict, fault, at_end, entered, go, scan}
 use Rattle.notation.specs.Readers as D
 use Rattle.notation.specs.Readers.{Counts, still, digit, StrayDigit, Whole, Gapped}
 use Rattle.notation.specs.Stretches.{Goes, Faults}

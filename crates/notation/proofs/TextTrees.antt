@@ -1,14 +1,13 @@
 -- What the reading says, the grammar gives: the first line and the whole text.
 use Prim.Native.Nat.{ℕ, ◌+◌, ◌*◌}
 use mathlib.Core.Path.{◌≡◌, refl, sym, ap, subst, ◌∙◌}
-use mathlib.Core.List.{List, [], ◌∷◌, ◌++◌, append_assoc, append-nil}
-use mathlib.Core.Bool.{Bool, true, false, cond}
+use mathlib.Core.List.{List, [], ◌∷◌, ◌++◌, append_assoc}
+use mathlib.Core.Bool.{true, false}
 use native.Mathlib.Omega.{arith}
 use borrow.Author.Tests.{eqb-true}
 use lib.Dec.{eqb}
 use Rattle.notation.specs.declared.Kind.{Kind}
 use Rattle.notation.specs.declared.Kind.TheVariants.{Digit, Gap, Marked, Offer, Open, Close, Other}
-use Rattle.notation.specs.declared.Entry.{Entry}
 use Rattle.notation.specs.Bytes.{space, line_feed, kind_of}
 use Rattle.notation.specs.Grammar as G
 use Rattle.notation.specs.Grammar.{Byte, Number, FirstLine, Said, Text, digit_ok, first_bytes, schedule_bytes, schedule_says, bytes, says}
@@ -18,7 +17,7 @@ use Rattle.notation.specs.FirstLine.{starting, inside, step, whole, proceed, rea
 use Rattle.notation.specs.Readings.{right, wrong}
 use Rattle.notation.specs.Right.{Tells}
 use Rattle.notation.proofs.KindLaws.{either}
-use Rattle.notation.proofs.Trees.{Is, snoc, schedule_given}
+use Rattle.notation.proofs.Trees.{snoc, schedule_given}
 
 -- what stands before W, and before the initial number
 record PastN (n : ℕ) (p : List ℕ) : Type 0 where

@@ -6,7 +6,7 @@ use Rattle.notation.specs.declared.Mark.TheVariants.{Ll, Vl, One, All}
 use Rattle.notation.specs.declared.Kind.{Kind}
 use Rattle.notation.specs.declared.Kind.TheVariants.{Digit, Gap, Marked, Offer, Open, Close, Other}
 use Rattle.notation.specs.declared.Entry.{Entry}
-use Rattle.notation.specs.declared.Entry.TheVariants.{StartLl, StartVl, StartSc, Step, Finish}
+use Rattle.notation.specs.declared.Entry.TheVariants.{StartLl, StartVl, Step, Finish}
 
 -- 01: "one space between"
 abbrev pub space : ℕ

@@ -2,7 +2,7 @@
 -- Inner: the meaning of a text does not speak of it; `WordLaws` proves that what is kept is read again.
 -- From the low end: three bits for the kind, five for the process, 32 for the number after `s`, 24 for the place of its
 -- item in the text.
-use Rattle.std.specs.Prelude.{ℕ, ◌+◌, ◌*◌, ◌/◌, ◌%◌, cond, eqb, leb}
+use Rattle.std.specs.Prelude.{ℕ, ◌/◌, ◌%◌, cond, eqb, leb}
 use Rattle.notation.specs.declared.Entry.{Entry}
 use Rattle.notation.specs.declared.Entry.TheVariants.{StartLl, StartVl, StartSc, Step, Finish}
 

@@ -1,6 +1,6 @@
 -- A whole text, a byte at a time: its first line, and then its items.
 -- Inner: `ReadingLaws` proves that `read` gives each text its one reading by `Grammar`.
-use Rattle.std.specs.Prelude.{ℕ, zero, suc, List, [], ◌∷◌, Bool, true, false, cond, eqb, length}
+use Rattle.std.specs.Prelude.{ℕ, suc, List, [], ◌∷◌, false, cond, eqb, length}
 use Rattle.notation.specs.declared.Kind.{Kind}
 use Rattle.notation.specs.declared.Kind.TheVariants.{Digit, Gap, Marked, Offer, Open, Close, Other}
 use Rattle.notation.specs.Bytes.{space, line_feed, kind_of}

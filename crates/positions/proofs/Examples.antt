@@ -1,5 +1,4 @@
 -- Lines and columns by computation.
-use Prim.Native.Nat.{ℕ}
 use mathlib.Core.Path.{◌≡◌, refl}
 use mathlib.Core.List.{[]}
 use Rattle.listing.specs.Quoted.{quoted}

@@ -1,7 +1,7 @@
 -- Laws of the loop that looks at the bytes before a place.
-use Prim.Native.Nat.{ℕ, suc, ◌+◌, ◌≤◌, ◌<◌}
-use mathlib.Core.Path.{◌≡◌, refl, sym, ap, ◌∙◌}
-use mathlib.Core.List.{List, [], ◌∷◌}
+use Prim.Native.Nat.{ℕ, ◌+◌, ◌≤◌, ◌<◌}
+use mathlib.Core.Path.{◌≡◌, sym, ap, ◌∙◌}
+use mathlib.Core.List.{List}
 use mathlib.Core.Bool.{Bool, true, false, cond}
 use native.Mathlib.Omega.{arith}
 use native.Mathlib.Numerals.{add-one}
@@ -9,7 +9,7 @@ use lib.Dec.{eqb}
 use lib.ListN.{length, drop, get_or}
 use lib.Seq.{drop-cons, drop-length}
 use Rattle.positions.specs.declared.Seen.{Seen}
-use Rattle.positions.specs.Positions.{on_byte, seen_from, seen_in, counted, Small}
+use Rattle.positions.specs.Positions.{on_byte, seen_from, counted, Small}
 
 -- no count is above the bytes passed
 pub record Passed (i : ℕ) (s : Seen) : Type 0 where

@@ -1,12 +1,12 @@
 -- Laws of adding a listing: for each `return` of the code, that this is what `added` says.
-use Prim.Native.Nat.{ℕ, ◌+◌, ◌-◌, ◌≤◌, ◌<◌}
+use Prim.Native.Nat.{ℕ, ◌+◌, ◌≤◌, ◌<◌}
 use mathlib.Core.Path.{◌≡◌, refl, sym, ap, ◌∙◌}
 use mathlib.Core.List.{List, []}
 use mathlib.Core.Bool.{Bool, true, false, ◌&&◌, cond}
 use native.Mathlib.Omega.{arith}
 use borrow.Author.Tests.{lt-ltb, le-ltb, le-leb, lt-leb, ne_eqb}
-use lib.Dec.{eqb, ltb, leb}
-use lib.ListN.{length, length-drop, drop}
+use lib.Dec.{eqb, leb}
+use lib.ListN.{length, length-drop}
 use Rattle.answers.specs.declared.Reading.{Reading}
 use Rattle.answers.specs.Shape.{longest_listing}
 use Rattle.answers.specs.Readers.{Read, listing_in, read_at}

@@ -1,19 +1,19 @@
 -- How much a listing of 65,536 bytes can add: an answer line adds at most 2 to the 28th for each of its bytes.
 use Prim.Native.Nat.{ℕ, zero, suc, ◌+◌, ◌*◌, ◌/◌, ◌%◌, ◌≤◌, ◌<◌}
-use mathlib.Core.Path.{◌≡◌, refl, sym, ap, subst, ◌∙◌}
+use mathlib.Core.Path.{◌≡◌, refl, ap, ◌∙◌}
 use mathlib.Core.List.{List, [], ◌∷◌, ◌++◌}
 use mathlib.Core.Bool.{Bool, true, false}
 use native.Mathlib.Omega.{arith}
 use native.Mathlib.Nat.{le-div_iff_mul-le}
 use borrow.Author.Tests.{ltb-true, ltb-false}
 use lib.Dec.{ltb}
-use lib.ListN.{length, length-append, get_or}
+use lib.ListN.{length, length-append}
 use Rattle.listing.specs.Decimal.{decimal, tens}
-use Rattle.listing.specs.Lines.{space, line_feed, letter_l, letter_s, letter_v, answer_head, words_of, ll_line, truth, truth_line, end_line, refused_line}
+use Rattle.listing.specs.Lines.{space, line_feed, letter_l, letter_s, answer_head, words_of, ll_line, truth, truth_line, end_line, refused_line}
 use Rattle.listing.proofs.DecimalLaws.{one_digit, last_digit}
 use Rattle.answers.specs.declared.Sum.{Sum}
-use Rattle.answers.specs.Shape.{largest, longest_listing, Answer, ll, sc, vl, Last, end, refused, line_of, last_of, lines_of, Fit, no_words, word, Fits, ll_fits, sc_fits, vl_fits, AllFit, no_lines, line, Right}
-use Rattle.answers.specs.Gains.{no_sum, bit, gain_of, process_of, tally, gained}
+use Rattle.answers.specs.Shape.{largest, Answer, ll, sc, vl, Last, end, refused, line_of, last_of, lines_of, Fit, no_words, word, Fits, ll_fits, sc_fits, vl_fits, AllFit, no_lines, line, Right}
+use Rattle.answers.specs.Gains.{bit, gain_of, process_of, tally, gained}
 use Rattle.answers.specs.Ranges.{Below, AllBelow}
 use Rattle.answers.proofs.SumLaws.{tally_below, weaker}
 

@@ -1,12 +1,12 @@
 -- Sums that began empty: rows 1, 2 and 9 leave them alone, and the order of the listings does not matter.
-use Prim.Native.Nat.{ℕ, zero, suc, ◌+◌, ◌*◌, ◌≤◌, ◌<◌}
+use Prim.Native.Nat.{ℕ, suc, ◌+◌, ◌*◌, ◌≤◌, ◌<◌}
 use mathlib.Core.Path.{◌≡◌, refl, sym, ap, subst, ◌∙◌}
 use mathlib.Core.List.{List, [], ◌∷◌, Permᴰ}
-use mathlib.Core.Bool.{Bool, true, false, ◌&&◌, cond, true≢false}
+use mathlib.Core.Bool.{Bool, true, false, cond, true≢false}
 use native.Mathlib.Omega.{arith}
 use borrow.Author.Tests.{lt-ltb, le-ltb, le-leb, leb-true, ltb-true, ltb-false}
 use lib.Dec.{ltb, leb}
-use lib.ListN.{length, get_or, replicate, get_or-replicate}
+use lib.ListN.{length, get_or-replicate}
 use Rattle.answers.specs.declared.Sum.{Sum}
 use Rattle.answers.specs.Shape.{longest_listing, Answer, Right}
 use Rattle.answers.specs.Gains.{no_sum, gained}

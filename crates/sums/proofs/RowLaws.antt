@@ -11,7 +11,6 @@ use lib.ListN.{length, get_or, set, get_or-replicate, length-replicate, length-s
 use lib.Seq.{get_or-set_same, get_or-set_other}
 use Rattle.answers.specs.declared.Sum.{Sum}
 use Rattle.answers.specs.Gains.{no_sum}
-use Rattle.sums.specs.declared.Row.{Row}
 use Rattle.sums.specs.Fractions.{row_of, no_row, rows_of}
 
 rows_suc : (l : List Sum) (k : ℕ) → set (rows_of l k) k (row_of (get_or l k no_sum)) ≡ rows_of l (suc k)

@@ -2,7 +2,7 @@
 use Prim.Native.Nat.{ℕ, zero, suc, ◌+◌, ◌≤◌, ◌<◌, ◌∣◌}
 use mathlib.Core.Path.{◌≡◌, refl, sym, ap, subst, ◌∙◌}
 use mathlib.Core.List.{List, [], ◌∷◌, Permᴰ}
-use mathlib.Core.Bool.{Bool, true, false, ◌&&◌, cond, true≢false}
+use mathlib.Core.Bool.{Bool, true, false, ◌&&◌}
 use native.Mathlib.Omega.{arith}
 use native.Mathlib.Nat.{dvd-zero}
 use borrow.Author.Tests.{leb-true, lt-ltb, ne_eqb}
@@ -11,17 +11,16 @@ use lib.ListN.{length, get_or, replicate, get_or-replicate, length-replicate}
 use Rattle.answers.specs.declared.Sum.{Sum}
 use Rattle.answers.specs.Shape.{Answer, ll, sc, vl, Right}
 use Rattle.answers.specs.Gains.{no_sum, plus, gain_of, gained}
-use Rattle.answers.specs.Readers.{Read, listing_in}
+use Rattle.answers.specs.Readers.{Read}
 use Rattle.answers.proofs.Theorems.{reads_shaped}
 use Rattle.sums.specs.declared.Sums.{Sums}
 use Rattle.sums.specs.declared.Fraction.{Fraction}
 use Rattle.sums.specs.declared.Row.{Row}
-use Rattle.sums.specs.declared.Table.{Table}
-use Rattle.sums.specs.Season.{empty_sums, most_listings, all_small, sums_refusal, is_right, listing_refusal, add_refusal, taking, added, add_all}
+use Rattle.sums.specs.Season.{empty_sums, most_listings, sums_refusal, is_right, listing_refusal, add_refusal, taking, added, add_all}
 use Rattle.sums.specs.Fractions.{none, lowest, Exact, row_of, no_row, rows_of, table}
 use Rattle.sums.specs.SeasonTable.{Listing, bytes_of, answers_of, sc_success, sc_answered, ll_steps, ll_answered, total, Tabled, SeasonTable}
 use Rattle.sums.proofs.GcdLaws.{lowest_terms, no_calls}
-use Rattle.sums.proofs.RefusalLaws.{Passes, passes, and_true}
+use Rattle.sums.proofs.RefusalLaws.{passes, and_true}
 use Rattle.sums.proofs.RowLaws.{row_below, row_past}
 use Rattle.sums.proofs.Order.{right_of, of_right, Fine, empty_fine, fine_right, all_fine, same_sums}
 use Rattle.sums.proofs.TotalLaws.{totals, all_gained}

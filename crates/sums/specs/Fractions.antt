@@ -1,5 +1,5 @@
 -- The table of a season: two fractions in lowest terms for each process (CR 2).
-use Rattle.std.specs.Prelude.{ℕ, zero, suc, ◌*◌, ◌/◌, ◌%◌, ◌<◌, ◌≡◌, List, Bool, cond, eqb, get_or, set, replicate}
+use Rattle.std.specs.Prelude.{ℕ, zero, suc, ◌*◌, ◌/◌, ◌%◌, ◌<◌, ◌≡◌, List, cond, eqb, get_or, set, replicate}
 use Rattle.std.specs.Int.{◌∣◌}
 use Rattle.answers.specs.declared.Sum.{Sum}
 use Rattle.answers.specs.Gains.{no_sum}

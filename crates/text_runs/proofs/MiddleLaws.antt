@@ -11,7 +11,7 @@ use borrow.Author.Tests.{eq-eqb, ne_eqb}
 use Rattle.notation.specs.declared.Entry.{Entry}
 use Rattle.notation.specs.declared.Entry.TheVariants.{StartLl, StartVl, StartSc, Step, Finish}
 use Rattle.text_runs.specs.Machines.{Machine}
-use Rattle.text_runs.specs.TextRun.{Progress, process_of, single, unanswered, finish, carry, carry_all}
+use Rattle.text_runs.specs.TextRun.{Progress, single, unanswered, finish, carry, carry_all}
 use Rattle.text_runs.specs.StopPlaces.{stop_index}
 use Rattle.text_runs.proofs.UntilAnswered.{until_answered}
 use Rattle.text_runs.proofs.KeptLaws.{all_stay}

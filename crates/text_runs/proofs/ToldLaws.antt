@@ -12,7 +12,7 @@ use borrow.Author.Tests.{ne_eqb, leb-false}
 use Rattle.notation.specs.declared.Entry.{Entry}
 use Rattle.notation.specs.declared.Entry.TheVariants.{StartLl, StartVl, StartSc, Step, Finish}
 use Rattle.text_runs.specs.Machines.{Machine}
-use Rattle.text_runs.specs.TextRun.{most_entries, room_needed, process_of, order_of, value_of}
+use Rattle.text_runs.specs.TextRun.{most_entries, room_needed, process_of}
 use Rattle.text_runs.specs.TextRun.{Progress, stopped, trace_line, lines_of, counted, commanded, single, unanswered, steps, carry, carry_all, begun}
 use Rattle.text_runs.proofs.SingleEntries.{outcome, made_commanded}
 

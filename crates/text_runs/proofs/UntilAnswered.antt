@@ -1,14 +1,14 @@
 -- "`!` is steps until the call answers, at least one": a step, and where it did not answer, the same again.
-use mathlib.Core.Path.{◌≡◌, refl, ap, ◌∙◌}
+use mathlib.Core.Path.{◌≡◌, refl, ap}
 use mathlib.Core.Bool.{Bool, true, false, not, cond, ◌&&◌}
-use Prim.Native.Nat.{ℕ, suc, ◌+◌, ◌-◌, ◌<◌}
+use Prim.Native.Nat.{ℕ, suc, ◌+◌, ◌-◌}
 use native.Mathlib.Omega.{arith}
 use lib.Dec.{eqb}
 use borrow.Author.Tests.{eqb-true}
 use Rattle.notation.specs.declared.Entry.TheVariants.{Step}
 use Rattle.text_runs.specs.Machines.{Machine}
 use Rattle.text_runs.specs.TextRun.{Progress, most_entries, single, unanswered, steps, finish}
-use Rattle.text_runs.proofs.SingleEntries.{Made, single_made, single_stays}
+use Rattle.text_runs.proofs.SingleEntries.{single_made, single_stays}
 
 module _ (M : Machine) where
   pub busy_after : (p : ℕ) (s : Progress M) → unanswered M p s ≡ true → (s.stop ≡ 0) × (M.idle s.memory p ≡ false)

@@ -1,6 +1,6 @@
 -- The meaning of a text run (01, "When the bench says no" and "Schedule text and listing"), on any machine and with any
 -- reader of texts, in two styles: the listing, and the trace, which has a line for each accepted command.
-use Rattle.std.specs.Prelude.{ℕ, zero, suc, ◌+◌, ◌-◌, List, [], ◌∷◌, ◌++◌, Bool, true, false, not, ◌&&◌, cond, eqb, ltb, leb, length, replicate}
+use Rattle.std.specs.Prelude.{ℕ, zero, suc, ◌+◌, ◌-◌, List, [], ◌∷◌, ◌++◌, Bool, not, ◌&&◌, cond, eqb, ltb, leb, length, replicate}
 use Rattle.std.proofs.lemmas.List.Edits.{sets}
 use Rattle.llsc.specs.declared.Order.{Order}
 use Rattle.llsc.specs.declared.Order.TheVariants

@@ -1,5 +1,4 @@
 -- `listing::plain`: the loop's invariant is that the bytes passed are written.
-use Prim.Native.Nat.{◌-◌}
 use mathlib.Core.Path.{sym}
 use native.Mathlib.Omega.{arith}
 use lib.Seq.{take_all}
@@ -10,18 +9,9 @@ use Rattle.listing.proofs.plain.Goals as goal
 pub loop-i-init : goal.loop-i-init
 loop-i-init c = record { wrote = none _ _; within = omega arith }
 
-pub bounds-bytes-i : goal.bounds-bytes-i
-bounds-bytes-i c = omega (arith, c.loop-i-test.true)
-
 pub put-next-requires : goal.put-next-requires
 put-next-requires c =
     byte_room _ _ c.loop-i-test.true c.requires c.loop-i.invariant.wrote
-
-pub overflow_add-i : goal.overflow_add-i
-overflow_add-i c = omega (arith, c.loop-i-test.true)
-
-pub loop-i-smaller : goal.loop-i-smaller
-loop-i-smaller c = omega (arith, c.loop-i-test.true)
 
 pub loop-i-preserved : goal.loop-i-preserved
 loop-i-preserved c =

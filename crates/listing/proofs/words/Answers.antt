@@ -1,6 +1,5 @@
 -- `listing::words`: the loop's invariant is that the words passed are written.
 use Rattle.listing.specs.Lines.{words_of}
-use Prim.Native.Nat.{◌-◌}
 use mathlib.Core.Path.{sym}
 use native.Mathlib.Omega.{arith}
 use Rattle.listing.proofs.WritingLaws.{then, same, none, kept, room_first, room_then}
@@ -16,28 +15,10 @@ put-next-requires c =
     room_first _ _
     (word_room _ _ _ c.requires.0 _ c.loop-i-test.true c.requires.1 c.loop-i.invariant.wrote)
 
-pub overflow_add-from : goal.overflow_add-from
-overflow_add-from c =
-    omega (arith, c.loop-i-test.true, c.requires.0)
-
-pub offset_bounds-ws-from : goal.offset_bounds-ws-from
-offset_bounds-ws-from c =
-    omega (arith, c.loop-i-test.true, c.requires.0)
-
-pub bounds-ws-from : goal.bounds-ws-from
-bounds-ws-from c =
-    omega (arith, c.loop-i-test.true, c.requires.0)
-
 pub number-next-requires : goal.number-next-requires
 number-next-requires c =
     room_first _ _
     (room_then _ (word_room _ _ _ c.requires.0 _ c.loop-i-test.true c.requires.1 c.loop-i.invariant.wrote) c.put-next.ensures)
-
-pub overflow_add-i : goal.overflow_add-i
-overflow_add-i c = omega (arith, c.loop-i-test.true)
-
-pub loop-i-smaller : goal.loop-i-smaller
-loop-i-smaller c = omega (arith, c.loop-i-test.true)
 
 pub loop-i-preserved : goal.loop-i-preserved
 loop-i-preserved c =

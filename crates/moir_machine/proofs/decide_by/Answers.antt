@@ -3,7 +3,6 @@ use mathlib.Core.Path.{sym, ap, ◌∙◌}
 use mathlib.Core.List.{List}
 use Prim.Native.Nat.{ℕ}
 use native.Mathlib.Omega.{arith}
-use lib.ListN.{length-map}
 use Rattle.moir_machine.specs.declared.Outcome.{Outcome}
 use Rattle.moir_machine.proofs.ObeyLaws.{obeyable, process_small, refused_law, obeyed_law}
 use Rattle.moir_machine.proofs.decide_by.Goals as goal
@@ -19,18 +18,22 @@ overflow_cast-process_number c =
     let a = c.args in
     omega (arith, process_small a.bench a.all.list a.len a.p a.order a.value.now a.words.now (sym c.requires ∙ c.if-number-ne0.false))
 
+pub record_at-process-requires : goal.record_at-process-requires
+record_at-process-requires c =
+    let a = c.args in
+    process_small a.bench a.all.list a.len a.p a.order a.value.now a.words.now (sym c.requires ∙ c.if-number-ne0.false)
+
 pub obey-moved-requires : goal.obey-moved-requires
 obey-moved-requires c =
     let a = c.args in
     rw c.record_at-process.ensures
     (obeyable a.bench a.all.list a.len a.p a.order a.value.now a.words.now
-    (simp length-map at c.type_inv.1.1.0.1.1.0.1.0.1)
-    (sym c.requires ∙ c.if-number-ne0.false))
+    (omega arith) (sym c.requires ∙ c.if-number-ne0.false))
 
 pub returns : goal.returns
 returns c =
     let a = c.args in
-    let ws : List ℕ = c.obey-moved.new.1.1.1.1.1.0 in
+    let ws : List ℕ = c.obey-moved.new.words in
     ap (λ (m : Outcome). (m, ws)) c.obeyed.ensures ∙
     obeyed_law a.bench a.all.list a.len a.p a.order a.value.now a.words.now (c.obey-moved.result, ws)
     (sym c.requires ∙ c.if-number-ne0.false)

@@ -1,5 +1,4 @@
 -- `notation::number`: the loop's invariant is that the digits passed lead from v to the value.
-use Prim.Native.Nat.{◌-◌}
 use mathlib.Core.Path.{sym, ap, ◌∙◌}
 use native.Mathlib.Omega.{arith}
 use native.Mathlib.Nat.{lt_irrefl, lt_of_lt_of_le}

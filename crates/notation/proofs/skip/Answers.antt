@@ -1,5 +1,4 @@
 -- `notation::skip`: the loop's invariant is that the bytes passed are gaps.
-use Prim.Native.Nat.{◌-◌}
 use mathlib.Core.Path.{sym, ap, ◌∙◌}
 use native.Mathlib.Omega.{arith}
 use native.Mathlib.Nat.{lt_irrefl, lt_of_lt_of_le}

@@ -10,12 +10,6 @@ pub copy_in-requires : goal.copy_in-requires
 copy_in-requires c =
     omega (arith, c.requires, first_row_lem c.args.n c.args.w c.requires.n_some)
 
-pub fill-requires : goal.fill-requires
-fill-requires c =
-    let a = c.args in
-    let e : length c.copy_in.new.0 ≡ length a.words.now = ap length c.copy_in.ensures ∙ simp length-sets in
-    (omega (arith, first_row_lem a.n a.w c.requires.n_some), omega (arith, c.requires, e))
-
 pub returns : goal.returns
 returns c =
     let a = c.args in

@@ -1,10 +1,6 @@
 use mathlib.Core.Path.{sym, ◌∙◌}
 use borrow.Author.Tests.{not-true, not-false}
 use Rattle.sums.proofs.AddLaws as laws
-use Rattle.sums.proofs.add_listing.Reads as reads
-use Rattle.sums.proofs.add_listing.Lts as lts
-use Rattle.answers.proofs.read_listing.Reads as read_listing_reads
-use Rattle.sums.proofs.refusals.sums_refusal.Reads as sums_refusal_reads
 use Rattle.sums.proofs.add_listing.Goals as goal
 
 -- src/lib.rt:72:9

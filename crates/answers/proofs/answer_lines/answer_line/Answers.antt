@@ -4,12 +4,6 @@ use borrow.Author.Tests.{not-true, not-false}
 use Rattle.answers.specs.declared.Line.{Line}
 use Rattle.answers.specs.Readers.{told_at}
 use Rattle.answers.proofs.LineLaws.{no_process_lem, no_gap, lettered}
-use Rattle.answers.proofs.answer_lines.answer_line.Reads as reads
-use Rattle.answers.proofs.answer_lines.answer_line.Lts as lts
-use Rattle.answers.proofs.answer_lines.by_letter.Reads as by_letter_reads
-use Rattle.answers.proofs.answer_lines.no_line.Reads as no_line_reads
-use Rattle.answers.proofs.numbers.expect.Reads as expect_reads
-use Rattle.answers.proofs.numbers.number.Reads as number_reads
 use Rattle.answers.proofs.answer_lines.answer_line.Goals as goal
 
 -- src/answer_lines.rt:175:9

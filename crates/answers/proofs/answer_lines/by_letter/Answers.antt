@@ -4,16 +4,6 @@ use Rattle.answers.specs.declared.Line.{Line}
 use Rattle.answers.specs.Readers.{told_at}
 use Rattle.answers.proofs.PlaceLaws.{inside}
 use Rattle.answers.proofs.LineLaws.{an_ll_is, an_sc_is, a_vl, no_letter, line_next}
-use Rattle.answers.proofs.answer_lines.by_letter.Reads as reads
-use Rattle.answers.proofs.answer_lines.by_letter.Lts as lts
-use Rattle.answers.proofs.answer_lines.line_of.Reads as line_of_reads
-use Rattle.answers.proofs.answer_lines.ll_gain.Reads as ll_gain_reads
-use Rattle.answers.proofs.answer_lines.ll_tail.Reads as ll_tail_reads
-use Rattle.answers.proofs.answer_lines.no_line.Reads as no_line_reads
-use Rattle.answers.proofs.answer_lines.sc_gain.Reads as sc_gain_reads
-use Rattle.answers.proofs.answer_lines.truth_tail.Reads as truth_tail_reads
-use Rattle.answers.proofs.numbers.byte_at.Reads as byte_at_reads
-use Rattle.answers.proofs.whole.no_sum.Reads as no_sum_reads
 use Rattle.answers.proofs.answer_lines.by_letter.Goals as goal
 
 -- src/answer_lines.rt:153:17

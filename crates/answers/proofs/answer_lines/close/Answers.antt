@@ -1,7 +1,4 @@
 use Rattle.answers.proofs.LineLaws.{closes, not_closed}
-use Rattle.answers.proofs.answer_lines.close.Reads as reads
-use Rattle.answers.proofs.answer_lines.close.Lts as lts
-use Rattle.answers.proofs.numbers.expect.Reads as expect_reads
 use Rattle.answers.proofs.answer_lines.close.Goals as goal
 
 -- src/answer_lines.rt:50:9

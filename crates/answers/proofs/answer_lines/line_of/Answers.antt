@@ -1,8 +1,5 @@
 use borrow.Author.Tests.{le-leb, lt-leb}
 use Rattle.answers.specs.Shape.{largest}
-use Rattle.answers.proofs.answer_lines.line_of.Reads as reads
-use Rattle.answers.proofs.answer_lines.line_of.Lts as lts
-use Rattle.answers.proofs.answer_lines.no_line.Reads as no_line_reads
 use Rattle.answers.proofs.answer_lines.line_of.Goals as goal
 
 -- src/answer_lines.rt:111:9

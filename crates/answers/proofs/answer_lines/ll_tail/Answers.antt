@@ -1,10 +1,5 @@
 use borrow.Author.Tests.{not-true, not-false}
 use Rattle.answers.proofs.LineLaws.{ll_no_count, ll_no_words, ll_closed}
-use Rattle.answers.proofs.answer_lines.ll_tail.Reads as reads
-use Rattle.answers.proofs.answer_lines.ll_tail.Lts as lts
-use Rattle.answers.proofs.answer_lines.close.Reads as close_reads
-use Rattle.answers.proofs.answer_lines.words.Reads as words_reads
-use Rattle.answers.proofs.numbers.spaced_number.Reads as spaced_number_reads
 use Rattle.answers.proofs.answer_lines.ll_tail.Goals as goal
 
 -- src/answer_lines.rt:62:9

@@ -1,8 +1,4 @@
 use Rattle.answers.proofs.LineLaws.{truth_no_count, no_truth, truth_closed}
-use Rattle.answers.proofs.answer_lines.truth_tail.Reads as reads
-use Rattle.answers.proofs.answer_lines.truth_tail.Lts as lts
-use Rattle.answers.proofs.answer_lines.close.Reads as close_reads
-use Rattle.answers.proofs.numbers.spaced_number.Reads as spaced_number_reads
 use Rattle.answers.proofs.answer_lines.truth_tail.Goals as goal
 
 -- src/answer_lines.rt:81:9

@@ -2,9 +2,6 @@ use Prim.Native.Nat.{◌<◌}
 use mathlib.Core.Path.{refl, ◌∙◌}
 use native.Mathlib.Omega.{arith}
 use Rattle.answers.proofs.LineLaws.{no_word, word_more, words_end}
-use Rattle.answers.proofs.answer_lines.words.Reads as reads
-use Rattle.answers.proofs.answer_lines.words.Lts as lts
-use Rattle.answers.proofs.numbers.spaced_number.Reads as spaced_number_reads
 use Rattle.answers.proofs.answer_lines.words.Goals as goal
 
 -- src/answer_lines.rt:31:5

@@ -2,9 +2,6 @@ use Prim.Native.Nat.{◌≤◌}
 use mathlib.Core.Path.{◌≡◌}
 use lib.ListN.{length, drop}
 use Rattle.answers.specs.Readers.{words_in}
-use Rattle.answers.proofs.answer_lines.words.Reads as reads
-use Rattle.answers.proofs.answer_lines.words.Lts as lts
-use Rattle.answers.proofs.numbers.spaced_number.Reads as spaced_number_reads
 use Rattle.answers.proofs.answer_lines.words.Given as goal
 
 abbrev pub invariant-loop-left : goal.invariant-loop-left

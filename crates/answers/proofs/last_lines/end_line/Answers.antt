@@ -1,10 +1,5 @@
 use borrow.Author.Tests.{not-true, not-false}
 use Rattle.answers.proofs.LineLaws.{no_end, an_end}
-use Rattle.answers.proofs.last_lines.end_line.Reads as reads
-use Rattle.answers.proofs.last_lines.end_line.Lts as lts
-use Rattle.answers.proofs.last_lines.finish.Reads as finish_reads
-use Rattle.answers.proofs.numbers.expect.Reads as expect_reads
-use Rattle.answers.proofs.numbers.number.Reads as number_reads
 use Rattle.answers.proofs.last_lines.end_line.Goals as goal
 
 -- src/last_lines.rt:46:9

@@ -1,8 +1,5 @@
 use borrow.Author.Tests.{not-true, not-false}
 use Rattle.answers.proofs.LineLaws.{no_entries, no_feed, at_end_is}
-use Rattle.answers.proofs.last_lines.finish.Reads as reads
-use Rattle.answers.proofs.last_lines.finish.Lts as lts
-use Rattle.answers.proofs.numbers.expect.Reads as expect_reads
 use Rattle.answers.proofs.last_lines.finish.Goals as goal
 
 -- src/last_lines.rt:23:9

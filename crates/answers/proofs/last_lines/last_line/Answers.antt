@@ -1,10 +1,5 @@
 use mathlib.Core.Path.{sym, ◌∙◌}
 use Rattle.answers.proofs.LineLaws.{is_end_lem, is_refused}
-use Rattle.answers.proofs.last_lines.last_line.Reads as reads
-use Rattle.answers.proofs.last_lines.last_line.Lts as lts
-use Rattle.answers.proofs.last_lines.end_line.Reads as end_line_reads
-use Rattle.answers.proofs.last_lines.refused_line.Reads as refused_line_reads
-use Rattle.answers.proofs.numbers.byte_at.Reads as byte_at_reads
 use Rattle.answers.proofs.last_lines.last_line.Goals as goal
 
 -- src/last_lines.rt:77:9

@@ -1,11 +1,5 @@
 use borrow.Author.Tests.{not-true, not-false}
 use Rattle.answers.proofs.LineLaws.{no_refused, no_refusal, a_refusal}
-use Rattle.answers.proofs.last_lines.refused_line.Reads as reads
-use Rattle.answers.proofs.last_lines.refused_line.Lts as lts
-use Rattle.answers.proofs.last_lines.finish.Reads as finish_reads
-use Rattle.answers.proofs.numbers.expect.Reads as expect_reads
-use Rattle.answers.proofs.numbers.number.Reads as number_reads
-use Rattle.answers.proofs.numbers.spaced_number.Reads as spaced_number_reads
 use Rattle.answers.proofs.last_lines.refused_line.Goals as goal
 
 -- src/last_lines.rt:59:9

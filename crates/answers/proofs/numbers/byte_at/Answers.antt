@@ -1,7 +1,5 @@
 use mathlib.Core.Path.{sym}
 use lib.ListN.{get_or-eq_default}
-use Rattle.answers.proofs.numbers.byte_at.Reads as reads
-use Rattle.answers.proofs.numbers.byte_at.Lts as lts
 use Rattle.answers.proofs.numbers.byte_at.Goals as goal
 
 -- src/numbers.rt:17:1

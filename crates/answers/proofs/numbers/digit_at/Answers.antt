@@ -4,9 +4,6 @@ use borrow.Author.Tests.{le-leb}
 use lib.Dec.{leb}
 use Rattle.answers.specs.Readers.{is_digit}
 use Rattle.answers.proofs.NumberLaws.{below_digits}
-use Rattle.answers.proofs.numbers.digit_at.Reads as reads
-use Rattle.answers.proofs.numbers.digit_at.Lts as lts
-use Rattle.answers.proofs.numbers.byte_at.Reads as byte_at_reads
 use Rattle.answers.proofs.numbers.digit_at.Goals as goal
 
 -- src/numbers.rt:32:9

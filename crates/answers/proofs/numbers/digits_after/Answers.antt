@@ -1,9 +1,6 @@
-use Prim.Native.Nat.{◌-◌}
 use mathlib.Core.Path.{refl}
 use native.Mathlib.Omega.{arith}
 use Rattle.answers.proofs.NumberLaws.{below_digits, above_digits, a_digit, stops, zero_stops, large_stops, goes_on, digits_end}
-use Rattle.answers.proofs.numbers.digits_after.Reads as reads
-use Rattle.answers.proofs.numbers.digits_after.Lts as lts
 use Rattle.answers.proofs.numbers.digits_after.Goals as goal
 
 -- src/numbers.rt:44:5

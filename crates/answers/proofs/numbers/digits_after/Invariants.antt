@@ -3,8 +3,6 @@ use mathlib.Core.Path.{◌≡◌}
 use lib.ListN.{length, drop}
 use Rattle.answers.specs.Shape.{largest}
 use Rattle.answers.specs.Readers.{digits_after}
-use Rattle.answers.proofs.numbers.digits_after.Reads as reads
-use Rattle.answers.proofs.numbers.digits_after.Lts as lts
 use Rattle.answers.proofs.numbers.digits_after.Given as goal
 
 abbrev pub invariant-loop-next : goal.invariant-loop-next

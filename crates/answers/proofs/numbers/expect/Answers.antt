@@ -1,9 +1,6 @@
-use Prim.Native.Nat.{◌-◌}
 use mathlib.Core.Path.{refl}
 use native.Mathlib.Omega.{arith}
 use Rattle.answers.proofs.NumberLaws.{missing, differs, agrees, word_end}
-use Rattle.answers.proofs.numbers.expect.Reads as reads
-use Rattle.answers.proofs.numbers.expect.Lts as lts
 use Rattle.answers.proofs.numbers.expect.Goals as goal
 
 -- src/numbers.rt:103:5

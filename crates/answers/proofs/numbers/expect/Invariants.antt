@@ -2,8 +2,6 @@ use Prim.Native.Nat.{◌-◌, ◌≤◌}
 use mathlib.Core.Path.{◌≡◌}
 use lib.ListN.{length, drop}
 use Rattle.answers.specs.Readers.{expected}
-use Rattle.answers.proofs.numbers.expect.Reads as reads
-use Rattle.answers.proofs.numbers.expect.Lts as lts
 use Rattle.answers.proofs.numbers.expect.Given as goal
 
 abbrev pub invariant-loop-i : goal.invariant-loop-i

@@ -1,16 +1,10 @@
 use Prim.Native.Nat.{ℕ, ◌+◌, ◌-◌}
 use mathlib.Core.Path.{refl, sym, ap, ◌∙◌}
 use native.Mathlib.Omega.{arith}
-use borrow.Author.Tests.{not-true, not-false}
 use lib.ListN.{drop, get_or}
 use Rattle.answers.specs.Readers.{digits_after}
 use Rattle.answers.proofs.PlaceLaws.{inside}
 use Rattle.answers.proofs.NumberLaws.{digit_range, no_number, number_from_is}
-use Rattle.answers.proofs.numbers.number.Reads as reads
-use Rattle.answers.proofs.numbers.number.Lts as lts
-use Rattle.answers.proofs.numbers.byte_at.Reads as byte_at_reads
-use Rattle.answers.proofs.numbers.digit_at.Reads as digit_at_reads
-use Rattle.answers.proofs.numbers.digits_after.Reads as digits_after_reads
 use Rattle.answers.proofs.numbers.number.Goals as goal
 
 -- src/numbers.rt:72:9

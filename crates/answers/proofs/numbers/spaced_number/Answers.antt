@@ -2,10 +2,6 @@ use mathlib.Core.Path.{sym, ◌∙◌}
 use native.Mathlib.Omega.{arith}
 use Rattle.answers.proofs.PlaceLaws.{inside}
 use Rattle.answers.proofs.NumberLaws.{no_space, after_space}
-use Rattle.answers.proofs.numbers.spaced_number.Reads as reads
-use Rattle.answers.proofs.numbers.spaced_number.Lts as lts
-use Rattle.answers.proofs.numbers.byte_at.Reads as byte_at_reads
-use Rattle.answers.proofs.numbers.number.Reads as number_reads
 use Rattle.answers.proofs.numbers.spaced_number.Goals as goal
 
 -- src/numbers.rt:88:9

@@ -1,12 +1,6 @@
 use Prim.Native.Nat.{◌-◌}
 use lib.ListN.{length}
 use Rattle.answers.proofs.WholeLaws.{Going}
-use Rattle.answers.proofs.whole.read_listing.Reads as reads
-use Rattle.answers.proofs.whole.read_listing.Lts as lts
-use Rattle.answers.proofs.answer_lines.answer_line.Reads as answer_line_reads
-use Rattle.answers.proofs.last_lines.last_line.Reads as last_line_reads
-use Rattle.answers.proofs.numbers.digit_at.Reads as digit_at_reads
-use Rattle.answers.proofs.whole.add_up.Reads as add_up_reads
 use Rattle.answers.proofs.whole.read_listing.Given as goal
 
 abbrev pub invariant-loop-more : goal.invariant-loop-more

@@ -38,9 +38,6 @@ filled : (e : Entry) (n w : ℕ) (p : ProcessNumber) (ws : List ℕ) {q k at : �
     → ws' ≡ offered (order_of e) p n w (value_of w e) ws
 filled e n w p ws {k = k} {at = at} f g h = let one : at + w - at ≡ w = omega arith in h ∙ ap (λ (j : ℕ). sets ws at (replicate j k)) one ∙ rw (f, g)
 
-pub returns-in_default : goal.returns-in_default
-returns-in_default c = not_offered c.args.e c.in_default.in_default-own.keys2 _ _ _ _
-
 pub overflow_add-at : goal.overflow_add-at
 overflow_add-at c =
     let l = c.requires in

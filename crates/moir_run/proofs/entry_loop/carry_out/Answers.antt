@@ -21,34 +21,34 @@ turn-now-requires c =
 
 pub stays-requires : goal.stays-requires
 stays-requires c =
-    (turn_sound c.loop-at.inv c.loop-at-test.taken c.entry_in-e.ensures c.turn-now.ensures).sixteen
+    (turn_sound c.loop-at.inv c.loop-at-test.true c.entry_in-e.ensures c.turn-now.ensures).sixteen
 
 pub loop-at-smaller-then-stays : goal.loop-at-smaller-then-stays
 loop-at-smaller-then-stays c =
     omega (
       arith,
-      turn_more c.loop-at.inv c.loop-at-test.taken c.entry_in-e.ensures c.turn-now.ensures c.if-now-ne0.false,
+      turn_more c.loop-at.inv c.loop-at-test.true c.entry_in-e.ensures c.turn-now.ensures c.if-now-ne0.false,
     )
 
 pub loop-at-preserved-then-stays : goal.loop-at-preserved-then-stays
 loop-at-preserved-then-stays c =
-    turn_further c.loop-at.inv c.loop-at-test.taken c.entry_in-e.ensures c.turn-now.ensures c.if-now-ne0.false
+    turn_further c.loop-at.inv c.loop-at-test.true c.entry_in-e.ensures c.turn-now.ensures c.if-now-ne0.false
     (sym c.stays.ensures ∙ c.if-stays.true)
 
 pub overflow_add-at : goal.overflow_add-at
 overflow_add-at c =
-    omega (arith, c.loop-at-test.taken, c.fits.count)
+    omega (arith, c.loop-at-test.true, c.fits.count)
 
 pub loop-at-smaller : goal.loop-at-smaller
 loop-at-smaller c =
     omega (
       arith,
-      turn_more c.loop-at.inv c.loop-at-test.taken c.entry_in-e.ensures c.turn-now.ensures c.if-now-ne0.false,
+      turn_more c.loop-at.inv c.loop-at-test.true c.entry_in-e.ensures c.turn-now.ensures c.if-now-ne0.false,
     )
 
 pub loop-at-preserved : goal.loop-at-preserved
 loop-at-preserved c =
-    turn_over c.loop-at.inv c.loop-at-test.taken c.entry_in-e.ensures c.turn-now.ensures c.if-now-ne0.false
+    turn_over c.loop-at.inv c.loop-at-test.true c.entry_in-e.ensures c.turn-now.ensures c.if-now-ne0.false
     (sym c.stays.ensures ∙ c.if-stays.false)
 
 pub shape_of-words-after-loop-at : goal.shape_of-words-after-loop-at
@@ -63,15 +63,15 @@ returns-after-loop-at c =
 
 pub shape_of-words-then-now-ne0 : goal.shape_of-words-then-now-ne0
 shape_of-words-then-now-ne0 c =
-    turn_words c.loop-at.inv c.loop-at-test.taken c.entry_in-e.ensures c.turn-now.ensures
+    turn_words c.loop-at.inv c.loop-at-test.true c.entry_in-e.ensures c.turn-now.ensures
 
 pub shape_of-list-then-now-ne0 : goal.shape_of-list-then-now-ne0
 shape_of-list-then-now-ne0 c =
-    turn_listing c.loop-at.inv c.loop-at-test.taken c.entry_in-e.ensures c.turn-now.ensures
+    turn_listing c.loop-at.inv c.loop-at-test.true c.entry_in-e.ensures c.turn-now.ensures
 
 pub returns-then-now-ne0 : goal.returns-then-now-ne0
 returns-then-now-ne0 c =
     record {
-      over = turn_ends c.loop-at.inv c.loop-at-test.taken c.entry_in-e.ensures c.turn-now.ensures c.if-now-ne0.true;
-      sound = turn_sound c.loop-at.inv c.loop-at-test.taken c.entry_in-e.ensures c.turn-now.ensures;
+      over = turn_ends c.loop-at.inv c.loop-at-test.true c.entry_in-e.ensures c.turn-now.ensures c.if-now-ne0.true;
+      sound = turn_sound c.loop-at.inv c.loop-at-test.true c.entry_in-e.ensures c.turn-now.ensures;
     }

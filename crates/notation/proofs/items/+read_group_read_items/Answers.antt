@@ -53,11 +53,11 @@ pub read_items-after-then-requires : goal.read_items-after-then-requires
 read_items-after-then-requires t c =
     let start = started c.loop-place.invariant.read.item c.begin-start.ensures.begins in
     let item : ItemSays c.args.text.now c.loop-place.next c.args.depth c.loop-place.list c.match-start.list c.loop-place.to c.match-start.how =
-        elim c.match-start.branch [
-          read_items-in-Wrong w ↦ item_fault w.list-is w.how-is w.in-Wrong.is start
-        | read_items-in-Single w ↦ item_single w.list-is w.how-is w.in-Single.is start w.keep-past.ensures
-        | read_items-in-Group w ↦ item_group w.list-is w.how-is w.in-Group.is start w.read_group-how.ensures
-        ]
+    elim c.match-start.branch [
+      | read_items-in-Wrong w ↦ item_fault w.list-is w.how-is w.in-Wrong.is start
+      | read_items-in-Single w ↦ item_single w.list-is w.how-is w.in-Single.is start w.keep-past.ensures
+      | read_items-in-Group w ↦ item_group w.list-is w.how-is w.in-Group.is start w.read_group-how.ensures
+    ]
     in
     (subst (ItemSays _ _ _ _ _ _) c.in-At.is item).is.read.within
 
@@ -65,11 +65,11 @@ pub read_items-loop-place-smaller : goal.read_items-loop-place-smaller
 read_items-loop-place-smaller t c =
     let start = started c.loop-place.invariant.read.item c.begin-start.ensures.begins in
     let item : ItemSays c.args.text.now c.loop-place.next c.args.depth c.loop-place.list c.match-start.list c.loop-place.to c.match-start.how =
-        elim c.match-start.branch [
-          read_items-in-Wrong w ↦ item_fault w.list-is w.how-is w.in-Wrong.is start
-        | read_items-in-Single w ↦ item_single w.list-is w.how-is w.in-Single.is start w.keep-past.ensures
-        | read_items-in-Group w ↦ item_group w.list-is w.how-is w.in-Group.is start w.read_group-how.ensures
-        ]
+    elim c.match-start.branch [
+      | read_items-in-Wrong w ↦ item_fault w.list-is w.how-is w.in-Wrong.is start
+      | read_items-in-Single w ↦ item_single w.list-is w.how-is w.in-Single.is start w.keep-past.ensures
+      | read_items-in-Group w ↦ item_group w.list-is w.how-is w.in-Group.is start w.read_group-how.ensures
+    ]
     in
     let over = (subst (ItemSays _ _ _ _ _ _) c.in-At.is item).is in
     let w = subst (FollowSays _ _) c.in-Item.is (followed c.after-then.ensures) in
@@ -79,11 +79,11 @@ pub read_items-loop-place-preserved : goal.read_items-loop-place-preserved
 read_items-loop-place-preserved t c =
     let start = started c.loop-place.invariant.read.item c.begin-start.ensures.begins in
     let item : ItemSays c.args.text.now c.loop-place.next c.args.depth c.loop-place.list c.match-start.list c.loop-place.to c.match-start.how =
-        elim c.match-start.branch [
-          read_items-in-Wrong w ↦ item_fault w.list-is w.how-is w.in-Wrong.is start
-        | read_items-in-Single w ↦ item_single w.list-is w.how-is w.in-Single.is start w.keep-past.ensures
-        | read_items-in-Group w ↦ item_group w.list-is w.how-is w.in-Group.is start w.read_group-how.ensures
-        ]
+    elim c.match-start.branch [
+      | read_items-in-Wrong w ↦ item_fault w.list-is w.how-is w.in-Wrong.is start
+      | read_items-in-Single w ↦ item_single w.list-is w.how-is w.in-Single.is start w.keep-past.ensures
+      | read_items-in-Group w ↦ item_group w.list-is w.how-is w.in-Group.is start w.read_group-how.ensures
+    ]
     in
     let over = (subst (ItemSays _ _ _ _ _ _) c.in-At.is item).is in
     let w = subst (FollowSays _ _) c.in-Item.is (followed c.after-then.ensures) in
@@ -93,11 +93,11 @@ pub read_items-returns-in-Failed : goal.read_items-returns-in-Failed
 read_items-returns-in-Failed t c =
     let start = started c.loop-place.invariant.read.item c.begin-start.ensures.begins in
     let item : ItemSays c.args.text.now c.loop-place.next c.args.depth c.loop-place.list c.match-start.list c.loop-place.to c.match-start.how =
-        elim c.match-start.branch [
-          read_items-in-Wrong w ↦ item_fault w.list-is w.how-is w.in-Wrong.is start
-        | read_items-in-Single w ↦ item_single w.list-is w.how-is w.in-Single.is start w.keep-past.ensures
-        | read_items-in-Group w ↦ item_group w.list-is w.how-is w.in-Group.is start w.read_group-how.ensures
-        ]
+    elim c.match-start.branch [
+      | read_items-in-Wrong w ↦ item_fault w.list-is w.how-is w.in-Wrong.is start
+      | read_items-in-Single w ↦ item_single w.list-is w.how-is w.in-Single.is start w.keep-past.ensures
+      | read_items-in-Group w ↦ item_group w.list-is w.how-is w.in-Group.is start w.read_group-how.ensures
+    ]
     in
     let fault = (subst (ItemSays _ _ _ _ _ _) c.in-Failed.is item).is in
     record { are = spoilt_then c.loop-place.invariant fault (λ es f i. items_broken f i) }
@@ -106,11 +106,11 @@ pub read_items-returns-in-End : goal.read_items-returns-in-End
 read_items-returns-in-End t c =
     let start = started c.loop-place.invariant.read.item c.begin-start.ensures.begins in
     let item : ItemSays c.args.text.now c.loop-place.next c.args.depth c.loop-place.list c.match-start.list c.loop-place.to c.match-start.how =
-        elim c.match-start.branch [
-          read_items-in-Wrong w ↦ item_fault w.list-is w.how-is w.in-Wrong.is start
-        | read_items-in-Single w ↦ item_single w.list-is w.how-is w.in-Single.is start w.keep-past.ensures
-        | read_items-in-Group w ↦ item_group w.list-is w.how-is w.in-Group.is start w.read_group-how.ensures
-        ]
+    elim c.match-start.branch [
+      | read_items-in-Wrong w ↦ item_fault w.list-is w.how-is w.in-Wrong.is start
+      | read_items-in-Single w ↦ item_single w.list-is w.how-is w.in-Single.is start w.keep-past.ensures
+      | read_items-in-Group w ↦ item_group w.list-is w.how-is w.in-Group.is start w.read_group-how.ensures
+    ]
     in
     let over = (subst (ItemSays _ _ _ _ _ _) c.in-At.is item).is in
     let w = subst (FollowSays _ _) c.in-End.is (followed c.after-then.ensures) in
@@ -120,11 +120,11 @@ pub read_items-returns-in-Shut : goal.read_items-returns-in-Shut
 read_items-returns-in-Shut t c =
     let start = started c.loop-place.invariant.read.item c.begin-start.ensures.begins in
     let item : ItemSays c.args.text.now c.loop-place.next c.args.depth c.loop-place.list c.match-start.list c.loop-place.to c.match-start.how =
-        elim c.match-start.branch [
-          read_items-in-Wrong w ↦ item_fault w.list-is w.how-is w.in-Wrong.is start
-        | read_items-in-Single w ↦ item_single w.list-is w.how-is w.in-Single.is start w.keep-past.ensures
-        | read_items-in-Group w ↦ item_group w.list-is w.how-is w.in-Group.is start w.read_group-how.ensures
-        ]
+    elim c.match-start.branch [
+      | read_items-in-Wrong w ↦ item_fault w.list-is w.how-is w.in-Wrong.is start
+      | read_items-in-Single w ↦ item_single w.list-is w.how-is w.in-Single.is start w.keep-past.ensures
+      | read_items-in-Group w ↦ item_group w.list-is w.how-is w.in-Group.is start w.read_group-how.ensures
+    ]
     in
     let over = (subst (ItemSays _ _ _ _ _ _) c.in-At.is item).is in
     let w = subst (FollowSays _ _) c.in-Shut.is (followed c.after-then.ensures) in
@@ -134,11 +134,11 @@ pub read_items-returns-in-Stray : goal.read_items-returns-in-Stray
 read_items-returns-in-Stray t c =
     let start = started c.loop-place.invariant.read.item c.begin-start.ensures.begins in
     let item : ItemSays c.args.text.now c.loop-place.next c.args.depth c.loop-place.list c.match-start.list c.loop-place.to c.match-start.how =
-        elim c.match-start.branch [
-          read_items-in-Wrong w ↦ item_fault w.list-is w.how-is w.in-Wrong.is start
-        | read_items-in-Single w ↦ item_single w.list-is w.how-is w.in-Single.is start w.keep-past.ensures
-        | read_items-in-Group w ↦ item_group w.list-is w.how-is w.in-Group.is start w.read_group-how.ensures
-        ]
+    elim c.match-start.branch [
+      | read_items-in-Wrong w ↦ item_fault w.list-is w.how-is w.in-Wrong.is start
+      | read_items-in-Single w ↦ item_single w.list-is w.how-is w.in-Single.is start w.keep-past.ensures
+      | read_items-in-Group w ↦ item_group w.list-is w.how-is w.in-Group.is start w.read_group-how.ensures
+    ]
     in
     let over = (subst (ItemSays _ _ _ _ _ _) c.in-At.is item).is in
     let w = subst (FollowSays _ _) c.in-Stray.is (followed c.after-then.ensures) in

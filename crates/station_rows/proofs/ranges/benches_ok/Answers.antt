@@ -18,14 +18,14 @@ pub returns-then-not-bench_ok : goal.returns-then-not-bench_ok
 returns-then-not-bench_ok c =
     let a = c.args in
     found (bench_ok_at a.station) a.station.r c.loop-j.j (omega arith) c.loop-j.invariant.1
-    (ap bench_ok (sym c.bench_of-bench.ensures) ∙ sym c.bench_ok.ensures ∙ not-true _ c.if-not-bench_ok.true)
+    (ap bench_ok (sym c.bench_of-bench.ensures) ∙ sym c.bench_ok.ensures ∙ c.if-not-bench_ok.true)
 
 pub loop-j-preserved : goal.loop-j-preserved
 loop-j-preserved c =
     let a = c.args in (
       omega arith,
       next (bench_ok_at a.station) a.station.r c.loop-j.j (omega arith) c.loop-j.invariant.1
-          (ap bench_ok (sym c.bench_of-bench.ensures) ∙ sym c.bench_ok.ensures ∙ not-false _ c.if-not-bench_ok.false),
+          (ap bench_ok (sym c.bench_of-bench.ensures) ∙ sym c.bench_ok.ensures ∙ c.if-not-bench_ok.false),
     )
 
 pub returns : goal.returns

@@ -5,7 +5,9 @@ use Rattle.laws.proofs.AndLaws.{pass, fail}
 use Rattle.station_rows.proofs.ranges.in_range.Goals as goal
 
 pub returns-then-not-benches_ok : goal.returns-then-not-benches_ok
-returns-then-not-benches_ok c = fail _ _ (sym c.benches_ok.ensures ∙ not-true _ c.if-not-benches_ok.taken)
+unfolding Rattle.station.specs.StationRefusals.station_in_range
+returns-then-not-benches_ok c = fail _ _ (sym c.benches_ok.ensures ∙ c.if-not-benches_ok.true)
 
 pub returns : goal.returns
-returns c = pass _ (sym c.benches_ok.ensures ∙ not-false _ c.if-not-benches_ok.left) c.processes_ok.ensures
+unfolding Rattle.station.specs.StationRefusals.station_in_range
+returns c = pass _ (sym c.benches_ok.ensures ∙ c.if-not-benches_ok.false) c.processes_ok.ensures

@@ -10,25 +10,17 @@ use Rattle.laws.proofs.ListLaws.{every_next, every_found, every_none, every_all}
 use Rattle.station_rows.proofs.ranges.processes_ok.Goals as goal
 
 pub loop-i-init : goal.loop-i-init
-loop-i-init c = (omega arith, every_all (station_process_ok c.args.n c.args.w c.args.r) c.args.t4.list c.args.n)
-
-pub returns-then-not-process_ok : goal.returns-then-not-process_ok
-returns-then-not-process_ok c =
-    let a = c.args in
-    let n : length a.t4.list ≡ 16 = simp length-map at c.type_inv.1.1.1.0.1.1.0.1.0.1 in
-    every_found (station_process_ok a.n a.w a.r) a.t4.list a.n c.loop-i.i no_station_process (omega arith) (omega arith) c.loop-i.invariant.1
-    (sym c.process_ok.ensures ∙ not-true _ c.if-not-process_ok.true)
-
-pub loop-i-preserved : goal.loop-i-preserved
-loop-i-preserved c =
-    let a = c.args in
-    let n : length a.t4.list ≡ 16 = simp length-map at c.type_inv.1.1.1.0.1.1.0.1.0.1 in (
-      omega arith,
-      every_next (station_process_ok a.n a.w a.r) a.t4.list a.n c.loop-i.i no_station_process (omega arith) (omega arith) c.loop-i.invariant.1
-          (sym c.process_ok.ensures ∙ not-false _ c.if-not-process_ok.false),
-    )
+loop-i-init c = (omega arith, every_all (station_process_ok c.args.n c.args.w c.args.r) c.args.all.list c.args.n)
 
 pub returns : goal.returns
 returns c =
     let a = c.args in
-    sym (c.loop-i.invariant.1 ∙ every_none (station_process_ok a.n a.w a.r) a.t4.list a.n c.loop-i.i (omega arith))
+    sym (c.loop-i.invariant.1 ∙ every_none (station_process_ok a.n a.w a.r) a.all.list a.n c.loop-i.i (omega arith))
+
+pub loop-i-preserved : goal.loop-i-preserved
+loop-i-preserved c =
+    let a = c.args in (
+      omega arith,
+      every_next (station_process_ok a.n a.w a.r) a.all.list a.n c.loop-i.i no_station_process (omega arith) (omega arith)
+          c.loop-i.invariant.1 (sym c.process_ok.ensures ∙ c.if-not-process_ok.false),
+    )

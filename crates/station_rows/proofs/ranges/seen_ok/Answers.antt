@@ -15,14 +15,14 @@ pub returns-then-not-process_ok : goal.returns-then-not-process_ok
 returns-then-not-process_ok c =
     let a = c.args in
     found (seen a.n a.w a.q) a.r c.loop-j.j (omega arith) c.loop-j.invariant.1
-    (ap (process_ok a.n a.w) (sym c.process_of-process.ensures) ∙ sym c.process_ok.ensures ∙ not-true _ c.if-not-process_ok.true)
+    (ap (process_ok a.n a.w) (sym c.process_of-process.ensures) ∙ sym c.process_ok.ensures ∙ c.if-not-process_ok.true)
 
 pub loop-j-preserved : goal.loop-j-preserved
 loop-j-preserved c =
     let a = c.args in (
       omega arith,
       next (seen a.n a.w a.q) a.r c.loop-j.j (omega arith) c.loop-j.invariant.1
-          (ap (process_ok a.n a.w) (sym c.process_of-process.ensures) ∙ sym c.process_ok.ensures ∙ not-false _ c.if-not-process_ok.false),
+          (ap (process_ok a.n a.w) (sym c.process_of-process.ensures) ∙ sym c.process_ok.ensures ∙ c.if-not-process_ok.false),
     )
 
 pub returns : goal.returns

@@ -1,10 +1,6 @@
 use native.Mathlib.Omega.{arith}
-use Prim.Native.Nat.{◌-◌}
 use mathlib.Core.Path.{refl, sym, ◌∙◌}
 use Rattle.sums.proofs.RefusalLaws.{small_step, small_stop, small_end}
-use Rattle.sums.proofs.refusals.all_small.Reads as reads
-use Rattle.sums.proofs.refusals.all_small.Lts as lts
-use Rattle.sums.proofs.refusals.small_sum.Reads as small_sum_reads
 use Rattle.sums.proofs.refusals.all_small.Goals as goal
 
 pub loop-k-init : goal.loop-k-init

@@ -1,9 +1,6 @@
-use Prim.Native.Nat.{◌-◌, ◌≤◌}
+use Prim.Native.Nat.{◌≤◌}
 use mathlib.Core.Path.{◌≡◌}
 use Rattle.sums.specs.Season.{all_small}
-use Rattle.sums.proofs.refusals.all_small.Reads as reads
-use Rattle.sums.proofs.refusals.all_small.Lts as lts
-use Rattle.sums.proofs.refusals.small_sum.Reads as small_sum_reads
 use Rattle.sums.proofs.refusals.all_small.Given as goal
 
 abbrev pub invariant-loop-k : goal.invariant-loop-k

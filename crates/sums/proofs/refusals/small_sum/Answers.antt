@@ -1,6 +1,4 @@
 use borrow.Author.Tests.{lt-ltb, le-ltb}
-use Rattle.sums.proofs.refusals.small_sum.Reads as reads
-use Rattle.sums.proofs.refusals.small_sum.Lts as lts
 use Rattle.sums.proofs.refusals.small_sum.Goals as goal
 
 pub returns-then-s-ge-SUM_LIMIT : goal.returns-then-s-ge-SUM_LIMIT

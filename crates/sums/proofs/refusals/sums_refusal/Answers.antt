@@ -1,10 +1,6 @@
 use Rattle.sums.specs.Season.{sums_refusal}
 use borrow.Author.Tests.{le-leb, lt-leb}
-use Prim.Native.Nat.{◌-◌}
 use mathlib.Core.Path.{sym}
-use Rattle.sums.proofs.refusals.sums_refusal.Reads as reads
-use Rattle.sums.proofs.refusals.sums_refusal.Lts as lts
-use Rattle.sums.proofs.refusals.all_small.Reads as all_small_reads
 use Rattle.sums.proofs.refusals.sums_refusal.Goals as goal
 
 pub returns-then-n-lt1 : goal.returns-then-n-lt1

@@ -3,7 +3,6 @@ use borrow.Author.Tests.{eq-eqb}
 use native.Mathlib.Omega.{arith}
 use Rattle.sums.proofs.GcdLaws.{gcd_positive, lowest_is}
 use Rattle.sums.proofs.GcdLaws.{above}
-use Rattle.sums.proofs.table_rows.gcd_of.Reads as gcd_of_reads
 use Rattle.sums.proofs.table_rows.lowest_terms.Goals as goal
 
 pub returns-then-b-eq0 : goal.returns-then-b-eq0

@@ -1,12 +1,7 @@
 use native.Mathlib.Omega.{arith}
-use Prim.Native.Nat.{◌-◌}
 use mathlib.Core.Path.{ap, ◌∙◌}
 use Rattle.sums.specs.Fractions.{rows_of}
 use Rattle.sums.proofs.RowLaws.{rows_more}
-use Rattle.sums.proofs.table_rows.rows_of.Reads as reads
-use Rattle.sums.proofs.table_rows.rows_of.Lts as lts
-use Rattle.sums.proofs.table_rows.no_row.Reads as no_row_reads
-use Rattle.sums.proofs.table_rows.row_of.Reads as row_of_reads
 use Rattle.sums.proofs.table_rows.rows_of.Goals as goal
 
 pub loop-k-init : goal.loop-k-init

@@ -1,10 +1,6 @@
 use Prim.Native.Nat.{◌-◌, ◌≤◌}
 use mathlib.Core.Path.{◌≡◌}
 use Rattle.sums.specs.Fractions.{rows_of}
-use Rattle.sums.proofs.table_rows.rows_of.Reads as reads
-use Rattle.sums.proofs.table_rows.rows_of.Lts as lts
-use Rattle.sums.proofs.table_rows.no_row.Reads as no_row_reads
-use Rattle.sums.proofs.table_rows.row_of.Reads as row_of_reads
 use Rattle.sums.proofs.table_rows.rows_of.Given as goal
 
 abbrev pub invariant-loop-k : goal.invariant-loop-k
