@@ -88,7 +88,7 @@ module _ (w : ℕ) (value written : Bor (List ℕ)) (k : ℕ) where
   abbrev number : ℕ
   number = view_number w value.now written.now k
 
-  pub refused_part : (number ≡ 0 → ⊥) → (value.ptr, []) ≡ view w value written k
+  pub refused_part : (number ≡ 0 → ⊥) → (value.ref_ptr, []) ≡ view w value written k
   unfolding view view_part
   refused_part e = simp (ne_eqb _ _ e, at_start)
 
@@ -101,5 +101,5 @@ module _ (w : ℕ) (value written : Bor (List ℕ)) (k : ℕ) where
   pub list_part : number ≡ 0 → (k ≡ 0 → ⊥) → ((written.ref_ptr.0, (k - 1) * w * 8 + written.ref_ptr.1), take w (drop ((k - 1) * w) written.now)) ≡ view w value written k
   unfolding view view_part
   list_part e z =
-      let far : (k - 1) * w * 8 + written.ptr.1 ≡ written.ptr.1 + (k - 1) * w * 8 = omega arith in
+      let far : (k - 1) * w * 8 + written.ref_ptr.1 ≡ written.ref_ptr.1 + (k - 1) * w * 8 = omega arith in
       rw far (simp (eq-eqb _ _ e, ne_eqb _ _ z))

@@ -8,7 +8,7 @@ use Rattle.viewing.proofs.view.Goals as goal
 pub returns-then-number-ne0 : goal.returns-then-number-ne0
 returns-then-number-ne0 c =
     let a = c.args in
-    refused_part a.w a.value a.written a.k (λ z. c.if1.true (c.view_number.ensures ∙ z))
+    refused_part a.w a.value a.written a.k (λ z. c.if-number-ne0.true (c.view_number-number.ensures ∙ z))
 
 pub returns-then-k-eq0 : goal.returns-then-k-eq0
 returns-then-k-eq0 c =
@@ -33,7 +33,7 @@ offset_bounds-written-from c =
 pub slice_bounds-result-end : goal.slice_bounds-result-end
 slice_bounds-result-end c =
     let a = c.args in
-    let v = viewed a.w a.value.now a.written.now a.k (sym c.view_number.ensures ∙ c.if1.false) in
+    let v = viewed a.w a.value.now a.written.now a.k (sym c.view_number-number.ensures ∙ c.if-number-ne0.false) in
     omega (arith, v, v.start (omega arith))
 
 pub returns : goal.returns
