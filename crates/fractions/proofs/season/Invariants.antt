@@ -1,12 +1,9 @@
-use Prim.Native.Nat.{◌-◌, ◌≤◌}
-use Rattle.fractions.proofs.season.Reads as reads
-use Rattle.fractions.proofs.season.Lts as lts
-use Rattle.fractions.proofs.files.add_file.Reads as add_file_reads
-use Rattle.fractions.proofs.notices.progress.Reads as progress_reads
+-- `fractions::season`: one file after the other.
+use Rattle.std.proofs.Common.{◌-◌, ◌≤◌}
 use Rattle.fractions.proofs.season.Given as goal
 
 abbrev pub invariant-loop-i : goal.invariant-loop-i
-invariant-loop-i l = 0 ≤ l.i
+invariant-loop-i g l = 0 ≤ l.i
 
 abbrev pub decreases-loop-i : goal.decreases-loop-i
-decreases-loop-i l = l.count - l.i
+decreases-loop-i g l = l.count - l.i

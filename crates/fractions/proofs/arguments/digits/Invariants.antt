@@ -2,8 +2,6 @@
 use Prim.Native.Nat.{◌-◌}
 use lib.ListN.{length}
 use Rattle.fractions.proofs.DigitLaws.{DigitInv}
-use Rattle.fractions.proofs.arguments.digits.Reads as reads
-use Rattle.fractions.proofs.arguments.digits.Lts as lts
 use Rattle.fractions.proofs.arguments.digits.Given as goal
 
 abbrev pub invariant-loop-i : goal.invariant-loop-i
