@@ -11,10 +11,6 @@ use Rattle.station_run.specs.TextByValue.{put_at, processes_ran}
 use borrow.Author.Rules.{rules}
 use Rattle.station_run.proofs.processes_ran.Goals as goal
 
-record_place-requires c κs = search rules
-
-pub record_place-requires : goal.record_place-requires
-
 pub loop-i-preserved : goal.loop-i-preserved
 loop-i-preserved c =
     let a = c.args in

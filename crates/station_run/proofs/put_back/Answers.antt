@@ -6,8 +6,6 @@ use Rattle.run.proofs.RecordLaws.{sixteen_most}
 use borrow.Author.Rules.{rules}
 use Rattle.station_run.proofs.put_back.Goals as goal
 
-records_seen-requires c κs = search rules
-
 pub returns-then-bench-eq0 : goal.returns-then-bench-eq0
 returns-then-bench-eq0 c = simp (eq-eqb c.args.out.bench.n 0 c.if-bench-eq0.true)
 

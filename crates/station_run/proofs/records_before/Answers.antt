@@ -13,10 +13,7 @@ use borrow.Author.Rules.{rules}
 use Rattle.station_run.proofs.records_before.Invariants.{=}
 use Rattle.station_run.proofs.records_before.Goals as goal
 
-records_of-requires c κs = search rules
-
 pub records_of-next-requires : goal.records_of-next-requires
-
 
 pub loop-i-init : goal.loop-i-init
 loop-i-init c = (omega arith, c.records_of-next.ensures ∙ simp c.no_process.ensures (seen_none c.args.all.list))

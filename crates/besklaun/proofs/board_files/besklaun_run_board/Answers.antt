@@ -9,8 +9,6 @@ use Rattle.tables.proofs.records.records_of.Reads as records_of_reads
 use borrow.Author.Rules.{rules}
 use Rattle.besklaun.proofs.board_files.besklaun_run_board.Goals as goal
 
-records_of-requires c κs = search rules
-
 pub records_of-all-requires : goal.records_of-all-requires
 
 pub run_listed-out-requires : goal.run_listed-out-requires

@@ -4,8 +4,6 @@ use Rattle.besklaun.proofs.OwnBenchLaws.{ran_alone}
 use borrow.Author.Rules.{rules}
 use Rattle.besklaun.proofs.texts.besklaun_run_text.Goals as goal
 
-records_of-requires c κs = search rules
-
 pub records_of-all-requires : goal.records_of-all-requires
 
 pub run_by_value-out-requires : goal.run_by_value-out-requires

@@ -15,8 +15,6 @@ use Rattle.run.proofs.StopLaws.{report_sixteen}
 use borrow.Author.Rules.{rules}
 use Rattle.run.proofs.text_run.run_in_style.Goals as goal
 
-records_seen-requires c κs = search rules
-
 pub records_seen-lent-requires : goal.records_seen-lent-requires
 
 pub returns-then-list-room_needed : goal.returns-then-list-room_needed
