@@ -9,8 +9,6 @@ use Rattle.station_run.proofs.put_back.Goals as goal
 pub returns-then-bench-eq0 : goal.returns-then-bench-eq0
 returns-then-bench-eq0 c = simp (eq-eqb c.args.out.bench.n 0 c.if-bench-eq0.true)
 
-pub records_seen-stored-requires : goal.records_seen-stored-requires
-
 pub processes_ran-requires : goal.processes_ran-requires
 processes_ran-requires c = subst (λ (k : ℕ). k ≤ 16) (sym c.records_seen-stored.ensures) (sixteen_most c.args.out.bench.n)
 
