@@ -1,8 +1,8 @@
 -- A record is carried out as an entry of a run that has done none: what it comes to is `BoardListing`'s, counted anew.
-use mathlib.Core.Path.{◌≡◌, refl, sym, ap, ap₂, subst, ◌∙◌}
+use mathlib.Core.Path.{◌≡◌, refl, sym, ap, subst, ◌∙◌}
 use mathlib.Core.Bool.{Bool, true, false, cond}
 use mathlib.Core.List.{List, [], ◌∷◌, ◌++◌}
-use Prim.Native.Nat.{ℕ, zero, suc, ◌+◌, ◌-◌, ◌≤◌, ◌<◌}
+use Prim.Native.Nat.{ℕ, zero, suc, ◌+◌, ◌-◌, ◌≤◌}
 use native.Mathlib.Omega.{arith}
 use lib.Dec.{eqb, ltb, leb}
 use lib.ListN.{length}
@@ -23,14 +23,14 @@ use Rattle.text_runs.proofs.KeptLaws.{kept_run}
 use Rattle.semantics.proofs.FarLaws.{far_refused}
 use Rattle.text_runs.specs.TextRun.{most_entries, room_needed, process_of, order_of, value_of}
 use Rattle.text_runs.specs.TextRun as TR
-use Rattle.semantics.specs.TextRun.{figure2, Progress, stopped, line_of, lines_of, trace_line, counted, commanded, single, carry, carry_all}
+use Rattle.semantics.specs.TextRun.{figure2, Progress, stopped, lines_of, trace_line, counted, commanded, single, carry, carry_all}
 use Rattle.text_runs.proofs.SingleEntries.{outcome}
-use Rattle.entry.specs.RunState.{RunState, state_of, progress, Ready, Small, Becomes, answer_line}
+use Rattle.entry.specs.RunState.{RunState, progress, Ready, Small, Becomes, answer_line}
 use Rattle.entry.proofs.WordLaws.{Below}
-use Rattle.entry.proofs.CommandLaws.{Decides, decides}
-use Rattle.entry.proofs.DecisionLaws.{Done, done}
+use Rattle.entry.proofs.CommandLaws.{decides}
+use Rattle.entry.proofs.DecisionLaws.{done}
 use Rattle.entry.proofs.SingleLaws.{value_every, refused_becomes, answered_becomes}
-use Rattle.board_listing.specs.BoardListing.{entry_of, obeyed}
+use Rattle.board_listing.specs.BoardListing.{entry_of}
 use Rattle.board_listing.specs.ListedRun.{recounted, Between}
 
 -- the entry of a record is one command

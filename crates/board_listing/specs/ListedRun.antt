@@ -5,7 +5,7 @@ use Rattle.std.specs.Prelude.{◌≡◌, ℕ, ◌+◌, ◌≤◌, List, false, l
 use Rattle.std.proofs.lemmas.List.Edits.{sets}
 use Rattle.boards.specs.Files.{BoardRecord}
 use Rattle.entry.specs.declared.state.Run.{Run}
-use Rattle.entry.specs.RunState.{RunState, state_of, progress, Sound}
+use Rattle.entry.specs.RunState.{RunState, progress, Sound}
 use Rattle.run.specs.Finished.{memory_of, last_of}
 use Rattle.semantics.specs.TextRun.{Progress, Ended}
 use Rattle.model.specs.Machine.{Memory}

@@ -4,10 +4,6 @@ use Rattle.board_rows.proofs.FileRows.{has_trailer, long_enough}
 use Rattle.board_listing.proofs.ListedLaws.{file_small, file_refused, records_there, records_few, file_run_is}
 use Rattle.board_listing.proofs.listed.run_file.Goals as goal
 
-records_of-requires c κs =
-    let file = c.before.before.before.before.before.args.file.now in
-    long_enough file (has_trailer file (sym c.before.file_refusal.ensures ∙ c.if1.false))
-
 pub refused-requires : goal.refused-requires
 refused-requires c =
     (file_small _ c.file_refusal-number.ensures, c.requires.2)
@@ -18,6 +14,8 @@ returns-then-number-ne0 c =
     file_refused a.run a.words.now a.file.now a.list.now c.file_refusal-number.ensures c.if-number-ne0.true c.refused.ensures
 
 pub records_of-from-requires : goal.records_of-from-requires
+records_of-from-requires c =
+    long_enough c.args.file.now (has_trailer c.args.file.now (sym c.file_refusal-number.ensures ∙ c.if-number-ne0.false))
 
 pub obey_records-done-requires : goal.obey_records-done-requires
 obey_records-done-requires c =

@@ -3,7 +3,7 @@ use mathlib.Core.Path.{sym, ap, subst, ◌∙◌}
 use mathlib.Core.Bool.{false}
 use Prim.Native.Nat.{ℕ, ◌≤◌}
 use native.Mathlib.Omega.{arith}
-use lib.ListN.{length, length-map, length-replicate}
+use lib.ListN.{length, length-replicate}
 use Rattle.model.specs.Machine.{Shaped}
 use Rattle.run.specs.Finished.{memory_of}
 use Rattle.setup.specs.SetUpByValue.{Accepted}
@@ -13,10 +13,6 @@ use Rattle.setup.proofs.SetUpLaws.{set_up_fits}
 use Rattle.run.proofs.StartLaws.{number_small, first_state_is}
 use Rattle.board_listing.proofs.ListedLaws.{lent, as_fresh, set_up_refused, begun_between, set_up_run}
 use Rattle.board_listing.proofs.listed.set_up_and_run.Goals as goal
-
-records_at_set_up-requires c κs =
-    let at = c.before.before.before.before.before.before.before in let n = at.before in let x = n.before.before.before.before.args in
-    (set_up_fits x.n x.w 16 (length x.words.now) x.w (sym n.set_up_number.ensures ∙ at.if1.false)).n_most
 
 pub refused-requires : goal.refused-requires
 refused-requires c =
@@ -53,6 +49,9 @@ bench_at_set_up-begun-requires c =
     (set_up_fits x.n x.w 16 (length x.words.now) x.w (sym c.set_up_number-number.ensures ∙ c.if-number-ne0.false)).n_most
 
 pub records_at_set_up-records-requires : goal.records_at_set_up-records-requires
+records_at_set_up-records-requires c =
+    let x = c.args in
+    (set_up_fits x.n x.w 16 (length x.words.now) x.w (sym c.set_up_number-number.ensures ∙ c.if-number-ne0.false)).n_most
 
 pub run_file-requires : goal.run_file-requires
 run_file-requires c =
@@ -60,10 +59,7 @@ run_file-requires c =
     let small : x.initial ≤ largest = omega (arith, c.type_inv) in
     let begins = first_state_is false x.bench x.words.now l x.n x.w x.initial small (sym c.set_up_number-number.ensures ∙ c.if-number-ne0.false)
     c.fresh-run.ensures c.bench_at_set_up-begun.ensures c.records_at_set_up-records.ensures c.words_at_set_up.ensures c.repeated-value.ensures in
-    let shaped : Shaped (memory_of x.bench x.all 16 x.words.now) = record {
-      bank = simp length-map c c.type_inv.0.1.1.1.1.1.0.1.0.1;
-      help = simp length-map c c.type_inv.0.1.1.1.1.1.1.0.1.0.1;
-    } in (
+    let shaped : Shaped (memory_of x.bench x.all 16 x.words.now) = record { bank = omega arith; help = omega arith } in (
       begun_between x.bench x.words.now x.file.now l x.n x.w x.initial c.set_up_number-number.ensures small c.if-number-ne0.false shaped begins,
       as_fresh c.fresh-run.ensures,
       c.requires.1,
