@@ -12,6 +12,7 @@ use moir_steps::word_places;
 use notation::Entry;
 
 // The line of a WLL that names a process.
+#[tactic(auto, unfolding(moir_semantics::specs::TextRun::named_line))]
 fn named_line(list: &mut [u8], at: usize, p: u64, count: u64, named: u64) -> usize
     requires { Room list.old at (named_line p count named) }
     ensures { Wrote list.old at (named_line p count named) list.new result }
@@ -79,6 +80,7 @@ fn answered(reply: Reply) -> bool
 }
 
 // The trace's line of a step.
+#[tactic(auto, unfolding(moir_semantics::specs::TextRun::step_line))]
 fn step_line(list: &mut [u8], at: usize, k: u64, p: u64, access: Access, ends: bool) -> usize
     requires { Room list.old at (step_line k p access ends) }
     ensures { Wrote list.old at (step_line k p access ends) list.new result }

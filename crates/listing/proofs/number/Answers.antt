@@ -1,10 +1,9 @@
 -- `listing::number`: the loop's invariant is that the digits of the divisions done stand in the last places.
-use Prim.Native.Nat.{◌+◌, ◌-◌}
 use mathlib.Core.Path.{sym}
 use native.Mathlib.Omega.{arith}
-use native.Mathlib.Nat.{div-mul-le_self, lt-div-mul-add}
+use native.Mathlib.Nat.{div-mul-le_self}
 use Rattle.listing.proofs.WritingLaws.{same, room_same}
-use Rattle.listing.proofs.FilledLaws.{most, filled_none, room, not_more, filled_sized, filled_more, filled_all}
+use Rattle.listing.proofs.FilledLaws.{most, filled_none, room, filled_more, filled_all}
 use Rattle.listing.proofs.number.Goals as goal
 
 pub loop-rest-init : goal.loop-rest-init

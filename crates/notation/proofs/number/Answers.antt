@@ -10,9 +10,6 @@ use Rattle.notation.proofs.number.Goals as goal
 pub loop-next-init : goal.loop-next-init
 loop-next-init c = record { counts = still; on = omega arith; within = c.requires.0; small = c.requires.1 }
 
-pub bounds-text-next : goal.bounds-text-next
-bounds-text-next c = omega arith
-
 pub returns-in_default : goal.returns-in_default
 returns-in_default c =
     record
@@ -32,19 +29,6 @@ returns-then-not-may_follow c =
       is = sym c.class-k.ensures ∙ c.in-Digit.is;
       not = sym c.may_follow.ensures ∙ c.if-not-may_follow.true;
     }
-
-pub overflow_mul-value : goal.overflow_mul-value
-overflow_mul-value c = omega (arith, c.loop-next.invariant.small)
-
-pub overflow_add-value : goal.overflow_add-value
-overflow_add-value c =
-    omega (arith, c.loop-next.invariant.small, digit_small _ _ (sym c.class-k.ensures ∙ c.in-Digit.is))
-
-pub overflow_add-next : goal.overflow_add-next
-overflow_add-next c = omega arith
-
-pub loop-next-smaller : goal.loop-next-smaller
-loop-next-smaller c = omega arith
 
 pub loop-next-preserved : goal.loop-next-preserved
 loop-next-preserved c =

@@ -10,19 +10,10 @@ use Rattle.notation.proofs.skip.Goals as goal
 pub loop-next-init : goal.loop-next-init
 loop-next-init c = record { on = omega arith; within = c.requires; gaps = stay }
 
-pub bounds-text-next : goal.bounds-text-next
-bounds-text-next c = omega arith
-
 pub returns-in_default : goal.returns-in_default
 returns-in_default c =
     record
     { gaps = c.loop-next.invariant.gaps; on = c.loop-next.invariant.on; within = c.loop-next.invariant.within; stops = λ h. ap is_gap (sym c.class-k.ensures) ∙ not_gap c.class-k.result c.in_default.not-Gap }
-
-pub overflow_add-next : goal.overflow_add-next
-overflow_add-next c = omega arith
-
-pub loop-next-smaller : goal.loop-next-smaller
-loop-next-smaller c = omega arith
 
 pub loop-next-preserved : goal.loop-next-preserved
 loop-next-preserved c =

@@ -11,17 +11,8 @@ use Rattle.positions.proofs.look.Goals as goal
 pub loop-i-init : goal.loop-i-init
 loop-i-init c = record { within = omega arith; passed = record { feeds = omega arith; since = omega arith; spaces = omega arith }; left = refl }
 
-pub bounds-before-i : goal.bounds-before-i
-bounds-before-i c = omega arith
-
 pub on_byte-s-requires : goal.on_byte-s-requires
 on_byte-s-requires c = small c.loop-i.invariant.passed c.loop-i-test.true (omega arith)
-
-pub overflow_add-i : goal.overflow_add-i
-overflow_add-i c = omega arith
-
-pub loop-i-smaller : goal.loop-i-smaller
-loop-i-smaller c = omega arith
 
 pub loop-i-preserved : goal.loop-i-preserved
 loop-i-preserved c =

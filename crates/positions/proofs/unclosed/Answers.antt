@@ -10,23 +10,10 @@ use Rattle.positions.proofs.unclosed.Goals as goal
 pub loop-left-init : goal.loop-left-init
 loop-left-init c = record { within = omega arith; same = refl }
 
-pub overflow_sub-left : goal.overflow_sub-left
-overflow_sub-left c = omega arith
-
-pub bounds-text-left : goal.bounds-text-left
-bounds-text-left c = omega (arith, c.loop-left.invariant.within, c.loop-left-test.true)
-
 pub returns-then-opens_here : goal.returns-then-opens_here
 returns-then-opens_here c =
     let x = c.loop-left in
     found c.args.text.now x.left x.closed c.loop-left-test.true c.opens_here.ensures c.if-opens_here.true ∙ x.invariant.same
-
-pub closed_with-closed-requires : goal.closed_with-closed-requires
-closed_with-closed-requires c =
-    omega (arith, c.loop-left.invariant.within, c.loop-left-test.true)
-
-pub loop-left-smaller : goal.loop-left-smaller
-loop-left-smaller c = omega (arith, c.loop-left-test.true)
 
 pub loop-left-preserved : goal.loop-left-preserved
 loop-left-preserved c =

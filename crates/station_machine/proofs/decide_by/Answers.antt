@@ -8,7 +8,6 @@ use Rattle.station_machine.proofs.StationObeyLaws.{process_small, record_small, 
 use borrow.Author.Rules.{rules}
 use Rattle.station_machine.proofs.decide_by.Goals as goal
 
-record_about-requires c κs = search rules
 
 pub returns-then-number-ne0 : goal.returns-then-number-ne0
 returns-then-number-ne0 c =
@@ -22,7 +21,7 @@ pub overflow_cast-me : goal.overflow_cast-me
 overflow_cast-me c =
     let a = c.args in
     let none = sym c.requires ∙ c.if-number-ne0.false in
-    let sixteen : length a.all.list ≡ 16 = simp length-map at c.type_inv.1.1.0.1.1.0.1.0.1 in
+    let sixteen : length a.all.list ≡ 16 = omega arith in
     omega (
       arith,
       process_small
@@ -34,18 +33,17 @@ pub process_at-q-requires : goal.process_at-q-requires
 process_at-q-requires c =
     let a = c.args in
     let none = sym c.requires ∙ c.if-number-ne0.false in
-    let sixteen : length a.all.list ≡ 16 = simp length-map at c.type_inv.1.1.0.1.1.0.1.0.1 in
+    let sixteen : length a.all.list ≡ 16 = omega arith in
     process_small
     a.station a.all.list a.len a.p a.order a.named a.value.now a.words.now
     sixteen none
 
-pub record_about-requires : goal.record_about-requires
 
 pub overflow_cast-j : goal.overflow_cast-j
 overflow_cast-j c =
     let a = c.args in
     let none = sym c.requires ∙ c.if-number-ne0.false in
-    let sixteen : length a.all.list ≡ 16 = simp length-map at c.type_inv.1.1.0.1.1.0.1.0.1 in
+    let sixteen : length a.all.list ≡ 16 = omega arith in
     let small : c.record_about.result < 8 = rw (c.record_about.ensures, c.process_at-q.ensures) (record_small
     a.station a.all.list a.len a.p a.order a.named a.value.now a.words.now
     sixteen none) in
@@ -55,7 +53,7 @@ pub bench_of-bench-requires : goal.bench_of-bench-requires
 bench_of-bench-requires c =
     let a = c.args in
     let none = sym c.requires ∙ c.if-number-ne0.false in
-    let sixteen : length a.all.list ≡ 16 = simp length-map at c.type_inv.1.1.0.1.1.0.1.0.1 in
+    let sixteen : length a.all.list ≡ 16 = omega arith in
     rw (c.record_about.ensures, c.process_at-q.ensures) (record_small
     a.station a.all.list a.len a.p a.order a.named a.value.now a.words.now
     sixteen none)
@@ -64,7 +62,7 @@ pub process_of-process-requires : goal.process_of-process-requires
 process_of-process-requires c =
     let a = c.args in
     let none = sym c.requires ∙ c.if-number-ne0.false in
-    let sixteen : length a.all.list ≡ 16 = simp length-map at c.type_inv.1.1.0.1.1.0.1.0.1 in
+    let sixteen : length a.all.list ≡ 16 = omega arith in
     rw (c.record_about.ensures, c.process_at-q.ensures) (record_small
     a.station a.all.list a.len a.p a.order a.named a.value.now a.words.now
     sixteen none)
@@ -73,7 +71,7 @@ pub rows_of-rows-requires : goal.rows_of-rows-requires
 rows_of-rows-requires c =
     let a = c.args in
     let none = sym c.requires ∙ c.if-number-ne0.false in
-    let sixteen : length a.all.list ≡ 16 = simp length-map at c.type_inv.1.1.0.1.1.0.1.0.1 in
+    let sixteen : length a.all.list ≡ 16 = omega arith in
     sizes_small
     a.station a.all.list a.len a.p a.order a.named a.value.now a.words.now
     sixteen none
@@ -82,14 +80,14 @@ pub obey_in-moved-requires : goal.obey_in-moved-requires
 obey_in-moved-requires c =
     let a = c.args in
     let none = sym c.requires ∙ c.if-number-ne0.false in
-    let sixteen : length a.all.list ≡ 16 = simp length-map at c.type_inv.1.1.0.1.1.0.1.0.1 in
+    let sixteen : length a.all.list ≡ 16 = omega arith in
     taken_obeyable
     a.station a.all.list a.len a.p a.order a.named a.value.now a.words.now
     (record {
-      process-is = c.process_at-q.ensures;
+      process_is = c.process_at-q.ensures;
       number_is = c.record_about.ensures;
-      bench-is = c.bench_of-bench.ensures;
-      seen-is = c.process_of-process.ensures;
+      bench_is = c.bench_of-bench.ensures;
+      seen_is = c.process_of-process.ensures;
       rows_is = c.rows_of-rows.ensures;
     })
     sixteen none
@@ -98,7 +96,7 @@ pub obeyed-requires : goal.obeyed-requires
 obeyed-requires c =
     let a = c.args in
     let none = sym c.requires ∙ c.if-number-ne0.false in
-    let sixteen : length a.all.list ≡ 16 = simp length-map at c.type_inv.1.1.0.1.1.0.1.0.1 in
+    let sixteen : length a.all.list ≡ 16 = omega arith in
     rw (c.record_about.ensures, c.process_at-q.ensures) (record_small
     a.station a.all.list a.len a.p a.order a.named a.value.now a.words.now
     sixteen none)
@@ -110,10 +108,10 @@ returns c =
     whole
     a.station a.all.list a.len a.p a.order a.named a.value.now a.words.now
     (record {
-      process-is = c.process_at-q.ensures;
+      process_is = c.process_at-q.ensures;
       number_is = c.record_about.ensures;
-      bench-is = c.bench_of-bench.ensures;
-      seen-is = c.process_of-process.ensures;
+      bench_is = c.bench_of-bench.ensures;
+      seen_is = c.process_of-process.ensures;
       rows_is = c.rows_of-rows.ensures;
     })
     none c.obey_in-moved.ensures c.obeyed.ensures

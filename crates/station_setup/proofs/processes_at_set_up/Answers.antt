@@ -14,7 +14,7 @@ use Rattle.station_setup.proofs.processes_at_set_up.Goals as goal
 pub loop-i-preserved : goal.loop-i-preserved
 loop-i-preserved c =
     let a = c.args in
-    let sixteen : length a.all.list ≡ 16 = simp length-map at c.type_inv.0.1.1.0.1.0.1 in
+    let sixteen : length a.all.list ≡ 16 = omega arith in
     let next = firsts_one_more (process_for a.n a.r) c.loop-i.i a.all.list no_station_process (omega (arith, sixteen, c.requires)) in (
       omega arith,
       c.with_process-next.ensures ∙ simp (c.process_for-q.ensures, c.process_at.ensures, c.loop-i.invariant.1) (ap (λ (l : List StationProcess). record { list = l }) next),

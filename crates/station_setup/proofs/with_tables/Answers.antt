@@ -10,7 +10,7 @@ use Rattle.station_setup.proofs.with_tables.Goals as goal
 pub loop-j-preserved : goal.loop-j-preserved
 loop-j-preserved c =
     let a = c.args in
-    let eight : length a.station.tables ≡ 8 = simp length-map at c.type_inv.0.1.1.1.1.1.0.1.0.1 in (
+    let eight : length a.station.tables ≡ 8 = omega arith in (
       omega arith,
       c.put_bench-next.ensures
           ∙ simp (c.bench_at_set_up-set.ensures, c.bench_of-bench.ensures, c.loop-j.invariant.1)

@@ -30,15 +30,15 @@ offset_bounds-written-from c =
     let v = viewed c.args.w c.args.value.now c.args.written.now c.args.k (sym c.view_number-number.ensures ∙ c.if-number-ne0.false) in
     bytes_fit v (omega (arith, c.type_inv)) (omega arith)
 
-pub slice_bounds-result-end : goal.slice_bounds-result-end
-slice_bounds-result-end c =
-    let a = c.args in
-    let v = viewed a.w a.value.now a.written.now a.k (sym c.view_number-number.ensures ∙ c.if-number-ne0.false) in
-    omega (arith, v, v.start (omega arith))
-
 pub returns : goal.returns
 returns c =
     let a = c.args in
     let size : (a.k - 1) * a.w + a.w - (a.k - 1) * a.w ≡ a.w = omega arith in
     let e = sym c.view_number-number.ensures ∙ c.if-number-ne0.false in
     rw size (list_part a.w a.value a.written a.k e c.if-k-eq0.false)
+
+pub slice_bounds-result-end-2 : goal.slice_bounds-result-end-2
+slice_bounds-result-end-2 c =
+    let a = c.args in
+    let v = viewed a.w a.value.now a.written.now a.k (sym c.view_number-number.ensures ∙ c.if-number-ne0.false) in
+    omega (arith, v, v.start (omega arith))

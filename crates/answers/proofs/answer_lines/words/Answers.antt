@@ -22,14 +22,6 @@ returns-then-word-gt-LARGEST c =
       g.ensures.1,
     )
 
--- src/answer_lines.rt:37:9
-pub overflow_sub-left : goal.overflow_sub-left
-overflow_sub-left c = omega arith
-
--- src/answer_lines.rt:31:5
-pub loop-left-smaller : goal.loop-left-smaller
-loop-left-smaller c = omega arith
-
 -- src/answer_lines.rt:31:5
 pub loop-left-preserved : goal.loop-left-preserved
 loop-left-preserved c =

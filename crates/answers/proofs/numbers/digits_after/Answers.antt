@@ -7,10 +7,6 @@ use Rattle.answers.proofs.numbers.digits_after.Goals as goal
 pub loop-next-init : goal.loop-next-init
 loop-next-init c = (refl, c.requires)
 
--- src/numbers.rt:45:17
-pub bounds-text-next : goal.bounds-text-next
-bounds-text-next c = omega arith
-
 -- src/numbers.rt:47:13
 pub returns-then-b-lt48 : goal.returns-then-b-lt48
 returns-then-b-lt48 c =
@@ -30,32 +26,12 @@ returns-then-value-eq0 c =
     let d = a_digit _ c.if-b-lt48.false c.if-b-gt57.false in
     (zero_stops _ _ _ _ c.loop-next-test.true i.0 d c.if-value-eq0.true, i.1.0)
 
--- src/numbers.rt:55:20
-pub overflow_mul-more : goal.overflow_mul-more
-overflow_mul-more c = omega arith
-
--- src/numbers.rt:55:33
-pub overflow_cast-more : goal.overflow_cast-more
-overflow_cast-more c = omega arith
-
--- src/numbers.rt:55:20
-pub overflow_add-more : goal.overflow_add-more
-overflow_add-more c = omega arith
-
 -- src/numbers.rt:57:13
 pub returns-then-more-gt-LARGEST : goal.returns-then-more-gt-LARGEST
 returns-then-more-gt-LARGEST c =
     let i = c.loop-next.invariant in
     let d = a_digit _ c.if-b-lt48.false c.if-b-gt57.false in
     (large_stops _ _ _ _ c.loop-next-test.true i.0 d c.if-value-eq0.false c.if-more-gt-LARGEST.true, i.1.0)
-
--- src/numbers.rt:60:9
-pub overflow_add-next : goal.overflow_add-next
-overflow_add-next c = omega arith
-
--- src/numbers.rt:44:5
-pub loop-next-smaller : goal.loop-next-smaller
-loop-next-smaller c = omega arith
 
 -- src/numbers.rt:44:5
 pub loop-next-preserved : goal.loop-next-preserved

@@ -11,31 +11,11 @@ loop-i-init c = (refl, c.requires)
 pub returns-then-text-next : goal.returns-then-text-next
 returns-then-text-next c = let i = c.loop-i.invariant in (missing _ _ _ _ _ c.loop-i-test.true i.0 c.if-text-next.true, i.1)
 
--- src/numbers.rt:107:12
-pub bounds-text-next : goal.bounds-text-next
-bounds-text-next c = omega arith
-
--- src/numbers.rt:107:26
-pub bounds-word-i : goal.bounds-word-i
-bounds-word-i c = omega arith
-
 -- src/numbers.rt:108:13
 pub returns-then-text-next-2 : goal.returns-then-text-next-2
 returns-then-text-next-2 c =
     let i = c.loop-i.invariant in
     (differs _ _ _ _ _ c.loop-i-test.true i.0 c.if-text-next.false c.if-text-next-2.true, i.1)
-
--- src/numbers.rt:110:9
-pub overflow_add-next : goal.overflow_add-next
-overflow_add-next c = omega arith
-
--- src/numbers.rt:111:9
-pub overflow_add-i : goal.overflow_add-i
-overflow_add-i c = omega arith
-
--- src/numbers.rt:103:5
-pub loop-i-smaller : goal.loop-i-smaller
-loop-i-smaller c = omega arith
 
 -- src/numbers.rt:103:5
 pub loop-i-preserved : goal.loop-i-preserved

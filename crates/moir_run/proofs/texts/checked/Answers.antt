@@ -1,9 +1,6 @@
 -- `moir_run::texts::checked`: the items read once, and then carried out or refused.
 use mathlib.Core.Path.{ap, subst, ◌∙◌}
-use native.Mathlib.Omega.{arith}
 use Rattle.notation.specs.Listed.{ItemsSay}
-use Rattle.notation.proofs.HeaderLaws.{headed_within, headed_small}
-use Rattle.notation.proofs.ListedLaws.{kept_within}
 use Rattle.text_runs.proofs.FaultLaws.{broken_small}
 use Rattle.text_runs.proofs.TextLaws.{broken_says, closed_says, kept_says}
 use Rattle.text_runs.proofs.StopLaws.{report_is, broken_stops, closed_stops, kept_stops}
@@ -12,32 +9,10 @@ use Rattle.moir_run.specs.TextRan.{at_start, seen}
 use Rattle.moir_run.proofs.FarLaws.{far}
 use Rattle.moir_run.proofs.texts.checked.Goals as goal
 
-pub read_items-read-requires : goal.read_items-read-requires
-read_items-read-requires c =
-    (headed_within c.requires.1.line, omega arith, c.requires.1.placeable)
-
 pub refused-requires : goal.refused-requires
 refused-requires c = (
   c.requires.0,
   broken_small (subst (ItemsSay _ _ _ _ _ _) c.in-Broken.is c.read_items-read.ensures).are.is,
-)
-
-pub overflow_sub-place : goal.overflow_sub-place
-overflow_sub-place c =
-    omega (
-      arith,
-      (subst (ItemsSay _ _ _ _ _ _) c.in-Closed.is c.read_items-read.ensures).are.read.on,
-    )
-
-pub refused-requires-in-Closed : goal.refused-requires-in-Closed
-refused-requires-in-Closed c =
-    (c.requires.0, omega arith)
-
-pub started-requires : goal.started-requires
-started-requires c = (
-  c.requires.0,
-  (headed_small c.requires.1.line).2,
-  kept_within (subst (ItemsSay _ _ _ _ _ _) c.in-Ended.is c.read_items-read.ensures).are.lists,
 )
 
 pub returns-in-Broken : goal.returns-in-Broken

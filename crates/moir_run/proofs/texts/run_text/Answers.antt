@@ -6,20 +6,13 @@ use Rattle.text_runs.proofs.TextLaws.{run_12, run_not_headed, run_headed}
 use Rattle.text_runs.proofs.StopLaws.{report_is, line_stops, stops_12, stops_looked}
 use Rattle.moir_semantics.specs.TextRun.{figure6}
 use Rattle.moir_run.specs.TextRan.{at_start, seen}
-use Rattle.moir_run.proofs.StartLaws.{no_room, room_left, room_most}
+use Rattle.moir_run.proofs.StartLaws.{no_room, room_left}
 use Rattle.moir_run.proofs.texts.run_text.Goals as goal
 
 pub returns-then-list-room_needed : goal.returns-then-list-room_needed
 returns-then-list-room_needed c =
     let a = c.args in
     no_room a.traced a.text.now a.list.now c.returned.ensures c.at_no_entry.ensures c.fresh-run.ensures (omega (arith, c.if-list-room_needed.true, c.room_needed.ensures))
-
-pub refused-requires : goal.refused-requires
-refused-requires c =
-    let a = c.args in (
-      room_most a.traced a.list.now (room_left a.traced a.list.now c.room_needed.ensures c.if-list-room_needed.false),
-      omega arith,
-    )
 
 pub returns-then-text-gt-LONGEST_TEXT : goal.returns-then-text-gt-LONGEST_TEXT
 returns-then-text-gt-LONGEST_TEXT c =
@@ -29,32 +22,14 @@ returns-then-text-gt-LONGEST_TEXT c =
       stops = stops_12 figure6 c.if-text-gt-LONGEST_TEXT.true c.refused.ensures.1;
     }
 
-pub refused-requires-in-NoFirst : goal.refused-requires-in-NoFirst
-refused-requires-in-NoFirst c =
-    let a = c.args in (
-      room_most a.traced a.list.now (room_left a.traced a.list.now c.room_needed.ensures c.if-list-room_needed.false),
-      omega arith,
-    )
-
-pub checked-requires : goal.checked-requires
-checked-requires c =
-    let a = c.args in (
-      room_most a.traced a.list.now (room_left a.traced a.list.now c.room_needed.ensures c.if-list-room_needed.false),
-      record {
-        line = (subst (HeaderSays _) c.in-First.is c.first_line-header.ensures);
-        placeable =
-            omega (arith, c.if-text-gt-LONGEST_TEXT.false);
-      },
-    )
-
 pub returns-in-NoFirst : goal.returns-in-NoFirst
 returns-in-NoFirst c =
     let a = c.args in
     record {
       same = c.refused-in-NoFirst.ensures.0 ∙ ap seen (run_not_headed figure6 a.traced at_start a.text.now
-          a.list.now (room_left a.traced a.list.now c.room_needed.ensures c.if-list-room_needed.left) c.if-text-gt-LONGEST_TEXT.left (subst (HeaderSays _) c.in-NoFirst.is c.first_line-header.ensures));
+          a.list.now (room_left a.traced a.list.now c.room_needed.ensures c.if-list-room_needed.false) c.if-text-gt-LONGEST_TEXT.false (subst (HeaderSays _) c.in-NoFirst.is c.first_line-header.ensures));
       stops = stops_looked figure6
-          (room_left a.traced a.list.now c.room_needed.ensures c.if-list-room_needed.left) c.if-text-gt-LONGEST_TEXT.left (report_is
+          (room_left a.traced a.list.now c.room_needed.ensures c.if-list-room_needed.false) c.if-text-gt-LONGEST_TEXT.false (report_is
           figure6 c.refused-in-NoFirst.ensures.1 (line_stops figure6 (subst (HeaderSays _) c.in-NoFirst.is c.first_line-header.ensures)));
     }
 
@@ -62,7 +37,7 @@ pub returns-in-First : goal.returns-in-First
 returns-in-First c =
     let a = c.args in
     record {
-      same = c.checked.ensures.0 ∙ ap seen (run_headed figure6 a.traced at_start a.text.now a.list.now (room_left a.traced a.list.now c.room_needed.ensures c.if-list-room_needed.left) c.if-text-gt-LONGEST_TEXT.left (subst
+      same = c.checked.ensures.0 ∙ ap seen (run_headed figure6 a.traced at_start a.text.now a.list.now (room_left a.traced a.list.now c.room_needed.ensures c.if-list-room_needed.false) c.if-text-gt-LONGEST_TEXT.false (subst
           (HeaderSays _) c.in-First.is c.first_line-header.ensures));
-      stops = stops_looked figure6 (room_left a.traced a.list.now c.room_needed.ensures c.if-list-room_needed.left) c.if-text-gt-LONGEST_TEXT.left c.checked.ensures.1;
+      stops = stops_looked figure6 (room_left a.traced a.list.now c.room_needed.ensures c.if-list-room_needed.false) c.if-text-gt-LONGEST_TEXT.false c.checked.ensures.1;
     }

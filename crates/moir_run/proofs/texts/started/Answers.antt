@@ -7,7 +7,7 @@ use Rattle.text_runs.proofs.StopLaws.{stop_within, item_read}
 use Rattle.moir_semantics.specs.TextRun.{figure6}
 use Rattle.moir_run.specs.declared.turns.Run.{Run}
 use Rattle.moir_run.specs.RunState.{Sound}
-use Rattle.moir_run.proofs.StartLaws.{sound_closable, closed_report, number_few, first_sound, accepted}
+use Rattle.moir_run.proofs.StartLaws.{closed_report, number_few, first_sound, accepted}
 use Rattle.moir_run.proofs.StartLaws.{set_up_lent, prefix_length, first_state_is, refused_start, refused_report}
 use Rattle.moir_run.proofs.StartLaws.{carried_closed, begun_report}
 use Rattle.moir_run.proofs.texts.started.Goals as goal
@@ -55,7 +55,7 @@ pub carry_out-carried-requires : goal.carry_out-carried-requires
 carry_out-carried-requires c =
     let a = c.args in (
       c.requires.2,
-      subst Sound (sym (first_state_is a.traced a.first.n a.first.w a.first.initial a.list.now (accepted a.traced a.first.n a.first.w a.first.initial a.list.now (sym c.set_up_number-number.ensures ∙ c.if-number-ne0.left)).w_most c.fresh-run.ensures c.bench_at_set_up-bench.ensures c.empty_bench.ensures c.words_at_set_up.ensures c.no_words-words.ensures c.repeated-value.ensures))
+      subst Sound (sym (first_state_is a.traced a.first.n a.first.w a.first.initial a.list.now (accepted a.traced a.first.n a.first.w a.first.initial a.list.now (sym c.set_up_number-number.ensures ∙ c.if-number-ne0.false)).w_most c.fresh-run.ensures c.bench_at_set_up-bench.ensures c.empty_bench.ensures c.words_at_set_up.ensures c.no_words-words.ensures c.repeated-value.ensures))
           (first_sound a.traced a.first.n a.first.w a.first.initial a.list.now c.requires.1 c.requires.0),
       ap (λ (r : Run). r.stop) c.fresh-run.ensures,
     )
@@ -64,18 +64,15 @@ pub stop_report-report-requires : goal.stop_report-report-requires
 stop_report-report-requires c =
     stop_within figure6 c.args.kept.now c.requires.2 (ap (λ (r : Run). r.stop) c.fresh-run.ensures) c.carry_out-carried.ensures.over
 
-pub ended-requires : goal.ended-requires
-ended-requires c = sound_closable c.carry_out-carried.ensures.sound
-
 pub returns : goal.returns
 returns c =
     let a = c.args in (
       carried_closed a.traced a.first.n a.first.w a.first.initial a.list.now (places_in a.count
-          a.kept.now) c.set_up_number-number.ensures c.if-number-ne0.left c.carry_out-carried.ensures (first_state_is a.traced
+          a.kept.now) c.set_up_number-number.ensures c.if-number-ne0.false c.carry_out-carried.ensures (first_state_is a.traced
           a.first.n a.first.w a.first.initial a.list.now (accepted a.traced a.first.n a.first.w
-          a.first.initial a.list.now (sym c.set_up_number-number.ensures ∙ c.if-number-ne0.left)).w_most c.fresh-run.ensures c.bench_at_set_up-bench.ensures c.empty_bench.ensures c.words_at_set_up.ensures c.no_words-words.ensures c.repeated-value.ensures) c.ended.ensures,
+          a.first.initial a.list.now (sym c.set_up_number-number.ensures ∙ c.if-number-ne0.false)).w_most c.fresh-run.ensures c.bench_at_set_up-bench.ensures c.empty_bench.ensures c.words_at_set_up.ensures c.no_words-words.ensures c.repeated-value.ensures) c.ended.ensures,
       closed_report c.carry_out-carried.result.run _
           c.ended.ensures ∙ c.stop_report-report.ensures ∙ item_read figure6 a.kept.now c.requires.2 (ap (λ (r :
           Run). r.stop) c.fresh-run.ensures) c.carry_out-carried.ensures.over a.first.n a.first.w ∙ begun_report a.traced a.first.n a.first.w a.first.initial a.list.now (entries_in a.count a.kept.now)
-          (places_in a.count a.kept.now) c.set_up_number-number.ensures c.if-number-ne0.left (first_state_is a.traced a.first.n a.first.w a.first.initial a.list.now (accepted a.traced a.first.n a.first.w a.first.initial a.list.now (sym c.set_up_number-number.ensures ∙ c.if-number-ne0.left)).w_most c.fresh-run.ensures c.bench_at_set_up-bench.ensures c.empty_bench.ensures c.words_at_set_up.ensures c.no_words-words.ensures c.repeated-value.ensures),
+          (places_in a.count a.kept.now) c.set_up_number-number.ensures c.if-number-ne0.false (first_state_is a.traced a.first.n a.first.w a.first.initial a.list.now (accepted a.traced a.first.n a.first.w a.first.initial a.list.now (sym c.set_up_number-number.ensures ∙ c.if-number-ne0.false)).w_most c.fresh-run.ensures c.bench_at_set_up-bench.ensures c.empty_bench.ensures c.words_at_set_up.ensures c.no_words-words.ensures c.repeated-value.ensures),
     )

@@ -9,9 +9,12 @@ use Rattle.moir_run.proofs.turns.accepted.Goals as goal
 pub overflow_cast-own : goal.overflow_cast-own
 overflow_cast-own c = omega (arith, process_few c.requires c.process_of-p.ensures)
 
+pub record_at-process-requires : goal.record_at-process-requires
+record_at-process-requires c = process_few c.requires c.process_of-p.ensures
+
 pub access_seen-access-requires : goal.access_seen-access-requires
 access_seen-access-requires c =
-    ready_as c.requires c.process_of.ensures c.record_at.ensures
+    ready_as c.requires c.process_of-p.ensures c.record_at-process.ensures
 
 pub slice_bounds-value-end : goal.slice_bounds-value-end
 slice_bounds-value-end c =
@@ -23,24 +26,20 @@ slice_bounds-obey-end c =
 
 pub obey-moved-requires : goal.obey-moved-requires
 obey-moved-requires c =
-    obeyable_as c.requires c.process_of.ensures c.record_at.ensures c.value_of-value.ensures c.words_of-count.ensures c.order_of-order.ensures
-
-pub overflow_add-k : goal.overflow_add-k
-overflow_add-k c =
-    omega (arith, c.requires.more)
+    obeyable_as c.requires c.process_of-p.ensures c.record_at-process.ensures c.value_of-value.ensures c.words_of-count.ensures c.order_of-order.ensures
 
 pub trace_line-shown-requires : goal.trace_line-shown-requires
 trace_line-shown-requires c =
-    shown_room c.requires c.process_of.ensures c.record_at.ensures c.value_of-value.ensures c.words_of-count.ensures c.order_of-order.ensures c.obey-moved.ensures c.access_seen-access.ensures
+    shown_room c.requires c.process_of-p.ensures c.record_at-process.ensures c.value_of-value.ensures c.words_of-count.ensures c.order_of-order.ensures c.obey-moved.ensures c.access_seen-access.ensures
 
 pub answer_line-written-requires : goal.answer_line-written-requires
 answer_line-written-requires c =
-    listable_as c.requires c.process_of.ensures c.record_at.ensures c.value_of_lem.ensures c.words_of.ensures c.order_of.ensures c.obey.ensures c.access_seen.ensures c.trace_line.ensures
+    listable_as c.requires c.process_of-p.ensures c.record_at-process.ensures c.value_of-value.ensures c.words_of-count.ensures c.order_of-order.ensures c.obey-moved.ensures c.access_seen-access.ensures c.trace_line-shown.ensures
 
 pub with_record-next-requires : goal.with_record-next-requires
 with_record-next-requires c =
-    omega (arith, process_few c.requires c.process_of.ensures)
+    omega (arith, process_few c.requires c.process_of-p.ensures)
 
 pub returns : goal.returns
 returns c =
-    carried_as c.requires c.process_of.ensures c.record_at.ensures c.value_of-value.ensures c.words_of-count.ensures c.order_of-order.ensures c.obey-moved.ensures c.access_seen-access.ensures c.trace_line-shown.ensures c.answer_line-written.ensures c.with_record-next.ensures
+    carried_as c.requires c.process_of-p.ensures c.record_at-process.ensures c.value_of-value.ensures c.words_of-count.ensures c.order_of-order.ensures c.obey-moved.ensures c.access_seen-access.ensures c.trace_line-shown.ensures c.answer_line-written.ensures c.with_record-next.ensures

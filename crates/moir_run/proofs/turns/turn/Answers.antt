@@ -10,9 +10,6 @@ returns-then-run-ge-MOST_ENTRIES c =
     let a = c.args in
     stop_turn a.e a.run a.words.now a.list.now c.stopped.ensures (turn_12 a.e c.requires.0 c.requires.1 c.requires.2 c.if-run-ge-MOST_ENTRIES.true)
 
-pub overflow_sub-list : goal.overflow_sub-list
-overflow_sub-list c = omega (arith, c.requires.0.room)
-
 pub returns-then-list-run : goal.returns-then-list-run
 returns-then-list-run c =
     let a = c.args in
@@ -21,19 +18,19 @@ returns-then-list-run c =
 pub returns-then-number-ne0 : goal.returns-then-number-ne0
 returns-then-number-ne0 c =
     let a = c.args in
-    stop_turn a.e a.run a.words.now a.list.now c.stopped-then-number-ne0.ensures (turn_refused_is a.e c.requires.0 c.requires.1 c.requires.2 c.if-run-ge-MOST_ENTRIES.left (omega (arith, c.if-list-run.left, c.room_needed.ensures))
+    stop_turn a.e a.run a.words.now a.list.now c.stopped-then-number-ne0.ensures (turn_refused_is a.e c.requires.0 c.requires.1 c.requires.2 c.if-run-ge-MOST_ENTRIES.false (omega (arith, c.if-list-run.false, c.room_needed.ensures))
     (number_as a.e c.requires.0 c.refusal-number.ensures c.process_of-p.ensures c.order_of-order.ensures c.words_of-count.ensures) c.if-number-ne0.true)
 
 pub accepted-requires : goal.accepted-requires
 accepted-requires c =
     let a = c.args in
-    turn_free a.e c.requires.0 c.requires.1 c.requires.2 c.if-run-ge-MOST_ENTRIES.left (omega (
+    turn_free a.e c.requires.0 c.requires.1 c.requires.2 c.if-run-ge-MOST_ENTRIES.false (omega (
       arith,
-      c.if-list-run.left,
+      c.if-list-run.false,
       c.room_needed.ensures,
     )) (sym (number_as a.e c.requires.0 c.refusal-number.ensures c.process_of-p.ensures c.order_of-order.ensures c.words_of-count.ensures) ∙ c.if-number-ne0.false)
 
 pub returns : goal.returns
 returns c =
-    c.accepted.ensures ∙ turn_made c.args.e c.requires.0 c.requires.1 c.requires.2 c.if-run-ge-MOST_ENTRIES.left (omega
-    (arith, c.if-list-run.left, c.room_needed.ensures))
+    c.accepted.ensures ∙ turn_made c.args.e c.requires.0 c.requires.1 c.requires.2 c.if-run-ge-MOST_ENTRIES.false (omega
+    (arith, c.if-list-run.false, c.room_needed.ensures))

@@ -6,20 +6,8 @@ use Rattle.sums.proofs.refusals.all_small.Goals as goal
 pub loop-k-init : goal.loop-k-init
 loop-k-init c = (refl, omega arith)
 
-pub overflow_sub-last : goal.overflow_sub-last
-overflow_sub-last c = omega arith
-
-pub offset_bounds-each-last : goal.offset_bounds-each-last
-offset_bounds-each-last c = omega (arith, c.loop-k.invariant.1)
-
-pub bounds-each-last : goal.bounds-each-last
-bounds-each-last c = omega (arith, c.loop-k.invariant.1)
-
 pub returns-then-not-ok : goal.returns-then-not-ok
 returns-then-not-ok c = sym (small_stop _ _ c.loop-k-test.true (sym c.small_sum-ok.ensures ∙ c.if-not-ok.true)) ∙ c.loop-k.invariant.0
-
-pub loop-k-smaller : goal.loop-k-smaller
-loop-k-smaller c = omega (arith, c.loop-k-test.true)
 
 pub loop-k-preserved : goal.loop-k-preserved
 loop-k-preserved c =

@@ -1,12 +1,6 @@
 use borrow.Author.Tests.{lt-ltb, le-ltb}
 use Rattle.sums.proofs.refusals.small_sum.Goals as goal
 
-pub returns-then-s-ge-SUM_LIMIT : goal.returns-then-s-ge-SUM_LIMIT
-returns-then-s-ge-SUM_LIMIT c = simp (le-ltb _ _ c.if-s-ge-SUM_LIMIT.true)
-
-pub returns-then-s-ge-SUM_LIMIT-2 : goal.returns-then-s-ge-SUM_LIMIT-2
-returns-then-s-ge-SUM_LIMIT-2 c = simp (lt-ltb _ _ c.if-s-ge-SUM_LIMIT.false, le-ltb _ _ c.if-s-ge-SUM_LIMIT-2.true)
-
 pub returns-then-s-ge-SUM_LIMIT-3 : goal.returns-then-s-ge-SUM_LIMIT-3
 returns-then-s-ge-SUM_LIMIT-3 c = simp (lt-ltb _ _ c.if-s-ge-SUM_LIMIT.false, lt-ltb _ _ c.if-s-ge-SUM_LIMIT-2.false, le-ltb _ _ c.if-s-ge-SUM_LIMIT-3.true)
 

@@ -8,24 +8,6 @@ pub loop-k-init : goal.loop-k-init
 unfolding rows_of
 loop-k-init c = (simp c.no_row-none.ensures, omega arith)
 
-pub offset_bounds-each-k : goal.offset_bounds-each-k
-offset_bounds-each-k c = omega arith
-
-pub bounds-each-k : goal.bounds-each-k
-bounds-each-k c = omega arith
-
-pub offset_bounds-rows-k : goal.offset_bounds-rows-k
-offset_bounds-rows-k c = omega arith
-
-pub bounds-rows-k : goal.bounds-rows-k
-bounds-rows-k c = omega arith
-
-pub overflow_add-k : goal.overflow_add-k
-overflow_add-k c = omega arith
-
-pub loop-k-smaller : goal.loop-k-smaller
-loop-k-smaller c = omega arith
-
 pub loop-k-preserved : goal.loop-k-preserved
 loop-k-preserved c = let l = c.loop-k in (simp (c.row_of-row.ensures, l.invariant.0) (rows_more _ _), omega (arith, c.loop-k-test.true))
 
