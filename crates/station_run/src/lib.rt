@@ -93,6 +93,7 @@ fn processes_ran(all: Processes, records: Records, count: usize) -> Processes
 }
 
 // Where N is still 0, the run was refused before its set-up, and nothing is to be stored.
+#[tactic(auto, unfolding(crate::specs::TextByValue::put_back))]
 fn put_back(station: Station, all: Processes, out: Finished) -> RunLeft
     ensures { result ≡ put_back station all out }
 {

@@ -15,7 +15,7 @@ pub loop-i-preserved : goal.loop-i-preserved
 loop-i-preserved c =
     let a = c.args in
     let sixteen : length a.all.list ≡ 16 = omega arith in
-    let next = firsts_one_more (put_at a.t2) c.loop-i.i a.all.list no_station_process (omega (arith, sixteen, c.requires)) in (
+    let next = firsts_one_more (put_at a.records) c.loop-i.i a.all.list no_station_process (omega (arith, sixteen, c.requires)) in (
       omega arith,
       c.with_process-next.ensures ∙ simp (c.put_process-q.ensures, c.record_place.ensures, c.process_at-before.ensures, c.loop-i.invariant.1)
           (ap (λ (l : List StationProcess). record { list = l }) next),
@@ -25,4 +25,4 @@ pub returns : goal.returns
 returns c =
     let a = c.args in
     let all : c.loop-i.i ≡ a.count = omega arith in
-    c.loop-i.invariant.1 ∙ ap (processes_ran a.all a.t2) all
+    c.loop-i.invariant.1 ∙ ap (processes_ran a.all a.records) all
