@@ -1,14 +1,20 @@
-// What the programs share to read and to print: a room filled from a reader, and a number in decimal.
+// What the programs share to read and to print: a room filled from a reader, a number in decimal, and the status of a
+// program whose output is a cut pipe.
 
 #![tactic(auto)]
 
-ghost use Rattle.std.specs.Prelude.{◌≡◌, length, take, OnOk};
+ghost use Rattle.std.specs.Prelude.{◌≡◌, ◌↔◌, length, take, OnOk, IsTrue};
+ghost use Rattle.std.specs.IoError.{error_kind};
 ghost use Rattle.std.specs.Io.KnownBytes.{Appends, Consumes};
 ghost use Rattle.console.specs.Counts.{IsPrefixLen};
 ghost use Rattle.listing.specs.Decimal.{decimal};
 
 use std::io;
-use std::io::{Read, Write};
+use std::io::{ErrorKind, Read, Write};
+use std::process::ExitCode;
+
+// The status with which a shell sees a program end that a cut pipe ended: 128, and 13 for the signal SIGPIPE.
+const CUT: u8 = 141;
 
 // Room for a listing.
 pub fn large_buffer() -> [u8; 65536]
@@ -40,4 +46,28 @@ pub fn print_decimal<W: Write>(to: &mut W, n: u64) -> io::Result<()>
     let mut digits = [0; 20];
     let end = listing::number(&mut digits, 0, n);
     to.write_all(&digits[..end])
+}
+
+// Whether what could not be written went to a cut pipe: one that nobody reads any more.
+pub fn is_cut(lost: &io::Error) -> bool
+    ensures { IsTrue result ↔ error_kind lost.now ≡ ErrorKind.BrokenPipe }
+{
+    match lost.kind() {
+        ErrorKind::BrokenPipe => true,
+        _ => false,
+    }
+}
+
+// The status of a program after its last words. A cut pipe would have ended it, were the signal not held back. Other
+// words that are lost stay without a word: there is no place left to say so.
+pub fn status(told: io::Result<()>) -> ExitCode {
+    match told {
+        Ok(()) => ExitCode::SUCCESS,
+        Err(lost) => {
+            if is_cut(&lost) {
+                return ExitCode::from(CUT);
+            }
+            ExitCode::SUCCESS
+        }
+    }
 }

@@ -10,37 +10,39 @@ mod notices;
 use std::env::Env;
 use std::io;
 use std::io::Write;
+use std::process::ExitCode;
 use std::rt::Files;
 
-fn main(rt: HostRuntime) {
+fn main(rt: HostRuntime) -> ExitCode {
     let mut errors = rt.stderr();
     let count = arguments::count(&rt);
     if count < 4 {
-        let _ = notices::usage(&mut errors);
-        return;
+        return console::status(notices::usage(&mut errors));
     }
     let n = arguments::number_argument(&rt, 1);
     let w = arguments::number_argument(&rt, 2);
     if arguments::LARGEST < n {
-        let _ = notices::usage(&mut errors);
-        return;
+        return console::status(notices::usage(&mut errors));
     }
     if arguments::LARGEST < w {
-        let _ = notices::usage(&mut errors);
-        return;
+        return console::status(notices::usage(&mut errors));
     }
     let mut table_to = rt.stdout();
     let empty = sums::empty_sums(n, w);
     let number = sums::table_of(empty).number;
     if number != 0 {
-        let _ = notices::refused(&mut table_to, number);
-        return;
+        return console::status(notices::refused(&mut table_to, number));
     }
     let sums = season(&rt, &mut errors, empty, count);
-    let _ = notices::taken(&mut table_to, sums.taken, count);
+    console::status(print_table(&mut table_to, sums, count, n as usize))
+}
+
+// How many files are taken, and the rows.
+fn print_table(to: &mut impl Write, sums: sums::Sums, count: usize, n: usize) -> io::Result<()> {
+    notices::taken(to, sums.taken, count)?;
     let table = sums::table_of(sums);
     let rows = table.rows;
-    let _ = print_rows(&mut table_to, rows, n as usize);
+    print_rows(to, rows, n)
 }
 
 // The files of the arguments from 3 on, one after the other.

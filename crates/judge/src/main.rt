@@ -15,20 +15,20 @@ ghost use Rattle.std.specs.Prelude.{◌≡◌, ◌≤◌, length, replicate};
 use logtext::Reading;
 use std::io;
 use std::io::Write;
+use std::process::ExitCode;
 use verdicts::{Judgement, Verdict};
 
-fn main(rt: HostRuntime) {
+fn main(rt: HostRuntime) -> ExitCode {
     let mut text = text_room();
     let got = console::read_full(&mut rt.stdin(), &mut text);
     let mut errors = rt.stderr();
     if got == text.len() {
-        let _ = faults::too_long(&mut errors);
-        return;
+        return console::status(faults::too_long(&mut errors));
     }
     let given = &text[..got];
     let mut numbers = number_room();
     let reading = logtext::read(given, &mut numbers);
-    let _ = told(&mut rt.stdout(), &mut errors, reading, &numbers, given);
+    console::status(told(&mut rt.stdout(), &mut errors, reading, &numbers, given))
 }
 
 // What there is to say once the text is read.
@@ -98,16 +98,34 @@ fn print(to: &mut impl Write, errors: &mut impl Write, judgement: Judgement) -> 
         Verdict::No => out(to, errors, b"no\n"),
         Verdict::Refused(number) => {
             out(to, errors, b"refused ")?;
-            let _ = console::print_decimal(to, number as u64);
+            shown(console::print_decimal(to, number as u64))?;
             out(to, errors, b"\n")
         }
     }
 }
 
-// What can't be written to standard output is told on standard error.
+// What can't be written to standard output is told on standard error, unless it goes to a cut pipe.
 fn out(to: &mut impl Write, errors: &mut impl Write, bytes: &[u8]) -> io::Result<()> {
-    if to.write_all(bytes).is_err() {
-        return saying::say(errors, b"standard output could not be written\n");
+    match to.write_all(bytes) {
+        Ok(()) => Ok(()),
+        Err(lost) => {
+            if console::is_cut(&lost) {
+                return Err(lost);
+            }
+            saying::say(errors, b"standard output could not be written\n")
+        }
     }
-    Ok(())
+}
+
+// A number whose loss the words after it tell, if it does not go to a cut pipe.
+fn shown(printed: io::Result<()>) -> io::Result<()> {
+    match printed {
+        Ok(()) => Ok(()),
+        Err(lost) => {
+            if console::is_cut(&lost) {
+                return Err(lost);
+            }
+            Ok(())
+        }
+    }
 }

@@ -31,9 +31,6 @@ tags_next b k =
 pub first_row_lem : (n w : ℕ) → 1 ≤ n → w ≤ n * w
 first_row_lem n w h = omega (arith, mul-le-mul_right {m = 1} {n = n} w h, one-mul w)
 
-pub segments_lent : (n w : ℕ) → n * w + w ≤ (3 * n + 1) * w
-segments_lent n w = omega arith
-
 -- the four runs of words
 pub words_set : (ws value : List ℕ) (n w : ℕ) → 1 ≤ n → length value ≡ w
     → sets (sets (sets (sets ws 0 value) w (replicate (n * w - w) 0)) (n * w) value) (n * w + w)

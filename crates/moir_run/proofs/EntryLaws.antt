@@ -1,12 +1,12 @@
 -- What an entry brings, that the list keeps it small, and whether `!` stays.
 use mathlib.Core.Path.{◌≡◌, refl, sym, ap, subst}
-use mathlib.Core.Bool.{Bool, true, false, not, cond}
-use mathlib.Core.List.{List, ◌∷◌}
-use Prim.Native.Nat.{ℕ, zero, suc, ◌≤◌, ◌<◌}
+use mathlib.Core.Bool.{Bool, true, false, cond}
+use mathlib.Core.List.{◌∷◌}
+use Prim.Native.Nat.{ℕ, zero, suc, ◌≤◌}
 use native.Mathlib.Omega.{arith}
 use native.Mathlib.Nat.{not-suc-le-zero}
 use lib.Dec.{eqb}
-use lib.ListN.{length, take, replicate, length-replicate, get_or-eq_default}
+use lib.ListN.{length, take, replicate, length-replicate}
 use borrow.Author.Tests.{eq-eqb}
 use Rattle.notation.specs.declared.Entry.{Entry}
 use Rattle.notation.specs.declared.Entry.TheVariants.{StartLl, StartVl, StartSc, Step, Finish}
@@ -15,10 +15,6 @@ use Rattle.notation.specs.EntryWords.{entry_in, entry_of_kind, kind_in, process_
 use Rattle.notation.specs.Stretches.{Small}
 use Rattle.text_runs.specs.TextRun.{value_of}
 use Rattle.text_runs.proofs.MiddleLaws.{gone_on}
-use Rattle.llsc.specs.declared.ProcessNumber.{ProcessNumber}
-use Rattle.moir_model.specs.declared.Process.{Process}
-use Rattle.moir_model.specs.Records.{no_process, record_at}
-use Rattle.moir_model.specs.Refusals.{is_idle}
 use Rattle.moir_semantics.specs.TextRun.{figure6, Progress}
 use Rattle.moir_run.specs.Turned.{brought_by, words_brought, stays_in}
 
@@ -67,15 +63,6 @@ kept_small word = kind_small (kind_in word) (process_in word) (number_in word) (
 
 pub kept_as : (e : Entry) (word : ℕ) → e ≡ entry_in word → Small e
 kept_as e word q = subst Small (sym q) (kept_small word)
-
--- a number that has no record has no open call
-pub busy_far : (p : ℕ) (list : List Process) → length list ≡ 16 → 15 < p → false ≡ stays_in (Finish p) list
-busy_far p list l h =
-    let none : record_at list (record { 0 = p }) ≡ no_process = get_or-eq_default list no_process {n = p} (omega (arith, l, h)) in
-    sym (ap (λ (q : Process). not (is_idle q)) none)
-
-pub busy_own : (list : List Process) (p : ProcessNumber) {q : Process} → q ≡ record_at list p → not (eqb q.line 0) ≡ stays_in (Finish p.0) list
-busy_own list p e = ap (λ (x : Process). not (is_idle x)) e
 
 -- whether `!` stays is seen in the records
 pub goes_stays : (e : Entry) (s : Progress) → s.stop ≡ 0 → gone_on figure6 e s ≡ stays_in e s.memory.records

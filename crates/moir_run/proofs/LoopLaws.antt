@@ -1,5 +1,5 @@
 -- A turn of the run's loop: the entry made, refused or not yet over.
-use mathlib.Core.Path.{◌≡◌, refl, sym, ap, subst, ◌∙◌}
+use mathlib.Core.Path.{◌≡◌, sym, ap, subst, ◌∙◌}
 use mathlib.Core.Bool.{true, false}
 use mathlib.Core.List.{List}
 use Prim.Native.Nat.{ℕ, ◌+◌, ◌≤◌, ◌<◌}
@@ -11,7 +11,7 @@ use Rattle.notation.specs.EntryWords.{entry_in}
 use Rattle.text_runs.specs.TextRun.{most_entries, single}
 use Rattle.text_runs.specs.KeptEntries.{entries_in}
 use Rattle.text_runs.proofs.SingleEntries.{single_made}
-use Rattle.text_runs.proofs.MiddleLaws.{Middle, Over, gone_on, middle_none, middle_all, middle_refused, middle_over, middle_further}
+use Rattle.text_runs.proofs.MiddleLaws.{Middle, Over, gone_on, middle_all, middle_refused, middle_over, middle_further}
 use Rattle.moir_semantics.specs.TextRun.{figure6, Progress}
 use Rattle.moir_run.specs.RunState.{Sound}
 use Rattle.moir_run.specs.Turned.{stays_in}
@@ -34,10 +34,7 @@ pub record Turning (kept : List ℕ) (count : ℕ) (first : Progress) (at : ℕ)
   pub words : length s.memory.words ≡ length first.memory.words
   pub listing : length s.listing ≡ length first.listing
 
--- before the first entry, and behind the last
-pub turning_first : {kept : List ℕ} {count : ℕ} {s : Progress} → count ≤ length kept → Sound s → s.stop ≡ 0 → Turning kept count s 0 s
-turning_first {kept} {count} {s} l x z = record { fits = l; middle = middle_none figure6 (entries_in count kept) s; sound = x; goes = z; words = refl; listing = refl }
-
+-- behind the last entry
 pub turning_all : {kept : List ℕ} {count at : ℕ} {first s : Progress} → Turning kept count first at s → count ≤ at → Over figure6 (entries_in count kept) first at s
 turning_all {kept} {count} t l = middle_all figure6 t.middle (omega (arith, count_entries count kept t.fits, l))
 

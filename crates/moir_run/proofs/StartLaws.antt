@@ -48,16 +48,6 @@ pub closed_report : {report : StopReport} {list' : List ℕ} {out : Finished} (r
     → ◌≡◌ {A = Finished × List ℕ} (out, list') (closed r report list) → out.report ≡ report
 closed_report r list e = ap (λ (x : Finished × List ℕ). x.0.report) e
 
--- a run that is refused before its set-up
-pub refused_closable : {r : Run} {list : List ℕ} (b : Bench) (k : ℕ) → r ≡ fresh_run b k false → Roomy list → k ≤ 15 → Closable r list
-refused_closable {list = list} b k e l h = subst (λ (x : Run). Closable x list) (sym e) (record { entries = omega arith; stop = h; room = omega (arith, l) })
-
-pub refused_seen : {r : Run} {b : Bench} {report : StopReport} {list' : List ℕ} {out : Finished} (list : List ℕ) (k : ℕ) → r ≡ fresh_run b k false → b ≡ empty_bench
-    → ◌≡◌ {A = Finished × List ℕ} (out, list') (closed r report list) → returned out list' ≡ seen (refused_with figure6 k at_start list)
-refused_seen {r} {b} list k e eb c =
-    let is : r ≡ fresh_run empty_bench k false = e ∙ ap (λ (x : Bench). fresh_run x k false) eb in
-    closed_seen r at_start.words list c ∙ ap (λ (x : Run). seen (ended figure6 (progress x at_start.words list))) is
-
 pub number_few : (n w : ℕ) {k : ℕ} → k ≡ set_up_number n w 16 3136 w → k ≤ 15
 unfolding set_up_number
 number_few n w e = omega (arith, e, first_small (set_up_rows_of n w 16 3136 w) refl)

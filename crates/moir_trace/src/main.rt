@@ -6,17 +6,24 @@
 ghost use Rattle.std.specs.Prelude.{◌≡◌, length, IfOk};
 
 use std::alloc::{AllocError, Global};
+use std::io;
 use std::io::Write;
+use std::process::ExitCode;
 
-fn main(rt: HostRuntime) -> Result<(), AllocError> {
+fn main(rt: HostRuntime) -> Result<ExitCode, AllocError> {
     let mut text = [0; 16385];
     let got = console::read_full(&mut rt.stdin(), &mut text);
     let given = &text[..got];
     let mut list = room(rt.alloc())?;
     let out = moir_run::texts::run_text(given, true, &mut list);
     let mut errors = rt.stderr();
-    print(&mut rt.stdout(), &mut errors, &list, out.written);
-    let _ = moir_messages::explain(
+    if let Err(lost) = print(&mut rt.stdout(), &list, out.written) {
+        if console::is_cut(&lost) {
+            return Ok(console::status(Err(lost)));
+        }
+        let _ = messages::not_written(&mut errors);
+    }
+    let told = moir_messages::explain(
         &mut errors,
         out.number,
         out.entries,
@@ -24,7 +31,7 @@ fn main(rt: HostRuntime) -> Result<(), AllocError> {
         out.all,
         given,
     );
-    Ok(())
+    Ok(console::status(told))
 }
 
 // Room for the trace of 60,000 entries.
@@ -35,10 +42,9 @@ fn room(alloc: Global) -> Result<Vec<u8>, AllocError>
 }
 
 // The first bytes of the trace, as many as the run wrote.
-fn print(to: &mut impl Write, errors: &mut impl Write, list: &[u8], written: usize) {
+fn print(to: &mut impl Write, list: &[u8], written: usize) -> io::Result<()> {
     if written <= list.len() {
-        if to.write_all(&list[0..written]).is_err() {
-            let _ = messages::not_written(errors);
-        }
+        return to.write_all(&list[0..written]);
     }
+    Ok(())
 }

@@ -3,9 +3,11 @@
 
 #![tactic(auto)]
 
+use std::io;
 use std::io::Write;
+use std::process::ExitCode;
 
-fn main(rt: HostRuntime) {
+fn main(rt: HostRuntime) -> ExitCode {
     let mut text = [0; 16385];
     let got = console::read_full(&mut rt.stdin(), &mut text);
     let given = &text[..got];
@@ -15,8 +17,13 @@ fn main(rt: HostRuntime) {
     let all = tables::records::records_of(tables::records::no_process());
     let out = run::text_run::run_by_value(bench, all, 16, &mut words, given, &mut list);
     let mut errors = rt.stderr();
-    print(&mut rt.stdout(), &mut errors, &list, out.written);
-    let _ = messages::figure2::explain(
+    if let Err(lost) = print(&mut rt.stdout(), &list, out.written) {
+        if console::is_cut(&lost) {
+            return console::status(Err(lost));
+        }
+        let _ = messages::not_written(&mut errors);
+    }
+    let told = messages::figure2::explain(
         &mut errors,
         out.number,
         out.entries,
@@ -24,13 +31,13 @@ fn main(rt: HostRuntime) {
         out.all,
         given,
     );
+    console::status(told)
 }
 
 // The first bytes of the listing, as many as the run wrote.
-fn print(to: &mut impl Write, errors: &mut impl Write, list: &[u8], written: usize) {
+fn print(to: &mut impl Write, list: &[u8], written: usize) -> io::Result<()> {
     if written <= list.len() {
-        if to.write_all(&list[0..written]).is_err() {
-            let _ = messages::not_written(errors);
-        }
+        return to.write_all(&list[0..written]);
     }
+    Ok(())
 }

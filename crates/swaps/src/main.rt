@@ -8,24 +8,36 @@ ghost use Rattle.std.specs.Prelude.{◌≡◌, ◌≤◌, length, IfOk};
 
 use marking::output;
 use std::alloc::{AllocError, Global};
+use std::io;
 use std::io::Write;
+use std::process::ExitCode;
 
-fn main(rt: HostRuntime) -> Result<(), AllocError> {
+fn main(rt: HostRuntime) -> Result<ExitCode, AllocError> {
     let mut text = [0; 16385];
     let got = console::read_full(&mut rt.stdin(), &mut text);
     let given = &text[..got];
     let mut words = [0; 5120];
     let mut list = room(rt.alloc())?;
+    let mut marked = marked_room(rt.alloc())?;
     let bench = model::empty_bench();
     let all = tables::records::records_of(tables::records::no_process());
     let out = run::text_run::trace_by_value(bench, all, 16, &mut words, given, &mut list);
     let mut errors = rt.stderr();
     if out.written <= list.len() {
-        if !print(rt.alloc(), &mut rt.stdout(), &list, out.written)? {
-            let _ = messages::not_written(&mut errors);
+        match print(&mut rt.stdout(), &list, out.written, &mut marked) {
+            Ok(true) => {}
+            Ok(false) => {
+                let _ = messages::not_written(&mut errors);
+            }
+            Err(lost) => {
+                if console::is_cut(&lost) {
+                    return Ok(console::status(Err(lost)));
+                }
+                let _ = messages::not_written(&mut errors);
+            }
         }
     }
-    let _ = messages::figure2::explain(
+    let told = messages::figure2::explain(
         &mut errors,
         out.number,
         out.entries,
@@ -33,7 +45,7 @@ fn main(rt: HostRuntime) -> Result<(), AllocError> {
         out.all,
         given,
     );
-    Ok(())
+    Ok(console::status(told))
 }
 
 // Room for the trace of 60,000 entries.
@@ -50,26 +62,21 @@ fn marked_room(alloc: Global) -> Result<Vec<u8>, AllocError>
     vec![in alloc; 0; 3265730]
 }
 
-// The trace with its marks, into lent bytes and out; whether all was written.
-fn print_marked(to: &mut impl Write, trace: &[u8], out: &mut [u8]) -> bool
+// The trace with its marks, into lent bytes and out; whether they had room for it.
+fn print_marked(to: &mut impl Write, trace: &[u8], out: &mut [u8]) -> io::Result<bool>
     requires { length trace.now ≤ 4294967295 }
 {
     let count = output::mark_lines(trace, out);
     if out.len() < count {
-        return false;
+        return Ok(false);
     }
-    to.write_all(&out[0..count]).is_ok()
+    to.write_all(&out[0..count])?;
+    Ok(true)
 }
 
 // The first bytes of the trace, as many as the run wrote.
-fn print(
-    alloc: Global,
-    to: &mut impl Write,
-    list: &[u8],
-    written: usize,
-) -> Result<bool, AllocError>
+fn print(to: &mut impl Write, list: &[u8], written: usize, out: &mut [u8]) -> io::Result<bool>
     requires { (written ≤ length list.now) × (length list.now ≤ 3145728) }
 {
-    let mut out = marked_room(alloc)?;
-    Ok(print_marked(to, &list[0..written], &mut out))
+    print_marked(to, &list[0..written], out)
 }

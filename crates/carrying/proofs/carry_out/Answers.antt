@@ -7,8 +7,6 @@ use Rattle.carrying.proofs.LoopLaws.{loop_sized, loop_more, loop_bank, loop_help
 use borrow.Author.Rules.{rules}
 use Rattle.carrying.proofs.carry_out.Goals as goal
 
-record_place-requires-2 c κs = search rules
-
 pub loop-at-init : goal.loop-at-init
 loop-at-init c =
     (first_head c.requires.0 c.requires.1 c.requires.2 refl refl c.room_needed-needed.ensures, refl)
@@ -16,8 +14,6 @@ loop-at-init c =
 pub bounds-entries-at : goal.bounds-entries-at
 bounds-entries-at c =
     omega (arith, c.loop-at-test.true, c.requires.0)
-
-pub record_place-requires : goal.record_place-requires
 
 pub offset_bounds-all-record_place : goal.offset_bounds-all-record_place
 offset_bounds-all-record_place c = omega (arith, place_small c.process_of-p.result c.process_number-k.ensures c.record_place.ensures)
@@ -113,8 +109,6 @@ bounds-bench-help_place-in-loop-at c =
     c.record_place.ensures c.order_of-order.ensures in
     let f = sym c.refusal-stop.ensures ∙ c.if-stop-ne0.false in
     omega (arith, loop_help x f c.bank_index-i.ensures c.help_index-j.ensures, c.help_place-in-loop-at.ensures)
-
-pub record_place-requires-in-loop-at : goal.record_place-requires-in-loop-at
 
 pub offset_bounds-all-record_place-in-loop-at : goal.offset_bounds-all-record_place-in-loop-at
 offset_bounds-all-record_place-in-loop-at c =

@@ -3,8 +3,6 @@ use Rattle.run.proofs.RecordLaws.{fillers}
 use borrow.Author.Rules.{rules}
 use Rattle.schedule.proofs.main.Goals as goal
 
-records_of-requires c κs = search rules
-
 pub records_of-all-requires : goal.records_of-all-requires
 
 pub run_by_value-out-requires : goal.run_by_value-out-requires

@@ -11,14 +11,10 @@ use Rattle.station_run.specs.TextByValue.{put_at, processes_ran}
 use borrow.Author.Rules.{rules}
 use Rattle.station_run.proofs.processes_ran.Goals as goal
 
-record_place-requires c κs = search rules
-
-pub record_place-requires : goal.record_place-requires
-
 pub loop-i-preserved : goal.loop-i-preserved
 loop-i-preserved c =
     let a = c.args in
-    let sixteen : length a.all.list ≡ 16 = simp length-map at c.type_inv.0.1.1.0.1.0.1 in
+    let sixteen : length a.all.list ≡ 16 = omega arith in
     let next = firsts_one_more (put_at a.t2) c.loop-i.i a.all.list no_station_process (omega (arith, sixteen, c.requires)) in (
       omega arith,
       c.with_process-next.ensures ∙ simp (c.put_process-q.ensures, c.record_place.ensures, c.process_at-before.ensures, c.loop-i.invariant.1)

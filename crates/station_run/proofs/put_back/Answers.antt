@@ -6,12 +6,9 @@ use Rattle.run.proofs.RecordLaws.{sixteen_most}
 use borrow.Author.Rules.{rules}
 use Rattle.station_run.proofs.put_back.Goals as goal
 
-records_seen-requires c κs = search rules
-
 pub returns-then-bench-eq0 : goal.returns-then-bench-eq0
+unfolding Rattle.station_run.specs.TextByValue.put_back
 returns-then-bench-eq0 c = simp (eq-eqb c.args.out.bench.n 0 c.if-bench-eq0.true)
-
-pub records_seen-stored-requires : goal.records_seen-stored-requires
 
 pub processes_ran-requires : goal.processes_ran-requires
 processes_ran-requires c = subst (λ (k : ℕ). k ≤ 16) (sym c.records_seen-stored.ensures) (sixteen_most c.args.out.bench.n)

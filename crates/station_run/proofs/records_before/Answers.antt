@@ -10,21 +10,15 @@ use Rattle.station.specs.Projection.{process_of}
 use Rattle.station_run.specs.StationText.{record0}
 use Rattle.station_run.proofs.SeenLaws.{seen_none, seen_next}
 use borrow.Author.Rules.{rules}
-use Rattle.station_run.proofs.records_before.Invariants.{=}
 use Rattle.station_run.proofs.records_before.Goals as goal
-
-records_of-requires c κs = search rules
-
-pub records_of-next-requires : goal.records_of-next-requires
-
 
 pub loop-i-init : goal.loop-i-init
 loop-i-init c = (omega arith, c.records_of-next.ensures ∙ simp c.no_process.ensures (seen_none c.args.all.list))
 
 pub loop-i-preserved : goal.loop-i-preserved
 loop-i-preserved c =
-        let l = c.args.all.list in
-    let sixteen : length l ≡ 16 = simp length-map at c.type_inv.0.1.1.0.1.0.1 in (
+    let l = c.args.all.list in
+    let sixteen : length l ≡ 16 = omega arith in (
       omega arith,
       c.with_record-next.ensures ∙ simp (c.process_of-q.ensures, c.process_at.ensures, c.loop-i.invariant.1) (seen_next l c.loop-i.i (omega (arith, sixteen))),
     )

@@ -8,23 +8,6 @@ use Rattle.station.specs.Projection.{process_of}
 use Rattle.station_run.specs.StationText.{record0}
 use Rattle.station_run.proofs.records_before.Given as goal
 
-records_before_spec =
-    tie.close
-    (tie.spec
-    invariant_loop
-    decreases_loop
-    no_process-requires
-    records_of-requires
-    loop-holds
-    cast-t8
-    process_at-requires
-    process_of-requires
-    with_record-requires
-    add-i
-    loop-less
-    loop-again
-    returns)
-
 abbrev pub invariant-loop-i : goal.invariant-loop-i
 invariant-loop-i l = (l.i ≤ 16) × (l.next ≡ gathered (map (process_of record0) l.all.list) no_process l.i)
 

@@ -3,10 +3,6 @@ use Rattle.station_run.proofs.StoredRun.{run_put_back, records_again}
 use borrow.Author.Rules.{rules}
 use Rattle.station_run.proofs.run_by_value.Goals as goal
 
-records_before-requires c κs = search rules
-
-pub records_before-records-requires : goal.records_before-records-requires
-
 pub run_by_value-out-requires : goal.run_by_value-out-requires
 run_by_value-out-requires c =
     records_again c.args.all c.args.len c.requires c.records_before-records.result c.records_before-records.ensures

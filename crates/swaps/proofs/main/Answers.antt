@@ -3,8 +3,6 @@ use Rattle.run.proofs.RecordLaws.{fillers}
 use borrow.Author.Rules.{rules}
 use Rattle.swaps.proofs.main.Goals as goal
 
-records_of-requires c κs = search rules
-
 -- src/main.rt:16:9
 pub records_of-all-requires : goal.records_of-all-requires
 

@@ -3,8 +3,6 @@ use Rattle.run.proofs.RecordLaws.{fillers}
 use borrow.Author.Rules.{rules}
 use Rattle.trace.proofs.main.Goals as goal
 
-records_of-requires c κs = search rules
-
 pub records_of-all-requires : goal.records_of-all-requires
 
 pub trace_by_value-out-requires : goal.trace_by_value-out-requires

@@ -18,21 +18,21 @@ returns-then-number-ne0 c =
 
 pub command-requires : goal.command-requires
 command-requires c =
-    sym c.memory_refusal.ensures ∙ c.if2.false
+    sym c.memory_refusal-number.ensures ∙ c.if-number-ne0.false
 
 pub returns-then-not-counts_as_idle : goal.returns-then-not-counts_as_idle
 returns-then-not-counts_as_idle c =
     let a = c.args in
-    let none = sym c.memory_refusal.ensures ∙ c.if2.false in
-    let busy = sym c.counts_as_idle.ensures ∙ not-true _ c.if3.true in
+    let none = sym c.memory_refusal-number.ensures ∙ c.if-number-ne0.false in
+    let busy = sym c.counts_as_idle.ensures ∙ c.if-not-counts_as_idle.true in
     steps a.station a.all.list a.len a.turn a.next a.left a.value.now a.words.now
-    c.if1.false none busy c.command.ensures
+    c.if-turn-gt1.false none busy c.command.ensures
 
 pub returns-then-left-eq0 : goal.returns-then-left-eq0
 returns-then-left-eq0 c =
     let a = c.args in
     let none = sym c.memory_refusal-number.ensures ∙ c.if-number-ne0.false in
-    let idle = sym c.counts_as_idle.ensures ∙ not-false _ c.if-not-counts_as_idle.false in
+    let idle = sym c.counts_as_idle.ensures ∙ c.if-not-counts_as_idle.false in
     passes a.station a.all.list a.len a.turn a.next a.left a.value.now a.words.now
     c.if-turn-gt1.false none idle c.if-left-eq0.true c.unchanged.ensures
 
@@ -44,6 +44,6 @@ pub returns : goal.returns
 returns c =
     let a = c.args in
     let none = sym c.memory_refusal-number.ensures ∙ c.if-number-ne0.false in
-    let idle = sym c.counts_as_idle.ensures ∙ not-false _ c.if-not-counts_as_idle.false in
+    let idle = sym c.counts_as_idle.ensures ∙ c.if-not-counts_as_idle.false in
     starts a.station a.all.list a.len a.turn a.next a.left a.value.now a.words.now
     c.if-turn-gt1.false none c.start_of-order.result idle c.if-left-eq0.false c.start_of-order.ensures c.command-2.ensures

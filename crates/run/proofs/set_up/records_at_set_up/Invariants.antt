@@ -4,20 +4,6 @@ use Prim.Native.Nat.{◌-◌, ◌≤◌}
 use Rattle.run.proofs.SetUpLaws.{records_set}
 use Rattle.run.proofs.set_up.records_at_set_up.Given as goal
 
-records_at_set_up_spec =
-    tie.close
-    (tie.spec
-    invariant_loop
-    decreases_loop
-    loop-holds
-    cast-t8
-    record_at_set_up-requires
-    with_record-requires
-    add-p
-    loop-less
-    loop-again
-    returns)
-
 abbrev pub invariant-loop-p : goal.invariant-loop-p
 invariant-loop-p l = (l.next ≡ record { list = records_set l.initial.next.list l.n l.p }) × (l.p ≤ l.n)
 

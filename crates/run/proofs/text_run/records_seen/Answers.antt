@@ -2,8 +2,6 @@
 use borrow.Author.Tests.{lt-ltb, le-ltb}
 use Rattle.run.proofs.text_run.records_seen.Goals as goal
 
-records_seen_spec = tie.close (tie.spec returns returns-2)
-
 pub returns-then-len-gt16 : goal.returns-then-len-gt16
 returns-then-len-gt16 c = simp (lt-ltb _ _ c.if-len-gt16.true)
 

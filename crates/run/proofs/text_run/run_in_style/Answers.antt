@@ -15,10 +15,6 @@ use Rattle.run.proofs.StopLaws.{report_sixteen}
 use borrow.Author.Rules.{rules}
 use Rattle.run.proofs.text_run.run_in_style.Goals as goal
 
-records_seen-requires c κs = search rules
-
-pub records_seen-lent-requires : goal.records_seen-lent-requires
-
 pub returns-then-list-room_needed : goal.returns-then-list-room_needed
 returns-then-list-room_needed c =
     let a = c.args in
@@ -68,8 +64,7 @@ pub returns-in-First : goal.returns-in-First
 returns-in-First c =
     let a = c.args in
     let m = memory_of a.bench a.all a.len a.words.now in
-    let g = c.header-in-First-1.given.0 in
-    let f : First = record { n = g.0; w = g.1.0; initial = g.1.1.0; items = g.1.1.1.0 } in
+    let f : First = record { n = c.in-First.n; w = c.in-First.w; initial = c.in-First.initial; items = c.in-First.items } in
     let all = answered a.len a.bench a.all a.words.now
     (λ m. says_after a.traced a.text.now f m a.list.now) c.records_seen-lent.ensures c.requires
     c.checked.ensures.0 in

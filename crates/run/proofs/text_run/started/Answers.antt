@@ -14,13 +14,6 @@ use Rattle.run.proofs.RunLaws.{sound_closable, closed_answers, closed_report, an
 use Rattle.run.proofs.StopLaws.{stop_within, item_read, refused_report, begun_report}
 use Rattle.run.proofs.text_run.started.Goals as goal
 
-records_at_set_up-requires c κs =
-    let c7 = c.before.before.before.before.before.before.before in let c8 = c7.before in let c12 = c8.before.before.before.before in
-    let a = c12.args in
-    let e = sym c8.set_up_number.ensures ∙ c7.if1.false in
-    let ok = accepted a.traced a.bench a.words.now c12.requires.0 a.first.n a.first.w a.first.initial c12.requires.1 e in
-    ok.n_most
-
 pub refused-requires : goal.refused-requires
 refused-requires c =
     let a = c.args in
@@ -66,6 +59,11 @@ bench_at_set_up-begun-requires c =
     ok.n_most
 
 pub records_at_set_up-records-requires : goal.records_at_set_up-records-requires
+records_at_set_up-records-requires c =
+    let a = c.args in
+    let e = sym c.set_up_number-number.ensures ∙ c.if-number-ne0.false in
+    let ok = accepted a.traced a.bench a.words.now c.requires.0 a.first.n a.first.w a.first.initial c.requires.1 e in
+    ok.n_most
 
 pub carry_out-carried-requires : goal.carry_out-carried-requires
 carry_out-carried-requires c =
@@ -74,7 +72,7 @@ carry_out-carried-requires c =
     let begins = first_state_is a.traced a.bench a.words.now c.requires.0 a.first.n a.first.w a.first.initial c.requires.1 e
     c.fresh-run.ensures c.bench_at_set_up-begun.ensures c.records_at_set_up-records.ensures c.words_at_set_up.ensures c.repeated-value.ensures in
     let sound = begun_sound a.traced a.bench a.words.now c.requires.0 a.first.n a.first.w a.first.initial c.requires.1 e
-    (record { bank = simp length-map at c.type_inv.0.1.1.1.1.1.0.1.0.1; help = simp length-map at c.type_inv.0.1.1.1.1.1.1.0.1.0.1 }) in
+    (record { bank = omega arith; help = omega arith }) in
     (c.requires.2, subst (Sound _) (sym begins) sound, ap (λ (r : Run). r.stop) c.fresh-run.ensures)
 
 pub stop_report-report-requires : goal.stop_report-report-requires
