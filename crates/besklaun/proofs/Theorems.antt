@@ -1,5 +1,5 @@
 -- No text is refused for what a bench of its own has: it has room for every N and W.
-use mathlib.Core.Path.{◌≡◌, refl}
+use mathlib.Core.Path.{◌≡◌}
 use mathlib.Core.List.{List}
 use Prim.Native.Nat.{ℕ, ◌≤◌, ◌*◌}
 use native.Mathlib.Nat.{mul-le-mul}

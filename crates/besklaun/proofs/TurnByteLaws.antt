@@ -1,11 +1,11 @@
 -- Turns in the bytes lent: too few bytes, or enough.
-use mathlib.Core.Path.{◌≡◌, refl, sym, ap, subst, ◌∙◌}
+use mathlib.Core.Path.{◌≡◌, sym, ap, subst, ◌∙◌}
 use Prim.Native.Nat.{ℕ, ◌≤◌, ◌<◌}
 use mathlib.Core.List.{List, ◌++◌}
 use mathlib.Core.Bool.{Bool, cond}
 use native.Mathlib.Omega.{arith}
 use native.Mathlib.Nat.{min-eq_left}
-use lib.ListN.{length, length-take, take, drop}
+use lib.ListN.{length, length-take, drop}
 use borrow.Author.Tests.{le-leb, lt-leb}
 use Rattle.enumeration.specs.declared.Schedule.{Schedule}
 use Rattle.enumeration.specs.declared.Found.{Found}

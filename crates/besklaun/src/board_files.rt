@@ -8,8 +8,7 @@ use boards::Merged;
 // Two trace files made one, into the bytes lent.
 // Wrong programs that this rules out: one that takes the two files the other way round, which shows at equal ticks; one
 // that says the bytes written and not the number of the refusal.
-#[unsafe(no_mangle)]
-pub extern "C" fn besklaun_merge(first: &[u8], second: &[u8], out: &mut [u8]) -> Merged
+pub fn besklaun_merge(first: &[u8], second: &[u8], out: &mut [u8]) -> Merged
     ensures { (result, out.new) ≡ merge_files first.now second.now out.old }
 {
     boards::merge(first, second, out)
@@ -27,8 +26,7 @@ pub struct BoardRun {
 // A trace file run on record 0 of a bench that is set up for it, whose listing goes to the bytes lent.
 // Wrong programs that this rules out: one that runs the file before its set-up is looked at; one that counts a refused
 // command as done; one that stops after 60,000 commands.
-#[unsafe(no_mangle)]
-pub extern "C" fn besklaun_run_board(
+pub fn besklaun_run_board(
     n: usize,
     w: usize,
     initial: u32,

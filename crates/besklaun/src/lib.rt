@@ -1,10 +1,10 @@
-// The static library `besklaun`, for programs in C and Rust: the proved entries that work on plain slices. To C a slice
-// is a pointer and a count; `library/besklaun.h` declares each function that is exported here.
+// What C and Rust programs call, as Rattle has it: the proved entries that work on plain slices. `besklaun_c`, the static
+// library, exports each of these functions by its name; `library/besklaun.h` declares them.
 // A file for each subject. None of these functions asks anything of its caller.
 
 #![tactic(auto)]
 
-mod board_files;
-mod logs;
-mod schedules;
-mod texts;
+pub mod board_files;
+pub mod logs;
+pub mod schedules;
+pub mod texts;

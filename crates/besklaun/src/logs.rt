@@ -34,8 +34,7 @@ fn judgement_of(verdict: Verdict) -> Judgement
 // log, 6 + W numbers for each call.
 // Wrong programs that this rules out: one that says yes to a log that is refused; one that says 1 for no, which is the
 // number of a refusal.
-#[unsafe(no_mangle)]
-pub extern "C" fn besklaun_judge(n: usize, w: usize, value: &[u64], log: &[u64]) -> Judgement
+pub fn besklaun_judge(n: usize, w: usize, value: &[u64], log: &[u64]) -> Judgement
     ensures { result ≡ judgement_of (judged n w value.now log.now) }
 {
     judgement_of(judging::judge(n, w, value, log))
@@ -56,13 +55,7 @@ pub struct Reasoned {
 }
 
 // Wrong programs that this rules out: one that tells no reason where it says no; one that exchanges the two calls.
-#[unsafe(no_mangle)]
-pub extern "C" fn besklaun_judge_with_reason(
-    n: usize,
-    w: usize,
-    value: &[u64],
-    log: &[u64],
-) -> Reasoned
+pub fn besklaun_judge_with_reason(n: usize, w: usize, value: &[u64], log: &[u64]) -> Reasoned
     ensures { result ≡ reasoned_of (judged_with_reason n w value.now log.now) }
 {
     let said = reasons::judge_with_reason(n, w, value, log);

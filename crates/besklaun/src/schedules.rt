@@ -44,13 +44,7 @@ fn write(schedule: Schedule, turns: &mut [u8])
 // The schedule for a number, in the bytes lent.
 // Wrong programs that this rules out: one that writes a part of the turns where the bytes are too few; one that blanks
 // the bytes behind them.
-#[unsafe(no_mangle)]
-pub extern "C" fn besklaun_schedule_for(
-    a: usize,
-    b: usize,
-    number: u64,
-    turns: &mut [u8],
-) -> FoundTurns
+pub fn besklaun_schedule_for(a: usize, b: usize, number: u64, turns: &mut [u8]) -> FoundTurns
     ensures { (result, turns.new) ≡ schedule_into (found_for a b number) turns.old }
 {
     let found = enumeration::schedule_for(a, b, number);
@@ -62,8 +56,7 @@ pub extern "C" fn besklaun_schedule_for(
 }
 
 // The number for a schedule.
-#[unsafe(no_mangle)]
-pub extern "C" fn besklaun_number_for(a: usize, b: usize, turns: &[u8]) -> TurnsNumber
+pub fn besklaun_number_for(a: usize, b: usize, turns: &[u8]) -> TurnsNumber
     ensures { result ≡ number_told (numbered_for a b turns.now) }
 {
     let numbered = enumeration::number_for(a, b, turns);
@@ -75,8 +68,7 @@ pub extern "C" fn besklaun_number_for(a: usize, b: usize, turns: &[u8]) -> Turns
 
 // The schedule after the one in the bytes lent, in its place.
 // Wrong program that this rules out: one that changes the turns of the last schedule.
-#[unsafe(no_mangle)]
-pub extern "C" fn besklaun_schedule_after(a: usize, b: usize, turns: &mut [u8]) -> TurnsAfter
+pub fn besklaun_schedule_after(a: usize, b: usize, turns: &mut [u8]) -> TurnsAfter
     ensures { (result, turns.new) ≡ after_into (following_for a b turns.old) turns.old }
 {
     let following = enumeration::schedule_after(a, b, turns);

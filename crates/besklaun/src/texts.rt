@@ -14,8 +14,7 @@ pub struct TextRun {
 // A whole text run, whose listing goes to the bytes lent.
 // Wrong programs that this rules out: one that blanks the bytes after the last line; one whose bench has too few words
 // for sixteen processes and 64 words, so that it refuses with 3.
-#[unsafe(no_mangle)]
-pub extern "C" fn besklaun_run_text(text: &[u8], listing: &mut [u8]) -> TextRun
+pub fn besklaun_run_text(text: &[u8], listing: &mut [u8]) -> TextRun
     ensures { (result, listing.new) ≡ text_run false text.now listing.old }
 {
     let mut words = [0; 5120];
@@ -30,8 +29,7 @@ pub extern "C" fn besklaun_run_text(text: &[u8], listing: &mut [u8]) -> TextRun
 }
 
 // The same run, with the trace in place of the listing.
-#[unsafe(no_mangle)]
-pub extern "C" fn besklaun_trace_text(text: &[u8], trace: &mut [u8]) -> TextRun
+pub fn besklaun_trace_text(text: &[u8], trace: &mut [u8]) -> TextRun
     ensures { (result, trace.new) ≡ text_run true text.now trace.old }
 {
     let mut words = [0; 5120];

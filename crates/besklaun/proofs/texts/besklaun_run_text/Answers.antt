@@ -1,10 +1,7 @@
 -- `besklaun::texts::besklaun_run_text` is the run on a bench of its own, with a listing.
 use Rattle.run.proofs.RecordLaws.{fillers}
 use Rattle.besklaun.proofs.OwnBenchLaws.{ran_alone}
-use borrow.Author.Rules.{rules}
 use Rattle.besklaun.proofs.texts.besklaun_run_text.Goals as goal
-
-pub records_of-all-requires : goal.records_of-all-requires
 
 pub run_by_value-out-requires : goal.run_by_value-out-requires
 run_by_value-out-requires c =

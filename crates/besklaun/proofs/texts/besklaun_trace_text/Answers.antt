@@ -1,10 +1,7 @@
 -- `besklaun::texts::besklaun_trace_text` is the run on a bench of its own, with a trace.
 use Rattle.run.proofs.RecordLaws.{fillers}
 use Rattle.besklaun.proofs.OwnBenchLaws.{ran_alone}
-use borrow.Author.Rules.{rules}
 use Rattle.besklaun.proofs.texts.besklaun_trace_text.Goals as goal
-
-pub records_of-all-requires : goal.records_of-all-requires
 
 pub trace_by_value-out-requires : goal.trace_by_value-out-requires
 trace_by_value-out-requires c =

@@ -1,0 +1,109 @@
+// The static library `besklaun`, for programs in C and Rust: each function of the crate `besklaun`, with its clauses. To C
+// a slice is a pointer and a count; `library/besklaun.h` declares each function that is exported here.
+// None of these functions asks anything of its caller.
+
+#![tactic(auto)]
+
+ghost use Rattle.std.specs.Prelude.{◌≡◌, true, false};
+ghost use Rattle.boards.specs.Merging.{merge_files};
+ghost use Rattle.verdicts.specs.Verdicts.{judged};
+ghost use Rattle.verdicts.specs.Reasons.{judged_with_reason};
+ghost use Rattle.enumeration.specs.Replies.{found_for, numbered_for, following_for};
+ghost use Rattle.besklaun.specs.BoardRuns.{board_run};
+ghost use Rattle.besklaun.specs.Judgements.{judgement_of, reasoned_of};
+ghost use Rattle.besklaun.specs.OwnBench.{text_run};
+ghost use Rattle.besklaun.specs.TurnBytes.{schedule_into, number_told, after_into};
+
+use besklaun::board_files::BoardRun;
+use besklaun::logs::{Judgement, Reasoned};
+use besklaun::schedules::{FoundTurns, TurnsAfter, TurnsNumber};
+use besklaun::texts::TextRun;
+use besklaun::{board_files, logs, schedules, texts};
+use boards::Merged;
+
+// The judge (02, CR 1).
+
+#[unsafe(no_mangle)]
+pub extern "C" fn besklaun_judge(n: usize, w: usize, value: &[u64], log: &[u64]) -> Judgement
+    ensures { result ≡ judgement_of (judged n w value.now log.now) }
+{
+    logs::besklaun_judge(n, w, value, log)
+}
+
+#[unsafe(no_mangle)]
+pub extern "C" fn besklaun_judge_with_reason(
+    n: usize,
+    w: usize,
+    value: &[u64],
+    log: &[u64],
+) -> Reasoned
+    ensures { result ≡ reasoned_of (judged_with_reason n w value.now log.now) }
+{
+    logs::besklaun_judge_with_reason(n, w, value, log)
+}
+
+// Text runs, on a bench of their own.
+
+#[unsafe(no_mangle)]
+pub extern "C" fn besklaun_run_text(text: &[u8], listing: &mut [u8]) -> TextRun
+    ensures { (result, listing.new) ≡ text_run false text.now listing.old }
+{
+    texts::besklaun_run_text(text, listing)
+}
+
+#[unsafe(no_mangle)]
+pub extern "C" fn besklaun_trace_text(text: &[u8], trace: &mut [u8]) -> TextRun
+    ensures { (result, trace.new) ≡ text_run true text.now trace.old }
+{
+    texts::besklaun_trace_text(text, trace)
+}
+
+// Small schedules (02, CR 5): to C a schedule is the bytes of its turns.
+
+#[unsafe(no_mangle)]
+pub extern "C" fn besklaun_schedule_for(
+    a: usize,
+    b: usize,
+    number: u64,
+    turns: &mut [u8],
+) -> FoundTurns
+    ensures { (result, turns.new) ≡ schedule_into (found_for a b number) turns.old }
+{
+    schedules::besklaun_schedule_for(a, b, number, turns)
+}
+
+#[unsafe(no_mangle)]
+pub extern "C" fn besklaun_number_for(a: usize, b: usize, turns: &[u8]) -> TurnsNumber
+    ensures { result ≡ number_told (numbered_for a b turns.now) }
+{
+    schedules::besklaun_number_for(a, b, turns)
+}
+
+#[unsafe(no_mangle)]
+pub extern "C" fn besklaun_schedule_after(a: usize, b: usize, turns: &mut [u8]) -> TurnsAfter
+    ensures { (result, turns.new) ≡ after_into (following_for a b turns.old) turns.old }
+{
+    schedules::besklaun_schedule_after(a, b, turns)
+}
+
+// Board traces (02, CR 12).
+
+#[unsafe(no_mangle)]
+pub extern "C" fn besklaun_merge(first: &[u8], second: &[u8], out: &mut [u8]) -> Merged
+    ensures { (result, out.new) ≡ merge_files first.now second.now out.old }
+{
+    board_files::besklaun_merge(first, second, out)
+}
+
+#[unsafe(no_mangle)]
+pub extern "C" fn besklaun_run_board(
+    n: usize,
+    w: usize,
+    initial: u32,
+    file: &[u8],
+    listing: &mut [u8],
+) -> BoardRun
+    ensures { (result, listing.new) ≡ board_run n w initial file.now listing.old }
+{
+    board_files::besklaun_run_board(n, w, initial, file, listing)
+}
