@@ -2,7 +2,7 @@
 use Rattle.std.specs.Prelude.{◌≡◌, ◌⊎◌, ℕ, ◌+◌, ◌*◌, ◌≤◌, List}
 use Rattle.llsc.specs.Object.{Kind, ll, sc, vl}
 use Rattle.llsc.specs.History.{Command, Event, Slot, Call}
-use Rattle.llsc.specs.Linearizable as Any
+use Rattle.llsc.specs.Linearizable as AnyBench
 use Rattle.model.specs.Sizes.{ll_most, sc_most}
 use Rattle.model.specs.Machine.{Memory, Shaped}
 use Rattle.model.specs.SetUp.{set_up}
@@ -15,7 +15,7 @@ OwnSteps w (sc offered) s = (2 * w + 4 ≤ s) × (s ≤ sc_most w)
 OwnSteps w vl s = s ≡ 1
 
 abbrev pub Counted : ℕ → Call → Type 0
-Counted w c = Any.Counted (OwnSteps w c.kind) c.count c.steps
+Counted w c = AnyBench.Counted (OwnSteps w c.kind) c.count c.steps
 
 -- "open calls have fewer than their kind's largest"
 abbrev pub largest : ℕ → Kind → ℕ
@@ -24,11 +24,11 @@ largest w (sc offered) = sc_most w
 largest w vl = 1
 
 abbrev pub OpenCounted : ℕ → Slot → Type 0
-OpenCounted w slot = Any.OpenCounted (largest w) slot
+OpenCounted w slot = AnyBench.OpenCounted (largest w) slot
 
 -- what is claimed of the events of one list
 abbrev pub Claim : ℕ → List ℕ → List Event → Type 0
-Claim w value es = Any.Claim (OwnSteps w) (largest w) value es
+Claim w value es = AnyBench.Claim (OwnSteps w) (largest w) value es
 
 -- DEMAND 3: "The list follows an accepted set-up with any N, W and value, whatever the lent memory held."
 abbrev pub Demand3 : Type 0

@@ -10,7 +10,7 @@ use Rattle.model.specs.declared.HelpPlace.{HelpPlace}
 use Rattle.model.specs.declared.Bench.{Bench}
 use Rattle.model.specs.declared.Process.{Process}
 use Rattle.llsc.specs.declared.Order.{Order}
-use Rattle.llsc.specs.Rows as Any
+use Rattle.llsc.specs.Rows as AnyBench
 use Rattle.llsc.specs.Rows.{Row, every, some, row2, row8always}
 use Rattle.model.specs.Sizes.{buffers, sequence_numbers, halves, lent_words, busy_most}
 use Rattle.model.specs.Points.{line_number, idle, busy_points}
@@ -19,7 +19,7 @@ use Rattle.model.specs.Machine.{Memory}
 
 -- Row 3: "fewer than 5NW words or N process records lent", for so many records and words
 abbrev pub row3 : ℕ → ℕ → ℕ → ℕ → Row
-row3 n w records words = Any.row3 n (lent_words n w) records words
+row3 n w records words = AnyBench.row3 n (lent_words n w) records words
 
 -- Row 9, "exactly, over what N needs". A number is in its range:
 -- "a buffer number not below 3N, a sequence number not below 2N"
@@ -70,13 +70,13 @@ in_range m = bench_ok m.bench && every (process_ok m.bench.n m.bench.w) (take m.
 
 -- rows 5, 6, 7 of a process's record
 abbrev pub row5 : Order → Process → Row
-row5 o q = Any.row5 o (is_idle q)
+row5 o q = AnyBench.row5 o (is_idle q)
 
 abbrev pub row6 : Order → Process → Row
-row6 o q = Any.row6 o (is_idle q)
+row6 o q = AnyBench.row6 o (is_idle q)
 
 abbrev pub row7 : Order → Process → Row
-row7 o q = Any.row7 o q.answered
+row7 o q = AnyBench.row7 o q.answered
 
 -- Row 3 of a view: "the written list not a whole number of values". Row 15: "view of a success number above those
 -- written".
@@ -88,15 +88,15 @@ row15 w written k = record { number = 15; holds = ltb (written / w) k }
 
 -- Rows 1, 2, 3, with which a command's rows and a set-up's begin; `rest` is what follows them
 abbrev pub lent_rows : ℕ → ℕ → ℕ → ℕ → List Row → List Row
-lent_rows n w records words rest = Any.lent_rows n w (lent_words n w) records words rest
+lent_rows n w records words rest = AnyBench.lent_rows n w (lent_words n w) records words rest
 
 -- the rows of a command, for so many records and words lent, with the truth of row 9's ranges and the record q of its
 -- process
 abbrev pub process_rows : ℕ → ℕ → ℕ → Order → ℕ → Process → List Row
-process_rows n w p o value q = Any.process_rows n w p o value (is_idle q) q.answered
+process_rows n w p o value q = AnyBench.process_rows n w p o value (is_idle q) q.answered
 
 abbrev pub rows_of : ℕ → ℕ → ℕ → ℕ → Bool → ℕ → Order → ℕ → Process → List Row
-rows_of n w records words ranges p o value q = Any.command_rows n w (lent_words n w) records words ranges p o value (is_idle q) q.answered
+rows_of n w records words ranges p o value q = AnyBench.command_rows n w (lent_words n w) records words ranges p o value (is_idle q) q.answered
 
 abbrev pub command_rows : Memory → ℕ → Order → List ℕ → List Row
 command_rows m p o value =
@@ -104,7 +104,7 @@ command_rows m p o value =
 
 -- the rows of a set-up
 abbrev pub set_up_rows_of : ℕ → ℕ → ℕ → ℕ → ℕ → List Row
-set_up_rows_of n w records words value = Any.set_up_rows n w (lent_words n w) records words value
+set_up_rows_of n w records words value = AnyBench.set_up_rows n w (lent_words n w) records words value
 
 abbrev pub set_up_rows : Memory → ℕ → ℕ → List ℕ → List Row
 set_up_rows m n w value = set_up_rows_of n w (length m.records) (length m.words) (length value)

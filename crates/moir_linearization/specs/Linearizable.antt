@@ -3,7 +3,7 @@ use Rattle.std.specs.Prelude.{◌≡◌, true, false, ◌⊎◌, List, [], ◌�
 use Rattle.llsc.specs.Answers as R
 use Rattle.llsc.specs.Object.{Kind, ll, sc, vl}
 use Rattle.llsc.specs.History as H
-use Rattle.llsc.specs.Linearizable as Any
+use Rattle.llsc.specs.Linearizable as AnyBench
 use Rattle.llsc.specs.Linearizable.{All, Linearization}
 use Rattle.moir_model.specs.Sizes.{wll_most, sc_most}
 use Rattle.moir_model.specs.Machine.{Memory, Shaped}
@@ -108,7 +108,7 @@ largest w vl = 1
 
 -- "each answer brings the true count of own steps", "open calls have fewer than their kind's largest"
 abbrev pub CountedAs : ℕ → Call → Outcome → Type 0
-CountedAs w c (ended a n) = Any.Counted (OwnSteps w a) n c.steps
+CountedAs w c (ended a n) = AnyBench.Counted (OwnSteps w a) n c.steps
 CountedAs w c (pending b) = c.steps < largest w c.kind
 
 abbrev pub Counted : ℕ → Call → Type 0

@@ -3,7 +3,7 @@
 -- that are needed here and the ranges of the numbers.
 use Rattle.std.specs.Prelude.{ℕ, List, Bool, ◌&&◌, ◌||◌, cond, eqb, ltb, leb, length, take}
 use Rattle.llsc.specs.declared.Order.{Order}
-use Rattle.llsc.specs.Rows as Any
+use Rattle.llsc.specs.Rows as AnyBench
 use Rattle.llsc.specs.Rows.{Row, every, some}
 use Rattle.moir_model.specs.declared.Header.{Header}
 use Rattle.moir_model.specs.declared.Process.{Process}
@@ -14,7 +14,7 @@ use Rattle.moir_model.specs.Machine.{Memory}
 
 -- Row 3: fewer than (3N + 1)W words or N process records lent, for so many records and words
 abbrev pub row3 : ℕ → ℕ → ℕ → ℕ → Row
-row3 n w records words = Any.row3 n (lent_words n w) records words
+row3 n w records words = AnyBench.row3 n (lent_words n w) records words
 
 -- Row 9: "every process number kept below N"; every tag is in range
 abbrev pub header_ok : ℕ → Header → Bool
@@ -41,22 +41,22 @@ in_range m = header_ok m.bench.n m.bench.header && every (process_ok m.bench.n m
 
 -- rows 5, 6, 7 of a process's record; for 7 a WLL is the LL
 abbrev pub row5 : Order → Process → Row
-row5 o q = Any.row5 o (is_idle q)
+row5 o q = AnyBench.row5 o (is_idle q)
 
 abbrev pub row6 : Order → Process → Row
-row6 o q = Any.row6 o (is_idle q)
+row6 o q = AnyBench.row6 o (is_idle q)
 
 abbrev pub row7 : Order → Process → Row
-row7 o q = Any.row7 o q.answered
+row7 o q = AnyBench.row7 o q.answered
 
 -- the rows of a command, for so many records and words lent, with the truth of row 9's ranges and the record q of its
 -- process
 abbrev pub process_rows : ℕ → ℕ → ℕ → Order → ℕ → Process → List Row
-process_rows n w p o value q = Any.process_rows n w p o value (is_idle q) q.answered
+process_rows n w p o value q = AnyBench.process_rows n w p o value (is_idle q) q.answered
 
 abbrev pub rows_of : ℕ → ℕ → ℕ → ℕ → Bool → ℕ → Order → ℕ → Process → List Row
 rows_of n w records words ranges p o value q =
-    Any.command_rows n w (lent_words n w) records words ranges p o value (is_idle q) q.answered
+    AnyBench.command_rows n w (lent_words n w) records words ranges p o value (is_idle q) q.answered
 
 abbrev pub command_rows : Memory → ℕ → Order → List ℕ → List Row
 command_rows m p o value =
@@ -64,7 +64,7 @@ command_rows m p o value =
 
 -- the rows of a set-up
 abbrev pub set_up_rows_of : ℕ → ℕ → ℕ → ℕ → ℕ → List Row
-set_up_rows_of n w records words value = Any.set_up_rows n w (lent_words n w) records words value
+set_up_rows_of n w records words value = AnyBench.set_up_rows n w (lent_words n w) records words value
 
 abbrev pub set_up_rows : Memory → ℕ → ℕ → List ℕ → List Row
 set_up_rows m n w value = set_up_rows_of n w (length m.records) (length m.words) (length value)

@@ -8,7 +8,6 @@ use Rattle.station_machine.proofs.StationObeyLaws.{process_small, record_small, 
 use borrow.Author.Rules.{rules}
 use Rattle.station_machine.proofs.decide_by.Goals as goal
 
-
 pub returns-then-number-ne0 : goal.returns-then-number-ne0
 returns-then-number-ne0 c =
     let a = c.args in
@@ -37,7 +36,6 @@ process_at-q-requires c =
     process_small
     a.station a.all.list a.len a.p a.order a.named a.value.now a.words.now
     sixteen none
-
 
 pub overflow_cast-j : goal.overflow_cast-j
 overflow_cast-j c =

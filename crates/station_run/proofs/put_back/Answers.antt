@@ -7,6 +7,7 @@ use borrow.Author.Rules.{rules}
 use Rattle.station_run.proofs.put_back.Goals as goal
 
 pub returns-then-bench-eq0 : goal.returns-then-bench-eq0
+unfolding Rattle.station_run.specs.TextByValue.put_back
 returns-then-bench-eq0 c = simp (eq-eqb c.args.out.bench.n 0 c.if-bench-eq0.true)
 
 pub processes_ran-requires : goal.processes_ran-requires

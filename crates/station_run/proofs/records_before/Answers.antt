@@ -17,7 +17,7 @@ loop-i-init c = (omega arith, c.records_of-next.ensures ∙ simp c.no_process.en
 
 pub loop-i-preserved : goal.loop-i-preserved
 loop-i-preserved c =
-        let l = c.args.all.list in
+    let l = c.args.all.list in
     let sixteen : length l ≡ 16 = omega arith in (
       omega arith,
       c.with_record-next.ensures ∙ simp (c.process_of-q.ensures, c.process_at.ensures, c.loop-i.invariant.1) (seen_next l c.loop-i.i (omega (arith, sixteen))),

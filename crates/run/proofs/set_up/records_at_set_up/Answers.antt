@@ -24,12 +24,11 @@ pub loop-p-smaller : goal.loop-p-smaller
 loop-p-smaller c = omega (arith, c.loop-p-test.true)
 
 pub loop-p-preserved : goal.loop-p-preserved
-loop-p-preserved c =
-    (
-      records_again c.args.all.list c.args.n c.loop-p.p c.loop-p.invariant.0
-          c.record_at_set_up-process.ensures c.with_record-next.ensures,
-      omega (arith, c.loop-p-test.true),
-    )
+loop-p-preserved c = (
+  records_again c.args.all.list c.args.n c.loop-p.p c.loop-p.invariant.0
+      c.record_at_set_up-process.ensures c.with_record-next.ensures,
+  omega (arith, c.loop-p-test.true),
+)
 
 pub returns : goal.returns
 returns c = records_all c.args.all.list c.args.n c.loop-p.p c.loop-p.invariant.0 c.loop-p.invariant.1 c.loop-p-test.false
