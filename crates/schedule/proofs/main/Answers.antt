@@ -1,9 +1,6 @@
--- `schedule::main` meets its contract, which only says that it is safe and ends: the records that it hands over are fillers.
+-- `schedule::main`: the records that it hands over are fillers.
 use Rattle.run.proofs.RecordLaws.{fillers}
-use borrow.Author.Rules.{rules}
 use Rattle.schedule.proofs.main.Goals as goal
-
-pub records_of-all-requires : goal.records_of-all-requires
 
 pub run_by_value-out-requires : goal.run_by_value-out-requires
 run_by_value-out-requires c =

@@ -1,9 +1,6 @@
--- `trace::main` meets its contract, which only says that it is safe and ends: the records that it hands over are fillers.
+-- `trace::main`: the records that it hands over are fillers.
 use Rattle.run.proofs.RecordLaws.{fillers}
-use borrow.Author.Rules.{rules}
 use Rattle.trace.proofs.main.Goals as goal
-
-pub records_of-all-requires : goal.records_of-all-requires
 
 pub trace_by_value-out-requires : goal.trace_by_value-out-requires
 trace_by_value-out-requires c =
