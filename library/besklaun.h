@@ -1,6 +1,6 @@
 /* The proved entries of the bench that work on plain slices, for C and C++ on x86-64 Linux.
  *
- * `rt staticlib besklaun` proves them and writes target/staticlib/libbesklaun.a. It needs nothing but the C library:
+ * `tools/static-library` proves them and writes target/staticlib/libbesklaun.a. It needs nothing but the C library:
  *
  *     cc -I library program.c -L target/staticlib -lbesklaun
  *

@@ -1,4 +1,4 @@
-//! Links the archive that `rt staticlib besklaun` writes at the top of the project.
+//! Links the archive that `tools/static-library` writes at the top of the project.
 
 use std::env;
 use std::path::PathBuf;
@@ -12,7 +12,7 @@ fn main() {
     println!("cargo:rerun-if-changed={}", archive.display());
     assert!(
         archive.exists(),
-        "there is no {}: `rt staticlib besklaun` proves the library and writes it",
+        "there is no {}: `tools/static-library` proves the library and writes it",
         archive.display()
     );
     println!("cargo:rustc-link-search=native={}", folder.display());
