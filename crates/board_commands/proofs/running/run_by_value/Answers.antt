@@ -4,16 +4,14 @@ use Rattle.board_rows.proofs.FileRows.{has_trailer, long_enough}
 use Rattle.board_commands.proofs.FileRows.{refused_file, records_there, run_file_is}
 use Rattle.board_commands.proofs.running.run_by_value.Goals as goal
 
-records_of-requires c κs =
-    let n = c.before in let file = n.before.before.before.args.file.now in
-    long_enough file (has_trailer file (sym n.file_refusal.ensures ∙ c.if1.false))
-
 pub returns-then-number-ne0 : goal.returns-then-number-ne0
 returns-then-number-ne0 c =
     let a = c.args in
     refused_file a.file.now a.station a.all a.len a.words.now _ c.file_refusal-number.ensures c.if-number-ne0.true _ c.left_with.ensures
 
 pub records_of-from-requires : goal.records_of-from-requires
+records_of-from-requires c =
+    long_enough c.args.file.now (has_trailer c.args.file.now (sym c.file_refusal-number.ensures ∙ c.if-number-ne0.false))
 
 pub run_records-requires : goal.run_records-requires
 run_records-requires c =

@@ -41,7 +41,7 @@ loop-left-smaller c =
 pub loop-left-preserved : goal.loop-left-preserved
 loop-left-preserved c =
     let i = c.loop-left.invariant in
-    goes_on i (omega (arith, c.loop-left-test.true)) _ _ c.decide_at-out.ensures _ c.number_of-number.ensures c.if-number-ne0.false c.decide_at-out.auto.1.1.1.1.1.0 _ c.with_lent-all.ensures
+    goes_on i (omega (arith, c.loop-left-test.true)) _ _ c.decide_at-out.ensures _ c.number_of-number.ensures c.if-number-ne0.false c.decide_at-out.auto.words _ c.with_lent-all.ensures
 
 pub shape_of-words : goal.shape_of-words
 shape_of-words c = c.loop-left.invariant.long
