@@ -4,7 +4,7 @@ use mathlib.Core.List.{List, []}
 use mathlib.Core.Bool.{Bool, true, false, not, ◌&&◌, cond}
 use Prim.Native.Nat.{ℕ, zero, suc, ◌<◌, ◌≤◌}
 use native.Mathlib.Omega.{arith}
-use lib.Dec.{ltb, leb}
+use lib.Dec.{ltb}
 use lib.ListN.{length, get_or, take, replicate}
 use borrow.Author.Tests.{ltb-true, ltb-false, le-leb, lt-leb, leb-false}
 use Rattle.llsc.specs.declared.Order.{Order}
@@ -19,7 +19,7 @@ use Rattle.station.specs.Station.{station_memory, station_words, no_station_proc
 use Rattle.station.specs.StationRefusals.{station_in_range, station_rows_of}
 use Rattle.station_rows.specs.StationCommandRows.{station_number}
 use Rattle.station_machine.specs.declared.Outcome.{Outcome}
-use Rattle.station_machine.specs.StationDecision.{station_decided, refused_outcome}
+use Rattle.station_machine.specs.StationDecision.{station_decided}
 use Rattle.station_machine.proofs.StationObeyLaws.{refused_law, obeyed_law}
 use Rattle.station_records.specs.declared.processes.Processes.{Processes}
 use Rattle.board_commands.specs.BoardRun.{order_of}

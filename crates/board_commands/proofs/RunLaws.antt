@@ -1,21 +1,21 @@
 -- The loop over a file's records, by value.
-use mathlib.Core.Path.{◌≡◌, refl, sym, ap, ap₂, subst, ◌∙◌}
-use mathlib.Core.List.{List, [], ◌∷◌}
-use mathlib.Core.Bool.{Bool, true, false, cond}
-use Prim.Native.Nat.{ℕ, zero, suc, ◌+◌, ◌-◌, ◌*◌, ◌<◌, ◌≤◌}
+use mathlib.Core.Path.{◌≡◌, sym, ap, ap₂, ◌∙◌}
+use mathlib.Core.List.{List, ◌∷◌}
+use mathlib.Core.Bool.{Bool, cond}
+use Prim.Native.Nat.{ℕ, suc, ◌+◌, ◌-◌, ◌*◌, ◌<◌, ◌≤◌}
 use native.Mathlib.Omega.{arith}
 use lib.Dec.{eqb}
 use lib.ListN.{length, drop}
 use borrow.Author.Tests.{eq-eqb, ne_eqb}
 use Rattle.model.specs.Replies.{number_of}
-use Rattle.boards.specs.Files.{BoardRecord, records_of, decode, file_number}
+use Rattle.boards.specs.Files.{BoardRecord, records_of}
 use Rattle.boards.specs.Places.{record_at}
 use Rattle.boards.proofs.FrontLaws.{next_record}
 use Rattle.station.specs.declared.Station.{Station}
 use Rattle.station_records.specs.declared.processes.Processes.{Processes}
 use Rattle.station_machine.specs.declared.Outcome.{Outcome}
 use Rattle.board_commands.specs.declared.RunLeft.{RunLeft}
-use Rattle.board_commands.specs.ByValue.{decided, left_with, processes_after, records_run, file_run}
+use Rattle.board_commands.specs.ByValue.{decided, left_with, processes_after, records_run}
 
 -- what is left, and what is still to be done, is the whole
 pub record Running (file : List ℕ) (s₀ : Station) (all₀ : Processes) (len : ℕ) (ws₀ : List ℕ) (left₀ at₀ : ℕ) (s : Station) (all : Processes) (ws : List ℕ) (left at done : ℕ) : Type 0 where

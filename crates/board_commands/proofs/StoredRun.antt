@@ -1,5 +1,5 @@
 -- The run by value, its process records stored back, is the run of the file.
-use mathlib.Core.Path.{◌≡◌, refl, sym, ap, ap₂, subst, ◌∙◌}
+use mathlib.Core.Path.{◌≡◌, refl, sym, ap, ap₂, ◌∙◌}
 use mathlib.Core.List.{List, [], ◌∷◌}
 use mathlib.Core.Bool.{Bool, true, false, cond}
 use Prim.Native.Nat.{ℕ, zero, suc, ◌<◌, ◌≤◌}
@@ -9,7 +9,7 @@ use native.Mathlib.Omega.{arith}
 use lib.Dec.{eqb}
 use lib.ListN.{length, get_or, set, replicate, length-set}
 use lib.Seq.{set_out, get_or-set_same, get_or-set_other, ext_get_or}
-use borrow.Author.Tests.{eqb-true, eqb-false, eq-eqb, ne_eqb}
+use borrow.Author.Tests.{eqb-true, eqb-false}
 use Rattle.model.specs.declared.Reply.{Reply}
 use Rattle.model.specs.Replies.{number_of}
 use Rattle.boards.specs.Files.{BoardRecord, decode, file_number}
@@ -22,7 +22,7 @@ use Rattle.station_records.specs.declared.processes.Processes.{Processes}
 use Rattle.station_records.specs.Gathered.{gathered, processes_stored}
 use Rattle.station_records.proofs.GatheredLaws.{gathered_length, gathered_here}
 use Rattle.station_machine.specs.declared.Outcome.{Outcome}
-use Rattle.station_machine.specs.StationDecision.{refused_outcome, stored_back}
+use Rattle.station_machine.specs.StationDecision.{stored_back}
 use Rattle.station_machine.proofs.StationDecisionLaws.{decision_law}
 use Rattle.board_commands.specs.declared.FileRun.{FileRun}
 use Rattle.board_commands.specs.declared.RunLeft.{RunLeft}

@@ -1,11 +1,11 @@
 -- The theorems.
-use mathlib.Core.Path.{◌≡◌, refl, sym, ap, ap₂, subst, ◌∙◌}
+use mathlib.Core.Path.{◌≡◌, refl, sym, ap, subst, ◌∙◌}
 use mathlib.Core.Bool.{Bool, true, false, cond}
 use mathlib.Core.List.{List, [], ◌∷◌, ◌++◌, map}
-use Prim.Native.Nat.{ℕ, zero, suc, ◌≤◌}
+use Prim.Native.Nat.{ℕ, zero, suc}
 use native.Mathlib.Omega.{arith}
 use lib.Dec.{eqb}
-use lib.ListN.{length, take, drop}
+use lib.ListN.{take}
 use borrow.Author.Tests.{eqb-true, eqb-false, eq-eqb, ne_eqb}
 use Rattle.model.specs.declared.Reply.{Reply}
 use Rattle.model.specs.declared.Reply.TheVariants.{Refused}
@@ -20,7 +20,7 @@ use Rattle.station.specs.StationHistory.{seen, seen_all, station_after}
 use Rattle.station_facts.proofs.Accepts.{obeys, refuses}
 use Rattle.board_commands.specs.declared.FileRun.{FileRun}
 use Rattle.board_commands.specs.BoardRun.{command_of, run_records, run_file}
-use Rattle.board_commands.specs.Promises.{commands_of, AllAccepted, StopsWith, OneByOne, Runs, EveryFileRuns, AmongCommands, RunsAmongCommands}
+use Rattle.board_commands.specs.Promises.{commands_of, OneByOne, EveryFileRuns, RunsAmongCommands}
 use Rattle.board_commands.proofs.ReplyLaws.{obeyed_replies}
 
 -- a command keeps W, and its reply has the number of its refusal

@@ -6,7 +6,6 @@ use Prim.Native.Nat.{ℕ, suc, ◌+◌, ◌-◌}
 use native.Mathlib.Omega.{arith}
 use lib.Dec.{eqb, ltb}
 use lib.ListN.{length, replicate}
-use borrow.Author.Tests.{eqb-true, eqb-false, eq-eqb, ne_eqb}
 use Rattle.llsc.specs.declared.Order.TheVariants as orders
 use Rattle.llsc.specs.History.{Command}
 use Rattle.model.specs.declared.Reply.{Reply}
@@ -14,7 +13,6 @@ use Rattle.model.specs.Machine.{Memory, obey}
 use Rattle.model.specs.Command.{refusal, command}
 use Rattle.model.specs.Replies.{number_of}
 use Rattle.linearization.specs.After.{after}
-use Rattle.notation.specs.declared.Entry.{Entry}
 use Rattle.notation.specs.declared.Entry.TheVariants.{StartLl, StartVl, StartSc, Step}
 use Rattle.station.specs.Station.{StationMemory}
 use Rattle.station.specs.StationCommand.{station_command}

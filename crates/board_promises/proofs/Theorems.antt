@@ -1,12 +1,12 @@
 -- The theorems: a listed run, and the exported one, is CR 12's run on record 0 of a station of one record, in its number and
 -- the commands done.
-use mathlib.Core.Path.{◌≡◌, refl, sym, ap, ap₂, subst, ◌∙◌}
+use mathlib.Core.Path.{◌≡◌, refl, sym, ap, ◌∙◌}
 use mathlib.Core.Bool.{Bool, true, false, cond}
 use mathlib.Core.List.{List}
 use Prim.Native.Nat.{ℕ}
 use lib.Dec.{eqb, ltb}
 use lib.ListN.{length, replicate, get_or-replicate}
-use borrow.Author.Tests.{eqb-true, eqb-false, eq-eqb, ne_eqb}
+use borrow.Author.Tests.{ne_eqb}
 use Rattle.model.specs.Machine.{Memory}
 use Rattle.model.specs.SetUp.{set_up}
 use Rattle.boards.specs.Files.{decode, file_number}
@@ -19,10 +19,9 @@ use Rattle.station_laws.specs.OneRecord.{as_bench}
 use Rattle.station_laws.proofs.Theorems.{one_record_is_the_bench}
 use Rattle.text_runs.specs.TextRun.{room_needed}
 use Rattle.semantics.specs.TextRun.{Progress, Ended, ended, begun}
-use Rattle.board_commands.specs.declared.FileRun.{FileRun}
 use Rattle.board_commands.specs.BoardRun.{run_records, run_file}
 use Rattle.board_listing.specs.BoardListing.{obey_all, run_listed, after_set_up, board_listed}
-use Rattle.board_promises.specs.Promises.{returned, listed, prepared, AsOnAStation, EveryListedRun, own_station, EveryExportedRun}
+use Rattle.board_promises.specs.Promises.{returned, listed, prepared, EveryListedRun, own_station, EveryExportedRun}
 use Rattle.board_promises.proofs.StationLaws.{One, all_records}
 
 module _ (s : StationMemory) (shaped : StationShaped s) (n w k : ℕ) (file listing : List ℕ) where

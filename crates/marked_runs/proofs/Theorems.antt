@@ -213,7 +213,7 @@ carry_shown {n} {w} {m₀} {s} (Finish p) h l = either (Shown n w m₀) (eqb s.s
 all_shown : {n w : ℕ} {m₀ : Memory} {s : Progress} (es : List Entry) → AllSmall es → Shown n w m₀ s → Shown n w m₀ (carry_all es s)
 unfolding TR.carry_all
 all_shown [] none l = l
-all_shown (e ∷ es) (entry h k) l = all_shown es k (carry_shown e h l)
+all_shown {n = n} {w = w} {m₀ = m₀} {s = s} (e ∷ es) (entry h k) l = all_shown {n = n} {w = w} {m₀ = m₀} {s = carry e s} es k (carry_shown e h l)
 
 -- the last line is no command's
 record Closing (bs : List ℕ) : Type 0 where

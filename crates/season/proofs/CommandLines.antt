@@ -1,6 +1,6 @@
 -- What a command adds to a listing: nothing, or one answer line of N and W.
 use Prim.Native.Nat.{ℕ, suc, ◌+◌, ◌-◌, ◌*◌, ◌≤◌, ◌<◌}
-use mathlib.Core.Path.{◌≡◌, refl, sym, ap, subst, ◌∙◌}
+use mathlib.Core.Path.{◌≡◌, refl, subst}
 use mathlib.Core.List.{List, [], ◌∷◌}
 use mathlib.Core.Bool.{Bool, true, false}
 use native.Mathlib.Omega.{arith}
@@ -18,7 +18,7 @@ use Rattle.model.specs.Command.{command}
 use Rattle.tables.specs.Gathered.{gathered}
 use Rattle.tables.proofs.GatheredLaws.{gathered_length}
 use Rattle.words.proofs.WordLaws.{within}
-use Rattle.machine.specs.Decision.{Outcome, stored_back}
+use Rattle.machine.specs.Decision.{Outcome, obeyed_at, stored_back}
 use Rattle.machine.proofs.DecisionLaws.{decision_law}
 use Rattle.semantics.specs.TextRun.{line_of}
 use Rattle.entry.proofs.WordLaws.{Below, Every}
@@ -101,7 +101,7 @@ module _ (m : Memory) (p : ℕ) (o : Order) (v : List ℕ) (e : Every v) (small 
         same_w = f.w;
         small = f.small small;
         adds = λ _. adds_of N W p out.1 c.process lent (f.small small) c.n_most c.w_most k few
-            _ f.n f.w refl out.0.reply f.reply;
+            (stored_back m.records (obeyed_at p out)).1 f.n f.w refl out.0.reply f.reply;
         number = omega (arith, plain_none f.reply);
       }
   left_of (refuses k n l) = record { same_n = refl; same_w = refl; small = small; adds = λ z. absurd (n z); number = omega arith }

@@ -2,7 +2,7 @@
 use Prim.Native.Nat.{ℕ, zero, suc, ◌+◌, ◌-◌, ◌*◌, ◌≤◌, ◌<◌}
 use mathlib.Core.Path.{◌≡◌, refl, sym, ap, subst, ◌∙◌}
 use mathlib.Core.List.{List, [], ◌∷◌, ◌++◌, append-nil, append_assoc}
-use mathlib.Core.Bool.{Bool, true, false, cond}
+use mathlib.Core.Bool.{Bool, false, cond}
 use native.Mathlib.Omega.{arith}
 use native.Mathlib.Nat.{add-zero}
 use borrow.Author.Tests.{leb-false, ltb-false, eqb-true}
@@ -154,7 +154,7 @@ pub data AllSmall : List Entry → Type 0 where
 pub all_listed : {n w : ℕ} {s : Progress} (es : List Entry) → AllSmall es → Listed n w s → Listed n w (carry_all es s)
 unfolding TR.carry_all
 all_listed [] none l = l
-all_listed (e ∷ es) (entry h k) l = all_listed es k (carry_listed e h l)
+all_listed {n = n} {w = w} {s = s} (e ∷ es) (entry h k) l = all_listed {s = carry e s} es k (carry_listed e h l)
 
 -- the last line
 data Ends : List ℕ → Type 0 where

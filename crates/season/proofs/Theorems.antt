@@ -7,15 +7,15 @@ use native.Mathlib.Omega.{arith}
 use borrow.Author.Tests.{eqb-true, ltb-true, lt-ltb}
 use lib.Dec.{eqb, ltb}
 use lib.ListN.{length, get_or, drop, replicate, length-append, length-replicate, get_or-append}
-use lib.Seq.{sets, sets-eq}
+use lib.Seq.{sets-eq}
 use Rattle.model.specs.Machine.{Memory}
 use Rattle.model.specs.SetUp.{words_at_set_up, at_set_up, set_up_refusal, set_up}
 use Rattle.setup.specs.SetUpByValue.{set_up_number, set_up_number_lem, Accepted}
 use Rattle.setup.proofs.SetUpLaws.{first_row_lem, set_up_fits}
-use Rattle.notation.specs.Grammar.{Said, deepest, says}
+use Rattle.notation.specs.Grammar.{Said}
 use Rattle.notation.specs.FirstLine.{read}
 use Rattle.notation.specs.Readings.{Reading, right, wrong}
-use Rattle.notation.specs.Right.{Tells, Why, ended, broken, deep}
+use Rattle.notation.specs.Right.{Why, ended, broken, deep}
 use Rattle.notation.proofs.Theorems.{read_is_right, wrong_has_fault}
 use Rattle.semantics.specs.TextRun as T
 use Rattle.text_runs.specs.TextRun.{longest_text, room_needed}
