@@ -39,7 +39,7 @@ struct besklaun_judgement {
 
 /* n processes, w words, the value with which the record begins, and for each answered call 6 + w numbers: process, kind
  * (1 LL, 2 SC, 3 VL), start place, answer place, truth, moment, words. Both counts are counts of numbers.
- * Definition: judgementOf (judged n w value log), besklaun/specs/Judgements and verdicts/specs/Verdicts. */
+ * Definition: judgement_of (judged n w value log), besklaun/specs/Judgements and verdicts/specs/Verdicts. */
 struct besklaun_judgement besklaun_judge(size_t n, size_t w, const uint64_t *value, size_t value_count,
                                          const uint64_t *log, size_t log_count);
 
@@ -56,7 +56,7 @@ struct besklaun_reasoned {
                         * words the object answers */
 };
 
-/* Definition: reasonedOf (judgedWithReason n w value log), besklaun/specs/Judgements and verdicts/specs/Reasons. */
+/* Definition: reasoned_of (judged_with_reason n w value log), besklaun/specs/Judgements and verdicts/specs/Reasons. */
 struct besklaun_reasoned besklaun_judge_with_reason(size_t n, size_t w, const uint64_t *value, size_t value_count,
                                                     const uint64_t *log, size_t log_count);
 
@@ -69,12 +69,12 @@ struct besklaun_text_run {
 };
 
 /* The listing goes to `listing`. With room for fewer than 744 bytes the run is refused with 14 and nothing is written.
- * Definition: textRun false text listing, besklaun/specs/OwnBench and semantics/specs/TextRun. */
+ * Definition: text_run false text listing, besklaun/specs/OwnBench and semantics/specs/TextRun. */
 struct besklaun_text_run besklaun_run_text(const uint8_t *text, size_t text_count,
                                            uint8_t *listing, size_t listing_count);
 
 /* The same run with its trace (docs/TRACE.md) in place of the listing. It asks for room of 872 bytes.
- * Definition: textRun true text trace. */
+ * Definition: text_run true text trace. */
 struct besklaun_text_run besklaun_trace_text(const uint8_t *text, size_t text_count,
                                              uint8_t *trace, size_t trace_count);
 
@@ -90,7 +90,7 @@ struct besklaun_found_turns {
 
 /* The schedule for a number, written to `turns`. 64 bytes are enough for every schedule. The bytes behind it stay;
  * where turn_count is less than `count`, all bytes stay.
- * Definition: scheduleInto (foundFor a b number) turns, besklaun/specs/TurnBytes and enumeration/specs/Replies. */
+ * Definition: schedule_into (found_for a b number) turns, besklaun/specs/TurnBytes and enumeration/specs/Replies. */
 struct besklaun_found_turns besklaun_schedule_for(size_t a, size_t b, uint64_t number,
                                                   uint8_t *turns, size_t turn_count);
 
@@ -100,7 +100,7 @@ struct besklaun_turns_number {
 };
 
 /* The number for a schedule.
- * Definition: numberTold (numberedFor a b turns). */
+ * Definition: number_told (numbered_for a b turns). */
 struct besklaun_turns_number besklaun_number_for(size_t a, size_t b, const uint8_t *turns, size_t turn_count);
 
 struct besklaun_turns_after {
@@ -109,7 +109,7 @@ struct besklaun_turns_after {
 };
 
 /* The schedule after the one in `turns`, written in its place.
- * Definition: afterInto (followingFor a b turns) turns. */
+ * Definition: after_into (following_for a b turns) turns. */
 struct besklaun_turns_after besklaun_schedule_after(size_t a, size_t b, uint8_t *turns, size_t turn_count);
 
 /* Merging the trace files of a board's two halves (docs/BOARDS.md): the records of both by tick, the first file's first
@@ -122,7 +122,7 @@ struct besklaun_merged {
 
 /* The merged file goes to `out`, which a refusal leaves as it was. What it needs is 12 bytes for each record and 12 for
  * the trailer; less is refused with 28. Room of first_count + second_count bytes is enough for every pair.
- * Definition: mergeFiles first second out, boards/specs/Merging. */
+ * Definition: merge_files first second out, boards/specs/Merging. */
 struct besklaun_merged besklaun_merge(const uint8_t *first, size_t first_count,
                                       const uint8_t *second, size_t second_count,
                                       uint8_t *out, size_t out_count);
@@ -140,7 +140,7 @@ struct besklaun_board_run {
  * than 744 bytes of room left before a command the run is refused with 14; at the start nothing is written then.
  * A file may have more than 60,000 records. Room of file_count + 744 bytes is enough for every file: the records of a
  * call are more bytes than the line of its answer (tested, not proved).
- * Definition: boardRun n w initial file listing, besklaun/specs/BoardRuns and board_listing/specs/BoardListing. */
+ * Definition: board_run n w initial file listing, besklaun/specs/BoardRuns and board_listing/specs/BoardListing. */
 struct besklaun_board_run besklaun_run_board(size_t n, size_t w, uint32_t initial,
                                              const uint8_t *file, size_t file_count,
                                              uint8_t *listing, size_t listing_count);
