@@ -3,3 +3,4 @@ pub mod Object
 pub mod History
 pub mod Linearizable
 pub mod Rows
+pub mod Refusals

@@ -5,12 +5,14 @@
 ghost use Rattle.std.specs.Prelude.{◌≡◌};
 ghost use Rattle.llsc.specs.Rows.{is_start};
 
+pub mod refusals;
+
 // A process's number, below N.
-#[derive(Clone, Copy)]
+#[derive(Clone, Copy, PartialEq, Eq)]
 pub struct ProcessNumber(pub u8);
 
 // What a command orders.
-#[derive(Clone, Copy)]
+#[derive(Clone, Copy, PartialEq, Eq)]
 pub enum Order {
     StartLl,
     StartSc,
