@@ -25,10 +25,10 @@ segment_at b ws k = record { tag = get_or b.tags k 0; val = get_or ws (segment_w
 
 -- the bench with another header, or another tag of segment k
 abbrev pub put_header : Bench → Header → Bench
-put_header b h = record { n = b.n; w = b.w; header = h; tags = b.tags }
+put_header b h = record b { header = h }
 
 abbrev pub put_tag : Bench → ℕ → ℕ → Bench
-put_tag b k t = record { n = b.n; w = b.w; header = b.header; tags = set b.tags k t }
+put_tag b k t = record b { tags = set b.tags k t }
 
 -- the words with another word of segment k
 abbrev pub put_value : Bench → List ℕ → ℕ → ℕ → List ℕ

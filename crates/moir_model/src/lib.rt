@@ -12,14 +12,14 @@ use llsc::ProcessNumber;
 pub mod sizes;
 
 // A header: Figure 6's headertype, a tag and the number of the process that wrote it.
-#[derive(Clone, Copy)]
+#[derive(Clone, Copy, PartialEq, Eq)]
 pub struct Header {
     pub tag: u16,
     pub pid: ProcessNumber,
 }
 
 // A segment, or a private copy of one: Figure 6's segmenttype, a tag and a word.
-#[derive(Clone, Copy)]
+#[derive(Clone, Copy, PartialEq, Eq)]
 pub struct Segment {
     pub tag: u16,
     pub val: u64,
@@ -126,10 +126,6 @@ pub fn number_of(reply: Reply) -> u8
 {
     match reply {
         Reply::Refused(number) => number,
-        Reply::Accepted => 0,
-        Reply::WllAnswered(_) => 0,
-        Reply::WllNamed(_, _) => 0,
-        Reply::ScAnswered(_, _) => 0,
-        Reply::VlAnswered(_, _) => 0,
+        _ => 0,
     }
 }
