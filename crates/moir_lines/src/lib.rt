@@ -2,10 +2,9 @@
 
 #![tactic(auto)]
 
-pub mod compare;
+pub mod copies;
 pub mod on_array;
 pub mod on_header;
 pub mod on_segment;
 pub mod points;
 pub mod records;
-pub mod tags;

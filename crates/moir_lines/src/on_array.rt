@@ -1,29 +1,24 @@
 // The lines of Figure 6 that touch the array A.
 ghost use Rattle.std.specs.Prelude.{◌≡◌, ◌<◌};
 ghost use Rattle.moir_model.specs.Lines.{do_line4, do_line17};
-ghost use Rattle.moir_lines.specs.Answers.{next_header};
+ghost use Rattle.moir_lines.specs.Copies.{copy_line, copy_header};
 ghost use Rattle.moir_lines.specs.Ranges.{Moving};
 
-use crate::{points, records, tags};
+use crate::copies::CopyOf;
+use crate::{points, records};
 use llsc::ProcessNumber;
 use moir_model::{Header, Process, Segment};
 
 // Line 4: a word of A is read into z.
-pub fn do_line_4(line: u8, hdr: Header, word: u64, process: Process) -> Process
+pub fn do_line_4(copy: CopyOf, word: u64, process: Process) -> Process
     requires { process.count < 4294967296 }
-    ensures { result ≡ do_line4 line hdr word process }
+    ensures { result ≡ do_line4 (copy_line copy 5) (copy_header copy process) word process }
 {
-    let tag = hdr.tag;
-    let next = records::to(line, process);
-    records::with_z(Segment { tag, val: word }, next)
-}
-
-// Line 18.
-fn with_next_header(p: ProcessNumber, process: Process) -> Process
-    ensures { result ≡ next_header p process }
-{
-    let tag = tags::next(process.oldhdr.tag);
-    records::with_new(Header { tag, pid: p }, process)
+    let tag = copy.header(process).tag;
+    Process {
+        z: Segment { tag, val: word },
+        ..records::to(copy.line(5), process)
+    }
 }
 
 // Lines 16 to 18: a word of A was written. After the last one the new header is made.
@@ -31,11 +26,17 @@ pub fn do_line_17(w: usize, p: ProcessNumber, process: Process) -> Process
     requires { Moving w process }
     ensures { result ≡ do_line17 w p process }
 {
-    let word = process.word;
-    if word + 1 < w {
-        let next = records::to(points::SC_17, process);
-        return records::with_word(word + 1, next);
+    let word = process.word + 1;
+    if word < w {
+        return Process {
+            word,
+            ..records::to(points::SC_17, process)
+        };
     }
-    let next = with_next_header(p, records::to(points::SC_19, process));
-    records::with_word(0, next)
+    let tag = process.oldhdr.tag.wrapping_add(1);
+    Process {
+        word: 0,
+        newhdr: Header { tag, pid: p },
+        ..records::to(points::SC_19, process)
+    }
 }

@@ -1,5 +1,7 @@
 // The numbers that stand for the program points in a process record: Figure 6's own line numbers, and 20 more in the Copy
 // of an SC, which line 20 calls.
+// Kept: constants. A record's line is lent memory, which may hold any number, so that an enum would need a match of its own
+// from number to point before each of the matches that name these.
 pub const IDLE: u8 = 0;
 
 pub const WLL_2: u8 = 2;
@@ -21,6 +23,8 @@ pub const SC_14: u8 = 14;
 pub const SC_17: u8 = 17;
 
 pub const SC_19: u8 = 19;
+
+pub const COPY_OF_SC: u8 = 20;
 
 pub const SC_2: u8 = 22;
 
