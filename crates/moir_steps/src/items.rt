@@ -1,48 +1,40 @@
 // The shared items of the bench record, and what a step leaves.
-ghost use Rattle.std.specs.Prelude.{◌≡◌, ◌<◌, get_or};
-ghost use Rattle.moir_model.specs.Words.{put_header, put_tag};
+ghost use Rattle.std.specs.Prelude.{◌≡◌, ◌<◌};
+ghost use Rattle.moir_model.specs.Words.{segment_at, put_tag};
 ghost use Rattle.moir_steps.specs.Items.{moved_by, moved_on};
+ghost use Rattle.moir_steps.specs.Ranges.{Standing};
 
-use moir_model::{Bench, Header, LineStep, Moved, Process, Reply, Segment};
+use crate::word_places::Row;
+use moir_model::{Bench, LineStep, Moved, Process, Reply, Segment};
 
-// Segment k, with its word.
-pub fn segment_with(bench: Bench, k: usize, val: u64) -> Segment
-    requires { k < 64 }
-    ensures { result ≡ record { tag = get_or bench.tags k 0; val = val } }
+// The segment at a process's word place, with its tag from the bench record and its word from the lent words.
+pub fn segment_of(bench: Bench, process: Process, words: &[u64]) -> Segment
+    requires { Standing bench process words.now }
+    ensures { result ≡ segment_at bench words.now process.word }
 {
+    let k = process.word;
     let tag = bench.tags[k];
+    let val = words[Row::Segments.word(bench.n, bench.w, k)];
     Segment { tag, val }
 }
 
-// The bench with another header.
-pub fn put_header(bench: Bench, header: Header) -> Bench
-    ensures { result ≡ put_header bench header }
-{
-    let mut next = bench;
-    next.header = header;
-    next
-}
-
 // The bench with another tag of segment k.
-pub fn put_tag(bench: Bench, k: usize, tag: u16) -> Bench
+pub fn put_tag(mut bench: Bench, k: usize, tag: u16) -> Bench
     requires { k < 64 }
     ensures { result ≡ put_tag bench k tag }
 {
-    let mut next = bench;
-    next.tags[k] = tag;
-    next
+    bench.tags[k] = tag;
+    bench
 }
 
 // What a line made of its process, with the bench.
 pub fn moved(bench: Bench, step: LineStep) -> Moved
     ensures { result ≡ moved_by bench step }
 {
-    let process = step.process;
-    let reply = step.reply;
     Moved {
         bench,
-        process,
-        reply,
+        process: step.process,
+        reply: step.reply,
     }
 }
 

@@ -5,7 +5,8 @@ ghost use Rattle.moir_model.specs.Records.{begin_line};
 ghost use Rattle.moir_steps.specs.Items.{moved_on};
 ghost use Rattle.moir_steps.specs.Ranges.{Obeyable};
 
-use crate::{items, step, word_places};
+use crate::word_places::Row;
+use crate::{items, step};
 use llsc::{Order, ProcessNumber};
 use moir_lines::{points, records};
 use moir_model::{Bench, Moved, Process};
@@ -34,7 +35,7 @@ pub fn obey(
     match order {
         Order::StartLl => begun(points::WLL_10, bench, process),
         Order::StartSc => {
-            let at = word_places::offer_word(bench.n, bench.w, p, 0);
+            let at = Row::Offered(p).word(bench.n, bench.w, 0);
             word_runs::copy_in(words, at, value);
             begun(points::SC_14, bench, process)
         }

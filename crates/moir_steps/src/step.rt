@@ -7,6 +7,7 @@ ghost use Rattle.moir_steps.specs.Ranges.{Ready};
 
 use crate::{item_steps, items};
 use llsc::ProcessNumber;
+use moir_lines::copies::CopyOf;
 use moir_lines::{on_header, points};
 use moir_model::{Bench, Moved, Process};
 
@@ -15,9 +16,9 @@ fn step_19(bench: Bench, process: Process) -> Moved
     requires { process.count < 4294967296 }
     ensures { result ≡ moved19 bench process }
 {
-    let header = bench.header;
-    let left = items::put_header(bench, on_header::cas_header(header, process));
-    items::moved(left, on_header::do_line_19(header, process))
+    let header = on_header::cas_header(bench.header, process);
+    let next = on_header::do_line_19(bench.header, process);
+    items::moved(Bench { header, ..bench }, next)
 }
 
 // An idle process, and a line that is none (row 9 refuses it), stay as they are.
@@ -30,33 +31,22 @@ pub fn step(p: ProcessNumber, bench: Bench, process: Process, words: &mut [u64])
     let header = bench.header;
     match line {
         points::WLL_10 => items::moved_on(bench, on_header::do_line_10(header, process)),
-        points::WLL_2 => item_steps::step_2(
-            points::WLL_4,
-            points::WLL_7,
-            process.x,
-            bench,
-            process,
-            words,
-        ),
-        points::WLL_4 => item_steps::step_4(points::WLL_5, process.x, bench, process, words),
-        points::WLL_5 => item_steps::step_5(points::WLL_6, bench, process, words),
-        points::WLL_6 => item_steps::step_6(points::WLL_7, bench, process, words),
+        points::WLL_2 => item_steps::step_2(CopyOf::Wll, bench, process, words),
+        points::WLL_4 => item_steps::step_4(CopyOf::Wll, bench, process, words),
+        points::WLL_5 => item_steps::step_5(CopyOf::Wll, bench, process, words),
+        points::WLL_6 => item_steps::step_6(CopyOf::Wll, bench, process, words),
         points::WLL_7 => item_steps::step_7(p, bench, process, words),
         points::SC_14 => items::moved(bench, on_header::do_line_14(header, process)),
         points::SC_17 => item_steps::step_17(p, bench, process, words),
         points::SC_19 => step_19(bench, process),
-        points::SC_2 => item_steps::step_2(
-            points::SC_4,
-            points::SC_7,
-            process.newhdr,
+        points::SC_2 => item_steps::step_2(CopyOf::Sc, bench, process, words),
+        points::SC_4 => item_steps::step_4(CopyOf::Sc, bench, process, words),
+        points::SC_5 => item_steps::step_5(CopyOf::Sc, bench, process, words),
+        points::SC_6 => item_steps::step_6(CopyOf::Sc, bench, process, words),
+        points::SC_7 => items::moved(
             bench,
-            process,
-            words,
+            on_header::do_line_7(CopyOf::Sc, bench.w, header, process),
         ),
-        points::SC_4 => item_steps::step_4(points::SC_5, process.newhdr, bench, process, words),
-        points::SC_5 => item_steps::step_5(points::SC_6, bench, process, words),
-        points::SC_6 => item_steps::step_6(points::SC_7, bench, process, words),
-        points::SC_7 => items::moved(bench, on_header::do_line_7_copy(bench.w, header, process)),
         points::VL_13 => items::moved(bench, on_header::do_line_13(header, process)),
         _ => items::moved_on(bench, process),
     }

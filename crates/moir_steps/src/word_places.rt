@@ -1,38 +1,30 @@
-// Where the lent words lie: 3N + 1 rows of W words. Row q below N is A[q], row N the segments' words, row N+1+p the return
-// area of p, row 2N+1+p its offer area.
+// Where the lent words lie: 3N + 1 rows of W words.
 ghost use Rattle.std.specs.Prelude.{◌≡◌, ◌<◌, ◌≤◌};
-ghost use Rattle.moir_model.specs.Words.{announced_word, segment_word, return_word, offer_word};
+ghost use Rattle.moir_steps.specs.Rows.{row_number, row_word};
 
 use llsc::ProcessNumber;
 
-// Word k of A[q].
-pub fn announced_word(w: usize, q: ProcessNumber, k: usize) -> usize
-    requires { (w ≤ 64) × (k < 64) }
-    ensures { result ≡ announced_word w q k }
-{
-    (q.0 as usize) * w + k
+// A row: A[q] is row q, then come the segments' words, the return areas and the offer areas.
+#[derive(Clone, Copy)]
+pub enum Row {
+    Announced(ProcessNumber),
+    Segments,
+    Returned(ProcessNumber),
+    Offered(ProcessNumber),
 }
 
-// The word of segment k.
-pub fn segment_word(n: usize, w: usize, k: usize) -> usize
-    requires { (n ≤ 16) × ((w ≤ 64) × (k < 64)) }
-    ensures { result ≡ segment_word n w k }
-{
-    n * w + k
-}
-
-// Word k of p's return area.
-pub fn return_word(n: usize, w: usize, p: ProcessNumber, k: usize) -> usize
-    requires { (n ≤ 16) × ((w ≤ 64) × (k < 64)) }
-    ensures { result ≡ return_word n w p k }
-{
-    (n + 1 + p.0 as usize) * w + k
-}
-
-// Word k of p's offer area.
-pub fn offer_word(n: usize, w: usize, p: ProcessNumber, k: usize) -> usize
-    requires { (n ≤ 16) × ((w ≤ 64) × (k < 64)) }
-    ensures { result ≡ offer_word n w p k }
-{
-    (2 * n + 1 + p.0 as usize) * w + k
+impl Row {
+    // Where its word k lies.
+    pub fn word(self, n: usize, w: usize, k: usize) -> usize
+        requires { (row_number n self ≤ 288) × ((w ≤ 64) × (k < 64)) }
+        ensures { result ≡ row_word n w self k }
+    {
+        let row = match self {
+            Row::Announced(q) => q.0 as usize,
+            Row::Segments => n,
+            Row::Returned(p) => n + 1 + p.0 as usize,
+            Row::Offered(p) => 2 * n + 1 + p.0 as usize,
+        };
+        row * w + k
+    }
 }
