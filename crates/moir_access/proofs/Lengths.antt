@@ -2,7 +2,6 @@
 -- that a trace keeps beside the listing's line.
 use Prim.Native.Nat.{◌≤◌}
 use mathlib.Core.List.{◌++◌}
-use mathlib.Core.Bool.{Bool}
 use native.Mathlib.Omega.{arith}
 use lib.ListN.{length}
 use Rattle.listing.proofs.Lengths.{count_digits, joined}
@@ -11,10 +10,11 @@ use Rattle.moir_access.specs.declared.Item.TheVariants.{Hdr, Data, Announced}
 use Rattle.moir_access.specs.declared.Act.{Act}
 use Rattle.moir_access.specs.declared.Act.TheVariants.{Read, Write, Cas}
 use Rattle.moir_access.specs.declared.Content.{Content}
+use Rattle.moir_access.specs.declared.Content.TheVariants.{Tagged, Word}
 use Rattle.moir_access.specs.declared.Access.{Access}
 use Rattle.trace_parts.specs.TraceParts.{spaced, bracketed, truth_text}
 use Rattle.trace_parts.proofs.Lengths.{spaced_length, number_length, bracketed_length, truth_length}
-use Rattle.moir_access.specs.TraceParts.{item_text, pair_text, values_text, cas_text, act_text, shown}
+use Rattle.moir_access.specs.TraceParts.{item_text, values_text, act_text, shown}
 
 -- no number of an access has more than ten digits, nor its line more than three
 abbrev pub SmallItem : Item → Type 0
@@ -22,15 +22,19 @@ SmallItem Hdr = Unit {0}
 SmallItem (Data k) = k ≤ 4294967295
 SmallItem (Announced q k) = (q.0 ≤ 4294967295) × (k ≤ 4294967295)
 
-pub record SmallContent (v : Content) : Type 0 where
-  pub first : v.first ≤ 4294967295
-  pub second : v.second ≤ 4294967295
+abbrev pub SmallContent : Content → Type 0
+SmallContent (Tagged tag with) = (tag ≤ 4294967295) × (with ≤ 4294967295)
+SmallContent (Word word) = word ≤ 4294967295
+
+abbrev pub SmallAct : Act → Type 0
+SmallAct (Read v) = SmallContent v
+SmallAct (Write v) = SmallContent v
+SmallAct (Cas v u t) = SmallContent v × SmallContent u
 
 pub record SmallAccess (a : Access) : Type 0 where
   pub line : a.line ≤ 255
   pub item : SmallItem a.item
-  pub values : SmallContent a.values
-  pub new : SmallContent a.new
+  pub act : SmallAct a.act
 
 item_length_lem : (i : Item) → SmallItem i → length (item_text i) ≤ 26
 unfolding item_text
@@ -39,34 +43,23 @@ item_length_lem (Data k) s = omega (arith, bracketed_length k s)
 item_length_lem (Announced q k) s =
     omega (arith, joined (bracketed q.0) (bracketed k) 12 12 (bracketed_length q.0 s.0) (bracketed_length k s.1))
 
-pair_length : (v : Content) → SmallContent v → length (pair_text v) ≤ 22
-unfolding pair_text
-pair_length v s = joined (spaced v.first) (spaced v.second) 11 11 (number_length v.first s.first) (number_length v.second s.second)
-
-values_length : (i : Item) (v : Content) → SmallContent v → length (values_text i v) ≤ 22
+values_length : (v : Content) → SmallContent v → length (values_text v) ≤ 22
 unfolding values_text
-values_length Hdr v s = pair_length v s
-values_length (Data k) v s = pair_length v s
-values_length (Announced q k) v s = omega (arith, number_length v.first s.first)
+values_length (Tagged tag with) s = joined (spaced tag) (spaced with) 11 11 (number_length tag s.0) (number_length with s.1)
+values_length (Word word) s = omega (arith, number_length word s)
 
-cas_length : (i : Item) (v u : Content) (t : Bool) → SmallContent v → SmallContent u → length (cas_text i v u t) ≤ 54
-unfolding cas_text
-cas_length i v u t s s' =
-    let b = joined (values_text i u) (truth_text t) 22 6 (values_length i u s') (truth_length t) in
-    omega (arith, joined (values_text i v) (values_text i u ++ truth_text t) 22 28 (values_length i v s) b)
-
-act_length : (a : Act) (i : Item) (v u : Content) → SmallContent v → SmallContent u → length (act_text a i v u) ≤ 54
+act_length : (a : Act) → SmallAct a → length (act_text a) ≤ 54
 unfolding act_text
-act_length Read i v u s s' = omega (arith, values_length i v s)
-act_length Write i v u s s' = omega (arith, values_length i v s)
-act_length (Cas t) i v u s s' = cas_length i v u t s s'
+act_length (Read v) s = omega (arith, values_length v s)
+act_length (Write v) s = omega (arith, values_length v s)
+act_length (Cas v u t) s =
+    let b = joined (values_text u) (truth_text t) 22 6 (values_length u s.1) (truth_length t) in
+    omega (arith, joined (values_text v) (values_text u ++ truth_text t) 22 28 (values_length v s.0) b)
 
 -- what is shown, from the space before the line on
 pub shown_length : (a : Access) → SmallAccess a → length (shown a) ≤ 84
 unfolding shown
 shown_length a s =
-    let act = act_text a.act a.item a.values a.new in
-    let c = act_length a.act a.item a.values a.new s.values s.new in
-    let b = joined (item_text a.item) act 26 54 (item_length_lem a.item s.item) c in
+    let b = joined (item_text a.item) (act_text a.act) 26 54 (item_length_lem a.item s.item) (act_length a.act s.act) in
     let line = spaced_length a.line 3 (count_digits a.line (omega (arith, s.line))) in
-    joined (spaced a.line) (item_text a.item ++ act) 4 80 line b
+    joined (spaced a.line) (item_text a.item ++ act_text a.act) 4 80 line b

@@ -16,6 +16,7 @@ use Rattle.words.proofs.WordLaws.{within}
 use Rattle.moir_steps.proofs.PlaceLaws.{lies}
 use Rattle.moir_access.specs.declared.Item.{Item}
 use Rattle.moir_access.specs.declared.Item.TheVariants.{Hdr, Data, Announced}
+use Rattle.moir_access.specs.declared.Content.TheVariants.{Tagged}
 use Rattle.moir_access.specs.Items.{word_content, item_at, InBench}
 
 -- a word's place tells its row and its place in the row
@@ -40,7 +41,7 @@ pub own_put : (b : Bench) (ws : List ℕ) (r k v : ℕ) → k < b.w → b.n < r 
     → item_at i b (set ws (r * b.w + k) v) ≡ item_at i b ws
 own_put b ws r k v hk hr Hdr there = refl
 own_put b ws r k v hk hr (Data j) there =
-    ap (λ (x : ℕ). record { first = get_or b.tags j 0; second = x })
+    ap (Tagged (get_or b.tags j 0))
     (row_stays b ws r k v hk b.n j there (λ e. omega arith))
 own_put b ws r k v hk hr (Announced q j) there =
     ap word_content (row_stays b ws r k v hk q.0 j there.1 (λ e. omega (arith, there.0)))
@@ -54,7 +55,7 @@ pub word_elsewhere : (b : Bench) (ws : List ℕ) (p : ProcessNumber) (k v : ℕ)
     → i ≢ Announced p k → item_at i b (set ws (p.0 * b.w + k) v) ≡ item_at i b ws
 word_elsewhere b ws p k v hp hk Hdr there ne = refl
 word_elsewhere b ws p k v hp hk (Data j) there ne =
-    ap (λ (x : ℕ). record { first = get_or b.tags j 0; second = x })
+    ap (Tagged (get_or b.tags j 0))
     (row_stays b ws p.0 k v hk b.n j there (λ e. omega (arith, hp)))
 word_elsewhere b ws p k v hp hk (Announced q j) there ne =
     ap word_content (get_or-set_other ws (p.0 * b.w + k) (q.0 * b.w + j) v 0 (λ e. ne (same (row_and_place there.1 hk e))))
@@ -64,9 +65,9 @@ word_elsewhere b ws p k v hp hk (Announced q j) there ne =
 
 -- a segment is put: its tag and its word
 pub segment_there : (b : Bench) (ws : List ℕ) (k t v : ℕ) → k < b.w → b.w ≤ length b.tags
-    → lent_words b.n b.w ≤ length ws → item_at (Data k) (put_tag b k t) (put_value b ws k v) ≡ record { first = t; second = v }
+    → lent_words b.n b.w ≤ length ws → item_at (Data k) (put_tag b k t) (put_value b ws k v) ≡ Tagged t v
 segment_there b ws k t v hk tags lent =
-    ap₂ (λ (x y : ℕ). record { first = x; second = y }) (get_or-set_same b.tags k t 0 (omega (arith, hk, tags)))
+    ap₂ Tagged (get_or-set_same b.tags k t 0 (omega (arith, hk, tags)))
     (get_or-set_same ws (segment_word b.n b.w k) v 0 (lies b.n (omega arith) hk lent))
 
 pub segment_elsewhere : (b : Bench) (ws : List ℕ) (k t v : ℕ) → k < b.w → (i : Item) → InBench b i → i ≢ Data k
@@ -74,7 +75,7 @@ pub segment_elsewhere : (b : Bench) (ws : List ℕ) (k t v : ℕ) → k < b.w �
 segment_elsewhere b ws k t v hk Hdr there ne = refl
 segment_elsewhere b ws k t v hk (Data j) there ne =
     let other : j ≢ k = λ e. ne (ap Data e) in
-    ap₂ (λ (x y : ℕ). record { first = x; second = y }) (get_or-set_other b.tags k j t 0 other)
+    ap₂ Tagged (get_or-set_other b.tags k j t 0 other)
     (place_stays b ws b.n k v hk b.n j there other)
 segment_elsewhere b ws k t v hk (Announced q j) there ne =
     ap word_content (row_stays b ws b.n k v hk q.0 j there.1 (λ e. omega (arith, there.0)))
@@ -85,7 +86,7 @@ pub area_put : (b : Bench) (ws : List ℕ) (r : ℕ) (v : List ℕ) → b.n < r 
 area_put b ws r v hr Hdr there = refl
 area_put b ws r v hr (Data j) there =
     let before = within {b = b.n} {c = r} {k = j} {w = b.w} hr there in
-    ap (λ (x : ℕ). record { first = get_or b.tags j 0; second = x })
+    ap (Tagged (get_or b.tags j 0))
     (sets_out v ws (r * b.w + 0) (segment_word b.n b.w j) 0 (λ x y. omega (arith, before)))
 area_put b ws r v hr (Announced q j) there =
     let before = within {b = q.0} {c = r} {k = j} {w = b.w} (omega (arith, hr, there.0)) there.1 in

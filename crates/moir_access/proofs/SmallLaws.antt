@@ -13,8 +13,8 @@ use Rattle.moir_model.specs.Points.{Point, idle, ll10, ll2, ll4, ll5, ll6, ll7, 
 use Rattle.moir_model.specs.Words.{segment_at}
 use Rattle.moir_steps.specs.Ranges.{Ready}
 use Rattle.words.proofs.WordLaws.{within}
-use Rattle.moir_access.specs.Items.{header_content, segment_content, word_content}
-use Rattle.moir_access.specs.Accesses.{no_content, header_read, segment_read, segment_cas, word_read, access_of}
+use Rattle.moir_access.specs.Items.{header_content, segment_content}
+use Rattle.moir_access.specs.Accesses.{header_read, segment_read, segment_cas, word_read, access_of}
 use Rattle.moir_access.proofs.Lengths.{SmallContent, SmallAccess}
 
 -- the numbers of a header, and of a segment
@@ -37,19 +37,13 @@ pub record SmallNumbers (b : Bench) (q : Process) (ws : List ℕ) : Type 0 where
   pub z : SmallSegment q.z
 
 header_small : {h : Header} → SmallHeader h → SmallContent (header_content h)
-header_small s = record { first = s.tag; second = s.pid }
+header_small s = (s.tag, s.pid)
 
 segment_small : {g : Segment} → SmallSegment g → SmallContent (segment_content g)
-segment_small s = record { first = s.tag; second = s.val }
-
-word_small : {v : ℕ} → v ≤ 4294967295 → SmallContent (word_content v)
-word_small h = record { first = h; second = omega arith }
-
-none_small : SmallContent no_content
-none_small = record { first = omega arith; second = omega arith }
+segment_small s = (s.tag, s.val)
 
 read_small : (line : ℕ) {h : Header} → line ≤ 255 → SmallHeader h → SmallAccess (header_read line h)
-read_small line l s = record { line = l; item = tt; values = header_small s; new = none_small }
+read_small line l s = record { line = l; item = tt; act = header_small s }
 
 -- p is the process that steps
 module _ {b : Bench} {q : Process} {p : ProcessNumber} {ws : List ℕ} (r : Ready b q p ws) (s : SmallNumbers b q ws) where
@@ -67,14 +61,14 @@ module _ {b : Bench} {q : Process} {p : ProcessNumber} {ws : List ℕ} (r : Read
   held = record { tag = s.tags q.word r.standing.word; val = word_at b.n (omega arith) }
 
   seen_small : (line : ℕ) → line ≤ 255 → SmallAccess (segment_read line b q ws)
-  seen_small line l = record { line = l; item = place; values = segment_small held; new = none_small }
+  seen_small line l = record { line = l; item = place; act = segment_small held }
 
   cas_small : SmallAccess (segment_cas b q ws)
-  cas_small = record { line = omega arith; item = place; values = segment_small s.y; new = segment_small s.z }
+  cas_small = record { line = omega arith; item = place; act = (segment_small s.y, segment_small s.z) }
 
   announced_small : (hdr : Header) → hdr.pid.0 < b.n → SmallAccess (word_read hdr b q ws)
   announced_small hdr h =
-      record { line = omega arith; item = (process_small hdr.pid.0 h, place); values = word_small (word_at hdr.pid.0 (omega arith)); new = none_small }
+      record { line = omega arith; item = (process_small hdr.pid.0 h, place); act = word_at hdr.pid.0 (omega arith) }
 
   pub access_small : (y : Point) → SmallAccess (access_of y p b q ws)
   unfolding access_of
@@ -89,10 +83,9 @@ module _ {b : Bench} {q : Process} {p : ProcessNumber} {ws : List ℕ} (r : Read
   access_small sc17 = record {
     line = omega arith;
     item = (process_small p.0 r.process, place);
-    values = word_small (word_at (2 * b.n + 1 + p.0) (omega (arith, r.process)));
-    new = none_small;
+    act = word_at (2 * b.n + 1 + p.0) (omega (arith, r.process));
   }
-  access_small sc19 = record { line = omega arith; item = tt; values = header_small s.oldhdr; new = header_small s.newhdr }
+  access_small sc19 = record { line = omega arith; item = tt; act = (header_small s.oldhdr, header_small s.newhdr) }
   access_small sc2 = seen_small 2 (omega arith)
   access_small sc4 = announced_small q.newhdr r.new_pid_is
   access_small sc5 = cas_small

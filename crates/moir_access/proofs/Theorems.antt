@@ -32,27 +32,32 @@ use Rattle.moir_access.specs.declared.Item.{Item}
 use Rattle.moir_access.specs.declared.Item.TheVariants.{Hdr, Data, Announced}
 use Rattle.moir_access.specs.declared.Act.TheVariants.{Read, Write, Cas}
 use Rattle.moir_access.specs.declared.Content.{Content}
+use Rattle.moir_access.specs.declared.Content.TheVariants.{Tagged, Word}
 use Rattle.moir_access.specs.declared.Access.{Access}
 use Rattle.moir_access.specs.Items.{header_content, segment_content, word_content, item_at, InBench}
-use Rattle.moir_access.specs.Accesses.{no_content, header_read, access_of}
-use Rattle.moir_access.specs.Truth.{TellsTruth, Untouched, cas_reply, Gets, figure_line, Stepped}
+use Rattle.moir_access.specs.Accesses.{header_read, access_of}
+use Rattle.moir_access.specs.Truth.{TellsTruth, Untouched, cas_reply, first_of, Gets, figure_line, Stepped}
 use Rattle.moir_access.proofs.PlaceLaws.{own_put, area_put, word_there, word_elsewhere, segment_there, segment_elsewhere}
 
 -- two pairs of numbers are compared one number after the other
 pair_same : {t v t' v' : ℕ} → eqb t t' && eqb v v' ≡ true
-    → ◌≡◌ {A = Content} (record { first = t; second = v }) (record { first = t'; second = v' })
+    → Tagged t v ≡ Tagged t' v'
 pair_same {t} {v} {t'} {v'} e =
     let first = eqb-true t t' (left (eqb t t') (eqb v v') e) in let second = eqb-true v v' (right (eqb t t') (eqb v v') e) in
-    ap₂ (λ (x y : ℕ). record { first = x; second = y }) first second
+    ap₂ Tagged first second
+
+abbrev second_of : Content → ℕ
+second_of (Tagged tag with) = with
+second_of (Word word) = word
 
 pair_differs : {t v t' v' : ℕ} → eqb t t' && eqb v v' ≡ false
-    → ◌≢◌ {A = Content} (record { first = t; second = v }) (record { first = t'; second = v' })
+    → Tagged t v ≢ Tagged t' v'
 pair_differs {t} {v} {t'} {v'} e z =
-    contra (and_both (eq-eqb t t' (ap (λ (c : Content). c.first) z)) (eq-eqb v v' (ap (λ (c : Content). c.second) z))) e
+    contra (and_both (eq-eqb t t' (ap first_of z)) (eq-eqb v v' (ap second_of z))) e
 
 -- a read leaves every item as it was
 read_tells : (line : ℕ) (i : Item) (b : Bench) (ws : List ℕ) → InBench b i
-    → TellsTruth (record { line = line; item = i; act = Read; values = item_at i b ws; new = no_content }) b ws b ws
+    → TellsTruth (record { line = line; item = i; act = Read (item_at i b ws) }) b ws b ws
 read_tells line i b ws there = record { there = there; item = (refl, refl); others = λ j inside ne. refl }
 
 -- the header is put
@@ -84,7 +89,7 @@ module _ {b : Bench} {q : Process} {p : ProcessNumber} {ws : List ℕ} (s : Step
   g = segment_at b ws q.word
 
   segment_cas_is : (t : Bool) → same_segment g q.y ≡ t
-      → TellsTruth (record { line = 5; item = Data q.word; act = Cas t; values = segment_content q.y; new = segment_content q.z })
+      → TellsTruth (record { line = 5; item = Data q.word; act = Cas (segment_content q.y) (segment_content q.z) t })
       b ws (put_tag b q.word (cond t q.z g).tag) (put_value b ws q.word (cond t q.z g).val)
   segment_cas_is true e = record {
     there = k_in;
@@ -99,7 +104,7 @@ module _ {b : Bench} {q : Process} {p : ProcessNumber} {ws : List ℕ} (s : Step
 
   -- line 19, likewise
   header_cas_is : (t : Bool) → same_header b.header q.oldhdr ≡ t
-      → TellsTruth (record { line = 19; item = Hdr; act = Cas t; values = header_content q.oldhdr; new = header_content q.newhdr })
+      → TellsTruth (record { line = 19; item = Hdr; act = Cas (header_content q.oldhdr) (header_content q.newhdr) t })
       b ws (put_header b (cond t q.newhdr b.header)) ws
   header_cas_is true e = record { there = tt; item = (pair_same e, refl); others = header_elsewhere b q.newhdr ws }
   header_cas_is false e = record { there = tt; item = (pair_differs e, refl); others = header_elsewhere b b.header ws }
@@ -112,7 +117,7 @@ module _ {b : Bench} {q : Process} {p : ProcessNumber} {ws : List ℕ} (s : Step
   new_in = (s.ready.new_pid_is, k_in)
 
   word_written : (v : ℕ)
-      → TellsTruth (record { line = 17; item = Announced p q.word; act = Write; values = word_content v; new = no_content })
+      → TellsTruth (record { line = 17; item = Announced p q.word; act = Write (word_content v) })
       b ws b (set ws (announced_word b.w p q.word) v)
   word_written v = record {
     there = (s.ready.process, k_in);
@@ -166,12 +171,12 @@ module _ (h : Header) (q : Process) where
   old_set =
       by_test (λ (s : LineStep). header_content s.process.oldhdr ≡ header_content h) (eqb h.tag q.keep) (λ e. refl) (λ e. refl)
 
-  cas_told : (do_line19 h q).reply ≡ cas_reply (Cas (same_header h q.oldhdr)) (q.count + 1)
+  cas_told : (do_line19 h q).reply ≡ cas_reply (Cas (header_content q.oldhdr) (header_content q.newhdr) (same_header h q.oldhdr)) (q.count + 1)
   cas_told = by (same_header h q.oldhdr)
     where
       by : (t : Bool)
           → (cond t (gone_on (to sc2 q)) (record { process = rest q; reply = ScAnswered false (q.count + 1) })).reply
-          ≡ cas_reply (Cas t) (q.count + 1)
+          ≡ cas_reply (Cas (header_content q.oldhdr) (header_content q.newhdr) t) (q.count + 1)
       by true = refl
       by false = refl
 

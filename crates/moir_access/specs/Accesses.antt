@@ -11,47 +11,33 @@ use Rattle.moir_model.specs.Words.{announced_word, offer_word, segment_at}
 use Rattle.moir_model.specs.Lines.{same_header, same_segment}
 use Rattle.moir_access.specs.declared.Item.TheVariants.{Hdr, Data, Announced}
 use Rattle.moir_access.specs.declared.Act.TheVariants.{Read, Write, Cas}
-use Rattle.moir_access.specs.declared.Content.{Content}
 use Rattle.moir_access.specs.declared.Access.{Access}
 use Rattle.moir_access.specs.Items.{header_content, segment_content, word_content}
 
--- the new values of an access that is no CAS
-abbrev pub no_content : Content
-no_content = record { first = 0; second = 0 }
-
 -- Lines 7, 10, 13 and 14: the header is read. Line 7: h := addr->hdr.
 abbrev pub header_read : ℕ → Header → Access
-header_read line h = record { line = line; item = Hdr; act = Read; values = header_content h; new = no_content }
+header_read line h = record { line = line; item = Hdr; act = Read (header_content h) }
 
 -- Line 19: CAS(addr, oldhdr, newhdr), done where the header h is the one expected.
 abbrev pub header_cas : Header → Process → Access
 header_cas h q = record {
   line = 19;
   item = Hdr;
-  act = Cas (same_header h q.oldhdr);
-  values = header_content q.oldhdr;
-  new = header_content q.newhdr;
+  act = Cas (header_content q.oldhdr) (header_content q.newhdr) (same_header h q.oldhdr);
 }
 
 -- Lines 2 and 6: segment i is read. Line 2: y := addr->data[i]. Line 6: "a further step reads the segment again
 -- into y" (02, CR 8).
 abbrev pub segment_read : ℕ → Bench → Process → List ℕ → Access
-segment_read line b q ws = record {
-  line = line;
-  item = Data q.word;
-  act = Read;
-  values = segment_content (segment_at b ws q.word);
-  new = no_content;
-}
+segment_read line b q ws =
+    record { line = line; item = Data q.word; act = Read (segment_content (segment_at b ws q.word)) }
 
 -- Line 5: CAS(addr->data[i], y, z), done where the segment is the one expected.
 abbrev pub segment_cas : Bench → Process → List ℕ → Access
 segment_cas b q ws = record {
   line = 5;
   item = Data q.word;
-  act = Cas (same_segment (segment_at b ws q.word) q.y);
-  values = segment_content q.y;
-  new = segment_content q.z;
+  act = Cas (segment_content q.y) (segment_content q.z) (same_segment (segment_at b ws q.word) q.y);
 }
 
 -- Line 4: z := (hdr.tag, A[hdr.pid][i]); hdr is the header that Copy was called with.
@@ -59,9 +45,7 @@ abbrev pub word_read : Header → Bench → Process → List ℕ → Access
 word_read hdr b q ws = record {
   line = 4;
   item = Announced hdr.pid q.word;
-  act = Read;
-  values = word_content (get_or ws (announced_word b.w hdr.pid q.word) 0);
-  new = no_content;
+  act = Read (word_content (get_or ws (announced_word b.w hdr.pid q.word) 0));
 }
 
 -- Line 17: A[p][i] := newval[i], from p's offer area.
@@ -69,9 +53,7 @@ abbrev pub word_write : ProcessNumber → Bench → Process → List ℕ → Acc
 word_write p b q ws = record {
   line = 17;
   item = Announced p q.word;
-  act = Write;
-  values = word_content (get_or ws (offer_word b.n b.w p q.word) 0);
-  new = no_content;
+  act = Write (word_content (get_or ws (offer_word b.n b.w p q.word) 0));
 }
 
 -- what stands for no access: a read of line 0, which there is not

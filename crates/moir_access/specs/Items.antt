@@ -8,17 +8,18 @@ use Rattle.moir_model.specs.Words.{announced_word, segment_at}
 use Rattle.moir_access.specs.declared.Item.{Item}
 use Rattle.moir_access.specs.declared.Item.TheVariants.{Hdr, Data, Announced}
 use Rattle.moir_access.specs.declared.Content.{Content}
+use Rattle.moir_access.specs.declared.Content.TheVariants.{Tagged, Word}
 
 -- docs/TRACE.md: "`hdr`, with a tag and a process; `data[k]`, segment k, with a tag and a word; or `A[q][k]`, word k of
 -- process q's row, with a word"
 abbrev pub header_content : Header → Content
-header_content h = record { first = h.tag; second = h.pid.0 }
+header_content h = Tagged h.tag h.pid.0
 
 abbrev pub segment_content : Segment → Content
-segment_content g = record { first = g.tag; second = g.val }
+segment_content g = Tagged g.tag g.val
 
 abbrev pub word_content : ℕ → Content
-word_content v = record { first = v; second = 0 }
+word_content v = Word v
 
 -- what an item of the bench b and the words ws holds
 abbrev pub item_at : Item → Bench → List ℕ → Content

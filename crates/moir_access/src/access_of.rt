@@ -6,6 +6,7 @@ ghost use Rattle.moir_access.specs.Accesses.{no_access, access_of};
 
 use crate::{Access, on_array, on_header, on_segment};
 use llsc::ProcessNumber;
+use moir_lines::copies::CopyOf;
 use moir_lines::points;
 use moir_model::{Bench, Process};
 
@@ -27,7 +28,7 @@ pub fn access_of(bench: Bench, p: ProcessNumber, process: Process, words: &[u64]
     match line {
         points::WLL_10 => on_header::read(10, header),
         points::WLL_2 => on_segment::read(2, bench, process, words),
-        points::WLL_4 => on_array::read(process.x, bench, process, words),
+        points::WLL_4 => on_array::read(CopyOf::Wll, bench, process, words),
         points::WLL_5 => on_segment::cas(bench, process, words),
         points::WLL_6 => on_segment::read(6, bench, process, words),
         points::WLL_7 => on_header::read(7, header),
@@ -35,7 +36,7 @@ pub fn access_of(bench: Bench, p: ProcessNumber, process: Process, words: &[u64]
         points::SC_17 => on_array::write(p, bench, process, words),
         points::SC_19 => on_header::cas(header, process),
         points::SC_2 => on_segment::read(2, bench, process, words),
-        points::SC_4 => on_array::read(process.newhdr, bench, process, words),
+        points::SC_4 => on_array::read(CopyOf::Sc, bench, process, words),
         points::SC_5 => on_segment::cas(bench, process, words),
         points::SC_6 => on_segment::read(6, bench, process, words),
         points::SC_7 => on_header::read(7, header),

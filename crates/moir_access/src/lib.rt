@@ -21,29 +21,26 @@ pub enum Item {
     Announced(ProcessNumber, usize),
 }
 
-// What a step does to its item; a CAS with the truth whether it was done.
+// What an item holds: the header a tag and a process, a segment a tag and a word, a word of A the word.
+#[derive(Clone, Copy)]
+pub enum Content {
+    Tagged(u64, u64),
+    Word(u64),
+}
+
+// What a step does to its item, with the values that it reads or writes; a CAS with those expected, the new ones, and the
+// truth whether it was done.
 #[derive(Clone, Copy)]
 pub enum Act {
-    Read,
-    Write,
-    Cas(bool),
+    Read(Content),
+    Write(Content),
+    Cas(Content, Content, bool),
 }
 
-// What an item holds: of the header its tag and its process, of a segment its tag and its word, of a word of A the word
-// and 0.
-#[derive(Clone, Copy)]
-pub struct Content {
-    pub first: u64,
-    pub second: u64,
-}
-
-// An access: the line of Figure 6, the item, the act; the values that were read, are written or, in a CAS, expected;
-// and the new values of a CAS, 0 elsewhere.
+// An access: the line of Figure 6, the item, the act.
 #[derive(Clone, Copy)]
 pub struct Access {
     pub line: u8,
     pub item: Item,
     pub act: Act,
-    pub values: Content,
-    pub new: Content,
 }

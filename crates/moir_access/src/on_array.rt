@@ -1,27 +1,27 @@
 // The accesses to a word of A.
 ghost use Rattle.std.specs.Prelude.{◌≡◌, ◌<◌};
+ghost use Rattle.moir_lines.specs.Copies.{copy_header};
 ghost use Rattle.moir_steps.specs.Ranges.{Standing};
 ghost use Rattle.moir_access.specs.Accesses.{word_read, word_write};
 
-use crate::{Access, Act, Item, contents};
+use crate::{Access, Act, Content, Item};
 use llsc::ProcessNumber;
-use moir_model::{Bench, Header, Process};
-use moir_steps::word_places;
+use moir_lines::copies::CopyOf;
+use moir_model::{Bench, Process};
+use moir_steps::word_places::Row;
 
-// Line 4: a word of the row of the process that hdr names.
-pub fn read(hdr: Header, bench: Bench, process: Process, words: &[u64]) -> Access
-    requires { Standing bench process words.now × (hdr.pid.0 < bench.n) }
-    ensures { result ≡ word_read hdr bench process words.now }
+// Line 4: a word of the row of the process that the header of Copy names.
+pub fn read(copy: CopyOf, bench: Bench, process: Process, words: &[u64]) -> Access
+    requires { Standing bench process words.now × ((copy_header copy process).pid.0 < bench.n) }
+    ensures { result ≡ word_read (copy_header copy process) bench process words.now }
 {
-    let q = hdr.pid;
+    let q = copy.header(process).pid;
     let k = process.word;
-    let at = word_places::announced_word(bench.w, q, k);
+    let word = words[Row::Announced(q).word(bench.n, bench.w, k)];
     Access {
         line: 4,
         item: Item::Announced(q, k),
-        act: Act::Read,
-        values: contents::of_word(words[at]),
-        new: contents::none(),
+        act: Act::Read(Content::Word(word)),
     }
 }
 
@@ -31,12 +31,10 @@ pub fn write(p: ProcessNumber, bench: Bench, process: Process, words: &[u64]) ->
     ensures { result ≡ word_write p bench process words.now }
 {
     let k = process.word;
-    let from = word_places::offer_word(bench.n, bench.w, p, k);
+    let word = words[Row::Offered(p).word(bench.n, bench.w, k)];
     Access {
         line: 17,
         item: Item::Announced(p, k),
-        act: Act::Write,
-        values: contents::of_word(words[from]),
-        new: contents::none(),
+        act: Act::Write(Content::Word(word)),
     }
 }

@@ -2,8 +2,7 @@
 ghost use Rattle.std.specs.Prelude.{◌≡◌};
 ghost use Rattle.moir_access.specs.Accesses.{header_read, header_cas};
 
-use crate::{Access, Act, Item, contents};
-use moir_lines::compare;
+use crate::{Access, Act, Content, Item};
 use moir_model::{Header, Process};
 
 // Lines 7, 10, 13 and 14.
@@ -13,9 +12,7 @@ pub fn read(line: u8, header: Header) -> Access
     Access {
         line,
         item: Item::Hdr,
-        act: Act::Read,
-        values: contents::of_header(header),
-        new: contents::none(),
+        act: Act::Read(Content::from(header)),
     }
 }
 
@@ -23,12 +20,11 @@ pub fn read(line: u8, header: Header) -> Access
 pub fn cas(header: Header, process: Process) -> Access
     ensures { result ≡ header_cas header process }
 {
-    let done = compare::same_header(header, process.oldhdr);
+    let expected = Content::from(process.oldhdr);
+    let new = Content::from(process.newhdr);
     Access {
         line: 19,
         item: Item::Hdr,
-        act: Act::Cas(done),
-        values: contents::of_header(process.oldhdr),
-        new: contents::of_header(process.newhdr),
+        act: Act::Cas(expected, new, header == process.oldhdr),
     }
 }

@@ -1,6 +1,6 @@
 // The parts of what is shown, each with the space before it.
 ghost use Rattle.listing.specs.Writing.{Room, Wrote};
-ghost use Rattle.moir_access.specs.TraceParts.{item_text, pair_text, values_text, cas_text, act_text};
+ghost use Rattle.moir_access.specs.TraceParts.{item_text, values_text, act_text};
 
 use crate::{Act, Content, Item};
 
@@ -23,55 +23,41 @@ pub fn item(list: &mut [u8], at: usize, item: Item) -> usize
     }
 }
 
-#[tactic(auto, unfolding(crate::specs::TraceParts::pair_text))]
-fn pair(list: &mut [u8], at: usize, v: Content) -> usize
-    requires { Room list.old at (pair_text v) }
-    ensures { Wrote list.old at (pair_text v) list.new result }
-{
-    let a = trace_parts::spaced(list, at, v.first);
-    trace_parts::spaced(list, a, v.second)
-}
-
-// The values that an item of this kind has.
+// The values: a tag and what it stands with, or a word alone.
 #[tactic(auto, unfolding(crate::specs::TraceParts::values_text))]
-fn values(list: &mut [u8], at: usize, item: Item, v: Content) -> usize
-    requires { Room list.old at (values_text item v) }
-    ensures { Wrote list.old at (values_text item v) list.new result }
+fn values(list: &mut [u8], at: usize, v: Content) -> usize
+    requires { Room list.old at (values_text v) }
+    ensures { Wrote list.old at (values_text v) list.new result }
 {
-    match item {
-        Item::Hdr => pair(list, at, v),
-        Item::Data(_) => pair(list, at, v),
-        Item::Announced(_, _) => trace_parts::spaced(list, at, v.first),
+    match v {
+        Content::Tagged(tag, with) => {
+            let a = trace_parts::spaced(list, at, tag);
+            trace_parts::spaced(list, a, with)
+        }
+        Content::Word(word) => trace_parts::spaced(list, at, word),
     }
-}
-
-// A CAS: the values expected, the new ones, and whether it was done.
-#[tactic(auto, unfolding(crate::specs::TraceParts::cas_text))]
-fn cas(list: &mut [u8], at: usize, item: Item, v: Content, u: Content, t: bool) -> usize
-    requires { Room list.old at (cas_text item v u t) }
-    ensures { Wrote list.old at (cas_text item v u t) list.new result }
-{
-    let a = listing::plain(list, at, b" CAS");
-    let b = values(list, a, item, v);
-    let c = values(list, b, item, u);
-    trace_parts::truth(list, c, t)
 }
 
 // The act, with the values that it names.
 #[tactic(auto, unfolding(crate::specs::TraceParts::act_text))]
-pub fn act(list: &mut [u8], at: usize, act: Act, item: Item, v: Content, u: Content) -> usize
-    requires { Room list.old at (act_text act item v u) }
-    ensures { Wrote list.old at (act_text act item v u) list.new result }
+pub fn act(list: &mut [u8], at: usize, act: Act) -> usize
+    requires { Room list.old at (act_text act) }
+    ensures { Wrote list.old at (act_text act) list.new result }
 {
     match act {
-        Act::Read => {
+        Act::Read(v) => {
             let a = listing::plain(list, at, b" read");
-            values(list, a, item, v)
+            values(list, a, v)
         }
-        Act::Write => {
+        Act::Write(v) => {
             let a = listing::plain(list, at, b" write");
-            values(list, a, item, v)
+            values(list, a, v)
         }
-        Act::Cas(t) => cas(list, at, item, v, u, t),
+        Act::Cas(v, u, t) => {
+            let a = listing::plain(list, at, b" CAS");
+            let b = values(list, a, v);
+            let c = values(list, b, u);
+            trace_parts::truth(list, c, t)
+        }
     }
 }

@@ -9,11 +9,7 @@ pub fn write_access(list: &mut [u8], at: usize, access: Access) -> usize
     requires { Room list.old at (shown access) }
     ensures { Wrote list.old at (shown access) list.new result }
 {
-    let item = access.item;
-    let act = access.act;
-    let values = access.values;
-    let new = access.new;
     let a = trace_parts::spaced(list, at, access.line as u64);
-    let b = texts::item(list, a, item);
-    texts::act(list, b, act, item, values, new)
+    let b = texts::item(list, a, access.item);
+    texts::act(list, b, access.act)
 }
