@@ -1,11 +1,12 @@
 -- Laws of writes: one after another, and the room that is left.
 use Prim.Native.Nat.{ℕ, suc, ◌+◌}
 use mathlib.Core.Path.{◌≡◌, refl, sym, ap, subst, ◌∙◌}
-use mathlib.Core.List.{List, [], ◌∷◌, ◌++◌}
+use mathlib.Core.List.{List, [], ◌∷◌, ◌++◌, append_assoc}
 use native.Mathlib.Omega.{arith}
 use native.Mathlib.Nat.{add-zero, add-suc, suc-add, min-eq_left}
 use lib.ListN.{length, length-append, length-take, set, take, drop}
-use lib.Seq.{sets, length-sets, sets-eq, take_at}
+use lib.Seq.{sets, length-sets, sets-eq, take_at, drop-drop}
+use borrow.Rule.Slice.PartMut.{put_mid}
 use Rattle.listing.specs.Writing.{Room, Wrote}
 
 sets_append : (l : List ℕ) (i : ℕ) (a b : List ℕ) → sets (sets l i a) (i + length a) b ≡ sets l i (a ++ b)
@@ -21,6 +22,15 @@ none l i = record { place = omega arith; list = refl }
 
 pub same : {l l' bs bs' : List ℕ} {i k : ℕ} → bs' ≡ bs → Wrote l i bs l' k → Wrote l i bs' l' k
 same {l} {l' = l'} {i = i} {k = k} e w = subst (λ (x : List ℕ). Wrote l i x l' k) (sym e) w
+
+-- bytes copied into a part of as many
+pub copied : {l bs ys : List ℕ} {i k : ℕ} → Room l i bs → k ≡ length bs → ys ≡ bs → Wrote l i bs (put_mid i k l ys) (i + length bs)
+copied {l} {bs} {i = i} {k = k} r e f = record {
+  place = refl;
+  list = ap (λ (y : List ℕ). take i l ++ (y ++ drop k (drop i l))) f
+      ∙ ap (λ (y : List ℕ). take i l ++ (bs ++ y)) (drop-drop k i l ∙ ap (λ (j : ℕ). drop (i + j) l) e)
+      ∙ sym (append_assoc (take i l) bs (drop (i + length bs) l)) ∙ sym (sets-eq bs l i r.fits);
+}
 
 -- the length stays
 pub kept : {l l' bs : List ℕ} {i k : ℕ} → Wrote l i bs l' k → length l' ≡ length l
@@ -42,3 +52,6 @@ room_first a b r = record { fits = omega (arith, r.fits, length-append a b) }
 
 pub room_then : {l l' : List ℕ} {i j : ℕ} {a : List ℕ} (b : List ℕ) → Room l i (a ++ b) → Wrote l i a l' j → Room l' j b
 room_then {a = a} b r w = record { fits = omega (arith, r.fits, length-append a b, w.place, kept w) }
+
+-- what the room of a write asks of its parts
+pub ruleset writing = (room_first, room_then)

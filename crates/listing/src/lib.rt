@@ -25,16 +25,13 @@ pub fn plain(list: &mut [u8], at: usize, bytes: &[u8]) -> usize
     requires { Room list.old at bytes.now }
     ensures { Wrote list.old at bytes.now list.new result }
 {
-    let mut next = at;
-    let mut i = 0;
-    while i < bytes.len() {
-        next = put(list, next, bytes[i]);
-        i += 1;
-    }
+    let next = at + bytes.len();
+    list[at..next].copy_from_slice(bytes);
     next
 }
 
 // A number in decimal: one division for each digit, the last digit first, and then the digits copied.
+// Kept: 02, CR 6 asks for one division for each digit; crate itoa divides otherwise.
 pub fn number(list: &mut [u8], at: usize, n: u64) -> usize
     requires { Room list.old at (decimal n) }
     ensures { Wrote list.old at (decimal n) list.new result }
@@ -60,17 +57,17 @@ pub fn words(list: &mut [u8], at: usize, ws: &[u64], from: usize, w: usize) -> u
     requires { (from + w ≤ length ws.now) × (Room list.old at (words_of (take w (drop from ws.now)))) }
     ensures { Wrote list.old at (words_of (take w (drop from ws.now))) list.new result }
 {
+    let said = &ws[from..from + w];
     let mut next = at;
-    let mut i = 0;
-    while i < w {
+    for word in said {
         next = put(list, next, b' ');
-        next = number(list, next, ws[from + i]);
-        i += 1;
+        next = number(list, next, *word);
     }
     next
 }
 
 // The part of an answer line that all kinds share: process, letter and count.
+#[tactic(auto, unfolding(crate::specs::Lines::answer_head), using(crate::proofs::WritingLaws::writing))]
 pub fn answer_head(list: &mut [u8], at: usize, process: u64, letter: u8, count: u64) -> usize
     requires { Room list.old at (answer_head process letter count) }
     ensures { Wrote list.old at (answer_head process letter count) list.new result }
@@ -83,6 +80,7 @@ pub fn answer_head(list: &mut [u8], at: usize, process: u64, letter: u8, count: 
 }
 
 // The line of an LL's answer, whose w words stand in `ws` from a place on.
+#[tactic(auto, unfolding(crate::specs::Lines::ll_line), using(crate::proofs::WritingLaws::writing))]
 pub fn ll_line(
     list: &mut [u8],
     at: usize,
@@ -101,6 +99,7 @@ pub fn ll_line(
 }
 
 // The line of an SC's or a VL's answer, with the letter of its kind.
+#[tactic(auto, unfolding(crate::specs::Lines::truth_line), using(crate::proofs::WritingLaws::writing))]
 pub fn truth_line(
     list: &mut [u8],
     at: usize,
@@ -113,13 +112,11 @@ pub fn truth_line(
     ensures { Wrote list.old at (truth_line process letter count answer) list.new result }
 {
     let a = answer_head(list, at, process, letter, count);
-    if answer {
-        return plain(list, a, b" 1\n");
-    }
-    plain(list, a, b" 0\n")
+    plain(list, a, if answer { b" 1\n" } else { b" 0\n" })
 }
 
 // The last line of a run that met no refusal.
+#[tactic(auto, unfolding(crate::specs::Lines::end_line), using(crate::proofs::WritingLaws::writing))]
 pub fn end_line(list: &mut [u8], at: usize, entries: u64) -> usize
     requires { Room list.old at (end_line entries) }
     ensures { Wrote list.old at (end_line entries) list.new result }
@@ -130,6 +127,7 @@ pub fn end_line(list: &mut [u8], at: usize, entries: u64) -> usize
 }
 
 // The last line of a refused run.
+#[tactic(auto, unfolding(crate::specs::Lines::refused_line), using(crate::proofs::WritingLaws::writing))]
 pub fn refused_line(list: &mut [u8], at: usize, refusal: u64, entries: u64) -> usize
     requires { Room list.old at (refused_line refusal entries) }
     ensures { Wrote list.old at (refused_line refusal entries) list.new result }

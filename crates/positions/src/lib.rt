@@ -2,7 +2,7 @@
 
 #![tactic(auto)]
 
-ghost use Rattle.std.specs.Prelude.{◌≡◌, cond, ◌+◌, ◌-◌, ◌<◌, eqb};
+ghost use Rattle.std.specs.Prelude.{◌≡◌, ◌<◌};
 ghost use Rattle.positions.specs.Positions.{on_byte, seen_in, is_digit, is_gap, Small};
 ghost use Rattle.positions.specs.Positions.{counted as Positions·counted};
 ghost use Rattle.positions.specs.Brackets.{opens_here, closed_with, unclosed_in};
@@ -45,10 +45,8 @@ pub fn look(before: &[u8]) -> Seen
         mark: 0,
         solid: 0,
     };
-    let mut i = 0;
-    while i < before.len() {
-        s = on_byte(s, before[i]);
-        i += 1;
+    for b in before {
+        s = on_byte(s, *b);
     }
     s
 }
@@ -61,73 +59,43 @@ pub fn on_byte(s: Seen, b: u8) -> Seen
 {
     Seen {
         feeds: counted(s.feeds, b == b'\n'),
-        since: since(s.since, b),
+        since: if b == b'\n' { 0 } else { s.since + 1 },
         spaces: counted(s.spaces, b == b' '),
         last: b,
         earlier: s.last,
-        mark: unless(is_digit(b), s.mark, b),
-        solid: unless(is_gap(b), s.solid, b),
+        mark: if is_digit(b) { s.mark } else { b },
+        solid: if is_gap(b) { s.solid } else { b },
     }
 }
 
 pub fn is_digit(b: u8) -> bool
     ensures { result ≡ is_digit b }
 {
-    if b < b'0' {
-        return false;
-    }
-    b <= b'9'
+    b.is_ascii_digit()
 }
 
 pub fn is_gap(b: u8) -> bool
     ensures { result ≡ is_gap b }
 {
-    if b == b' ' {
-        return true;
-    }
-    b == b'\n'
+    matches!(b, b' ' | b'\n')
 }
 
 fn counted(n: usize, more: bool) -> usize
     requires { n < 18446744073709551615 }
     ensures { result ≡ Positions·counted n more }
 {
-    if more {
-        return n + 1;
-    }
-    n
-}
-
-fn since(n: usize, b: u8) -> usize
-    requires { n < 18446744073709551615 }
-    ensures { result ≡ cond (eqb b 10) 0 (n + 1) }
-{
-    if b == b'\n' {
-        return 0;
-    }
-    n + 1
-}
-
-fn unless(kept: bool, old: u8, new: u8) -> u8
-    ensures { result ≡ cond kept old new }
-{
-    if kept {
-        return old;
-    }
-    new
+    if more { n + 1 } else { n }
 }
 
 // The place of the last `(` that no `)` closes; the end of the text where there is none.
 pub fn unclosed(text: &[u8]) -> usize
     ensures { result ≡ unclosed_in text.now }
 {
-    let mut left = text.len();
     let mut closed = 0;
-    while left > 0 {
-        left -= 1;
-        let b = text[left];
+    for i in (0..text.len()).rev() {
+        let b = text[i];
         if opens_here(b, closed) {
-            return left;
+            return i;
         }
         closed = closed_with(b, closed);
     }
@@ -137,10 +105,7 @@ pub fn unclosed(text: &[u8]) -> usize
 fn opens_here(b: u8, closed: usize) -> bool
     ensures { result ≡ opens_here b closed }
 {
-    if b == b'(' {
-        return closed == 0;
-    }
-    false
+    b == b'(' && closed == 0
 }
 
 // How many `(` are closed by what follows.
@@ -148,20 +113,9 @@ fn closed_with(b: u8, closed: usize) -> usize
     requires { closed < 18446744073709551615 }
     ensures { result ≡ closed_with b closed }
 {
-    if b == b')' {
-        return closed + 1;
+    match b {
+        b')' => closed + 1,
+        b'(' => closed.saturating_sub(1),
+        _ => closed,
     }
-    if b == b'(' {
-        return before(closed);
-    }
-    closed
-}
-
-fn before(n: usize) -> usize
-    ensures { result ≡ n - 1 }
-{
-    if n == 0 {
-        return 0;
-    }
-    n - 1
 }

@@ -3,3 +3,4 @@ pub mod TextRun
 pub mod StopPlaces
 pub mod RunCommands
 pub mod KeptEntries
+pub mod Parts

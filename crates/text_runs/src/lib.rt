@@ -1,3 +1,9 @@
-// What a text run is, over any machine: no code.
+// What a text run is, over any machine, and the parts of one that every bench has. Every function is inner.
 
 #![tactic(auto)]
+
+pub mod entries;
+pub mod last_lines;
+pub mod limits;
+pub mod lists;
+pub mod reports;

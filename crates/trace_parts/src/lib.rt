@@ -5,6 +5,7 @@
 ghost use Rattle.listing.specs.Writing.{Room, Wrote};
 ghost use Rattle.trace_parts.specs.TraceParts.{spaced, bracketed, head_text, truth_text, end_text, brought_text, start_line};
 
+#[tactic(auto, unfolding(crate::specs::TraceParts::spaced), using(listing::proofs::WritingLaws::writing))]
 pub fn spaced(list: &mut [u8], at: usize, n: u64) -> usize
     requires { Room list.old at (spaced n) }
     ensures { Wrote list.old at (spaced n) list.new result }
@@ -14,6 +15,7 @@ pub fn spaced(list: &mut [u8], at: usize, n: u64) -> usize
 }
 
 // A number in brackets.
+#[tactic(auto, unfolding(crate::specs::TraceParts::bracketed), using(listing::proofs::WritingLaws::writing))]
 pub fn bracketed(list: &mut [u8], at: usize, n: u64) -> usize
     requires { Room list.old at (bracketed n) }
     ensures { Wrote list.old at (bracketed n) list.new result }
@@ -24,6 +26,7 @@ pub fn bracketed(list: &mut [u8], at: usize, n: u64) -> usize
 }
 
 // The entry number and the process.
+#[tactic(auto, unfolding(crate::specs::TraceParts::head_text), using(listing::proofs::WritingLaws::writing))]
 pub fn head(list: &mut [u8], at: usize, entry: u64, p: u64) -> usize
     requires { Room list.old at (head_text entry p) }
     ensures { Wrote list.old at (head_text entry p) list.new result }
@@ -32,39 +35,46 @@ pub fn head(list: &mut [u8], at: usize, entry: u64, p: u64) -> usize
     spaced(list, a, p)
 }
 
+#[tactic(auto, unfolding(crate::specs::TraceParts::truth_text), using(listing::proofs::WritingLaws::writing))]
 pub fn truth(list: &mut [u8], at: usize, t: bool) -> usize
     requires { Room list.old at (truth_text t) }
     ensures { Wrote list.old at (truth_text t) list.new result }
 {
     if t {
-        return listing::plain(list, at, b" true");
+        listing::plain(list, at, b" true")
+    } else {
+        listing::plain(list, at, b" false")
     }
-    listing::plain(list, at, b" false")
 }
 
 // Where the step answers, the listing's line follows on the same line.
+#[tactic(auto, unfolding(crate::specs::TraceParts::end_text), using(listing::proofs::WritingLaws::writing))]
 pub fn end(list: &mut [u8], at: usize, answered: bool) -> usize
     requires { Room list.old at (end_text answered) }
     ensures { Wrote list.old at (end_text answered) list.new result }
 {
     if answered {
-        return listing::plain(list, at, b" answers ");
+        listing::plain(list, at, b" answers ")
+    } else {
+        listing::put(list, at, b'\n')
     }
-    listing::put(list, at, b'\n')
 }
 
 // The value of a start: only an SC's.
+#[tactic(auto, unfolding(crate::specs::TraceParts::brought_text), using(listing::proofs::WritingLaws::writing))]
 pub fn brought(list: &mut [u8], at: usize, letter: u8, value: u64) -> usize
     requires { Room list.old at (brought_text letter value) }
     ensures { Wrote list.old at (brought_text letter value) list.new result }
 {
     if letter == b'S' {
-        return spaced(list, at, value);
+        spaced(list, at, value)
+    } else {
+        at
     }
-    at
 }
 
 // The line of a start, with the letter of its call; the value is an SC's.
+#[tactic(auto, unfolding(crate::specs::TraceParts::start_line), using(listing::proofs::WritingLaws::writing))]
 pub fn start_line(list: &mut [u8], at: usize, entry: u64, p: u64, letter: u8, value: u64) -> usize
     requires { Room list.old at (start_line entry p letter value) }
     ensures { Wrote list.old at (start_line entry p letter value) list.new result }

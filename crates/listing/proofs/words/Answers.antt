@@ -1,32 +1,31 @@
--- `listing::words`: the loop's invariant is that the words passed are written.
-use Rattle.listing.specs.Lines.{words_of}
-use mathlib.Core.Path.{sym}
+-- `listing::words`: the words passed are written.
+use Prim.Native.Nat.{ℕ, ◌+◌, ◌-◌}
+use mathlib.Core.Path.{◌≡◌, sym, ap}
 use native.Mathlib.Omega.{arith}
-use Rattle.listing.proofs.WritingLaws.{then, same, none, kept, room_first, room_then}
-use Rattle.listing.proofs.LineLaws.{all_words, word_more, word_room}
+use lib.ListN.{take, drop}
+use Rattle.listing.specs.Lines.{words_of}
+use Rattle.listing.proofs.WritingLaws.{then, same, none, room_same, room_first, room_then}
+use Rattle.listing.proofs.LineLaws.{word_more, word_room}
 use Rattle.listing.proofs.words.Goals as goal
 
-pub loop-i-init : goal.loop-i-init
+pub loop-word-init : goal.loop-word-init
 unfolding words_of
-loop-i-init c = record { wrote = none _ _; within = omega arith }
+loop-word-init c = none _ _
 
 pub put-next-requires : goal.put-next-requires
 put-next-requires c =
-    room_first _ _
-    (word_room _ _ _ c.requires.0 _ c.loop-i-test.true c.requires.1 c.loop-i.invariant.wrote)
+    let a = c.args in
+    let all : a.from + a.w - a.from ≡ a.w = omega arith in
+    let room = room_same (ap (λ (k : ℕ). words_of (take k (drop a.from a.ws.now))) (sym all)) c.requires.1 in
+    room_first _ _ (word_room _ _ (omega arith) room c.loop-word.invariant)
 
 pub number-next-requires : goal.number-next-requires
 number-next-requires c =
-    room_first _ _
-    (room_then _ (word_room _ _ _ c.requires.0 _ c.loop-i-test.true c.requires.1 c.loop-i.invariant.wrote) c.put-next.ensures)
+    let a = c.args in
+    let all : a.from + a.w - a.from ≡ a.w = omega arith in
+    let room = room_same (ap (λ (k : ℕ). words_of (take k (drop a.from a.ws.now))) (sym all)) c.requires.1 in
+    room_first _ _ (room_then _ (word_room _ _ (omega arith) room c.loop-word.invariant) c.put-next.ensures)
 
-pub loop-i-preserved : goal.loop-i-preserved
-loop-i-preserved c =
-    record
-    { wrote = same (word_more _ _ _ c.requires.0 _ c.loop-i-test.true) (then c.loop-i.invariant.wrote (then c.put-next.ensures c.number-next.ensures)); within = omega (arith, c.loop-i-test.true) }
-
-pub shape_of-list : goal.shape_of-list
-shape_of-list c = kept c.loop-i.invariant.wrote
-
-pub returns : goal.returns
-returns c = same (sym (all_words _ _ _ c.requires.0 _ c.loop-i-test.false)) c.loop-i.invariant.wrote
+pub loop-word-preserved : goal.loop-word-preserved
+loop-word-preserved c =
+    same (word_more _ _ (omega arith)) (then c.loop-word.invariant (then c.put-next.ensures c.number-next.ensures))

@@ -1,4 +1,4 @@
--- `positions::unclosed`: the loop's invariant is that what is left to look at leads to the same.
+-- `positions::unclosed`: what is left to look at leads to the same.
 use Prim.Native.Nat.{ℕ, ◌+◌, ◌≤◌}
 use mathlib.Core.Path.{◌≡◌}
 use mathlib.Core.List.{List}
@@ -10,8 +10,5 @@ pub record Inv (text : List ℕ) (left closed : ℕ) : Type 0 where
   pub within : closed + left ≤ length text
   pub same : unclosed_below text left closed ≡ unclosed_in text
 
-abbrev pub invariant-loop-left : goal.invariant-loop-left
-invariant-loop-left l = Inv l.text l.left l.closed
-
-abbrev pub decreases-loop-left : goal.decreases-loop-left
-decreases-loop-left l = l.left
+abbrev pub invariant-loop-i : goal.invariant-loop-i
+invariant-loop-i l = Inv l.text l.i l.closed
