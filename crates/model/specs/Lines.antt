@@ -1,18 +1,17 @@
 -- The lines of Figure 2. Each is a function of the one shared place that it touches and of its own process, and of
 -- nothing else.
 -- p is the process that steps, q its record.
-use Rattle.std.specs.Prelude.{ℕ, ◌+◌, Bool, true, false, cond, eqb, ltb}
+use Rattle.std.specs.Prelude.{ℕ, ◌+◌, cond, eqb, ltb}
 use Rattle.llsc.specs.declared.ProcessNumber.{ProcessNumber}
 use Rattle.model.specs.declared.Process.{Process}
-use Rattle.model.specs.declared.Reply.{Reply}
 use Rattle.model.specs.declared.Reply.TheVariants.{Accepted, LlAnswered, ScAnswered, VlAnswered}
 use Rattle.model.specs.declared.LineStep.{LineStep}
 use Rattle.model.specs.declared.WordStep.{WordStep}
 use Rattle.model.specs.Places.{XPlace, BankPlace, HelpPlace, linked, ll_place, sc_place, write_place}
 use Rattle.model.specs.Tables.{next}
-use Rattle.model.specs.Points.{Point, line_number, line2, line3, line4, line5, line6, line7, line7copy, line8}
+use Rattle.model.specs.Points.{Point, line_number, line2, line5, line7copy, line8}
 use Rattle.model.specs.Points.{line9, line10, line11, line12valid, line13, line14, line14valid, line15, line17}
-use Rattle.model.specs.Points.{line18, line19}
+use Rattle.model.specs.Points.{line19}
 use Rattle.model.specs.Records.{to_line, to, rest, next_word, first_word, marked, with_x, with_mybuf, with_b, with_c, with_d, with_e}
 
 -- Line 1, on Help[p]: Help[p] = (1, mybuf).

@@ -1,5 +1,5 @@
 -- The tables of the bench record, each reached by its own kind of number, and the arithmetic of sequence numbers.
-use Rattle.std.specs.Prelude.{ℕ, ◌+◌, ◌*◌, ◌%◌, get_or, set}
+use Rattle.std.specs.Prelude.{ℕ, ◌+◌, ◌%◌, get_or, set}
 use Rattle.model.specs.Sizes.{sequence_numbers}
 use Rattle.model.specs.declared.SequenceNumber.{SequenceNumber}
 use Rattle.llsc.specs.declared.ProcessNumber.{ProcessNumber}

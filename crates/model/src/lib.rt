@@ -5,6 +5,7 @@
 ghost use Rattle.std.specs.Prelude.{◌≡◌};
 ghost use Rattle.model.specs.SetUp.{x_at_set_up, bank_at_set_up, help_at_set_up, process_at_set_up, empty_bench};
 ghost use Rattle.model.specs.Replies.{number_of};
+ghost use Rattle.model.specs.declared.Reply.TheVariants.{Accepted};
 
 pub mod sizes;
 
@@ -87,6 +88,19 @@ pub struct LineStep<P> {
     pub place: P,
     pub process: Process,
     pub reply: Reply,
+}
+
+impl<P> LineStep<P> {
+    // What a line that does not answer makes.
+    pub fn accepted(place: P, process: Process) -> LineStep<P>
+        ensures { result ≡ record { place = place; process = process; reply = Accepted } }
+    {
+        LineStep {
+            place,
+            process,
+            reply: Reply::Accepted,
+        }
+    }
 }
 
 // What a line that moves a word makes of its own process, with its reply.
