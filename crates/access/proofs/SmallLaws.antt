@@ -14,12 +14,10 @@ use Rattle.model.specs.declared.SequenceNumber.{SequenceNumber}
 use Rattle.llsc.specs.declared.ProcessNumber.{ProcessNumber}
 use Rattle.model.specs.declared.XContent.{XContent}
 use Rattle.model.specs.declared.HelpContent.{HelpContent}
-use Rattle.model.specs.declared.BankPlace.{BankPlace}
-use Rattle.model.specs.declared.HelpPlace.{HelpPlace}
 use Rattle.model.specs.declared.Bench.{Bench}
 use Rattle.model.specs.declared.Process.{Process}
 use Rattle.model.specs.Records.{no_process, record_at}
-use Rattle.model.specs.Places.{linked}
+use Rattle.model.specs.Places.{BankPlace, HelpPlace, linked}
 use Rattle.model.specs.Tables.{no_bank, no_help, bank_at, help_at, next, helped}
 use Rattle.model.specs.Sizes.{halves}
 use Rattle.model.specs.Words.{buffer_word, word_of, half}

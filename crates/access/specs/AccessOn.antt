@@ -7,10 +7,8 @@ use Rattle.model.specs.declared.SequenceNumber.{SequenceNumber}
 use Rattle.llsc.specs.declared.ProcessNumber.{ProcessNumber}
 use Rattle.model.specs.declared.XContent.{XContent}
 use Rattle.model.specs.declared.HelpContent.{HelpContent}
-use Rattle.model.specs.declared.XPlace.{XPlace}
-use Rattle.model.specs.declared.HelpPlace.{HelpPlace}
 use Rattle.model.specs.declared.Process.{Process}
-use Rattle.model.specs.Places.{linked}
+use Rattle.model.specs.Places.{XPlace, HelpPlace, linked}
 use Rattle.model.specs.Tables.{next, helped}
 use Rattle.model.specs.Words.{buffer_word, return_word, offer_word, word_of, half}
 use Rattle.model.specs.Points.{Point, idle, line1, line2, line3, line4, line5, line6, line7, line7copy, line8, line9, line10, line11}

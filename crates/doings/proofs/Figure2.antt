@@ -11,9 +11,6 @@ use lib.Seq.{sets, get_or-take, get_or-drop}
 use Rattle.model.specs.declared.BufferNumber.{BufferNumber}
 use Rattle.model.specs.declared.SequenceNumber.{SequenceNumber}
 use Rattle.llsc.specs.declared.ProcessNumber.{ProcessNumber}
-use Rattle.model.specs.declared.XPlace.{XPlace}
-use Rattle.model.specs.declared.BankPlace.{BankPlace}
-use Rattle.model.specs.declared.HelpPlace.{HelpPlace}
 use Rattle.model.specs.declared.Bench.{Bench}
 use Rattle.model.specs.declared.Process.{Process}
 use Rattle.llsc.specs.declared.Order.{Order}
@@ -22,7 +19,7 @@ use Rattle.model.specs.declared.Reply.{Reply}
 use Rattle.model.specs.declared.Reply.TheVariants.{Accepted}
 use Rattle.model.specs.declared.WordStep.{WordStep}
 use Rattle.model.specs.declared.Moved.{Moved}
-use Rattle.model.specs.Places.{linked, sc_x, sc_bank, sc_help}
+use Rattle.model.specs.Places.{XPlace, BankPlace, HelpPlace, linked, sc_place}
 use Rattle.model.specs.Tables.{bank_at, help_at, put_x, put_bank, put_help, next, helped}
 use Rattle.model.specs.Sizes.{buffers, sequence_numbers, halves}
 use Rattle.model.specs.Words.{Layout, buffer_in, return_in, offer_in, word_of, half, with_half, copied_half}
@@ -231,13 +228,13 @@ module _ {l : Layout} {rows : ℕ} {b : Bench} {q : Process} {p : ProcessNumber}
           ap (λ (x : Own Process). put_areas l w p x new) (sym kept) ∙ areas_back z.laid w p g.process new (omega (arith, z.words)) q
 
   -- an SC on each kind
-  sc_x_is : (v u : ℕ) → sc_x b.x p (record { buf = record { 0 = v }; seq = record { 0 = u } }) ≡ x_of (acted (sc v u) p (item_in l X b ws))
+  sc_x_is : (v u : ℕ) → sc_place b.x p (record { buf = record { 0 = v }; seq = record { 0 = u } }) ≡ x_of (acted (sc v u) p (item_in l X b ws))
   sc_x_is v u = sym (choice x_of (linked b.x.links p) (cleared v u) (item_in l X b ws))
 
-  sc_bank_is : (j : SequenceNumber) (v : BufferNumber) → sc_bank (bank_at b j) p v ≡ bank_of (acted (sc v.0 0) p (item_in l (Bank j) b ws))
+  sc_bank_is : (j : SequenceNumber) (v : BufferNumber) → sc_place (bank_at b j) p v ≡ bank_of (acted (sc v.0 0) p (item_in l (Bank j) b ws))
   sc_bank_is j v = sym (choice bank_of (linked (bank_at b j).links p) (cleared v.0 0) (item_in l (Bank j) b ws))
 
-  sc_help_is : (j : ProcessNumber) (v u : ℕ) → sc_help (help_at b j) p (record { flag = v; buf = record { 0 = u } }) ≡ help_of (acted (sc v u) p (item_in l (Help j) b ws))
+  sc_help_is : (j : ProcessNumber) (v u : ℕ) → sc_place (help_at b j) p (record { flag = v; buf = record { 0 = u } }) ≡ help_of (acted (sc v u) p (item_in l (Help j) b ws))
   sc_help_is j v u = sym (choice help_of (linked (help_at b j).links p) (cleared v u) (item_in l (Help j) b ws))
 
   one_number : (t : Bool) (j : SequenceNumber) (v : ℕ) → (cond t (cleared v 0) (item_in l (Bank j) b ws)).second ≡ 0

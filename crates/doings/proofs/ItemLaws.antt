@@ -8,8 +8,7 @@ use native.Mathlib.Omega.{arith}
 use lib.ListN.{length, length-set}
 use lib.Seq.{set-set, set_comm, get_or-set_same, get_or-set_other}
 use Rattle.model.specs.declared.BufferNumber.{BufferNumber}
-use Rattle.model.specs.declared.BankPlace.{BankPlace}
-use Rattle.model.specs.declared.HelpPlace.{HelpPlace}
+use Rattle.model.specs.Places.{BankPlace, HelpPlace}
 use Rattle.model.specs.declared.Bench.{Bench}
 use Rattle.model.specs.Tables.{no_bank, no_help}
 use Rattle.model.specs.Sizes.{buffers, sequence_numbers, halves}

@@ -1,11 +1,8 @@
 -- The shared items of a record (CR 13): "X, a Bank place, a Help place, each of these with its links, or a half word of
 -- a buffer". The numbers that name one, what it holds, and memory in which it holds something else.
 use Rattle.std.specs.Prelude.{ℕ, ◌*◌, ◌%◌, ◌<◌, List, cond, eqb, get_or, set}
-use Rattle.model.specs.declared.XPlace.{XPlace}
-use Rattle.model.specs.declared.BankPlace.{BankPlace}
-use Rattle.model.specs.declared.HelpPlace.{HelpPlace}
 use Rattle.model.specs.declared.Bench.{Bench}
-use Rattle.model.specs.Places.{no_links}
+use Rattle.model.specs.Places.{XPlace, BankPlace, HelpPlace, no_links}
 use Rattle.model.specs.Tables.{bank_at, help_at, put_x, put_bank, put_help}
 use Rattle.model.specs.Sizes.{buffers, halves}
 use Rattle.model.specs.Words.{Layout, one_record, buffer_in, word_of, half_values, half, with_half}

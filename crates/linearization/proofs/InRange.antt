@@ -7,9 +7,7 @@ use lib.Dec.{ltb, leb}
 use borrow.Author.Tests.{lt-ltb, le-leb}
 use lib.ListN.{take}
 use lib.Seq.{length-take-le, get_or-take}
-use Rattle.model.specs.declared.XPlace.{XPlace}
-use Rattle.model.specs.declared.BankPlace.{BankPlace}
-use Rattle.model.specs.declared.HelpPlace.{HelpPlace}
+use Rattle.model.specs.Places.{XPlace, BankPlace, HelpPlace}
 use Rattle.model.specs.Sizes.{halves, busy_most}
 use Rattle.model.specs.Tables.{no_bank, no_help}
 use Rattle.model.specs.Records.{no_process}

@@ -10,11 +10,8 @@ use native.Mathlib.Omega.{arith}
 use lib.Pow.{pow_pos}
 use lib.ListN.{length, get_or, set, length-set}
 use lib.Seq.{get_or-set_same, get_or-set_other, sets, length-sets}
-use Rattle.model.specs.declared.XPlace.{XPlace}
-use Rattle.model.specs.declared.BankPlace.{BankPlace}
-use Rattle.model.specs.declared.HelpPlace.{HelpPlace}
 use Rattle.model.specs.declared.Process.{Process}
-use Rattle.model.specs.Places.{no_links, linked, link}
+use Rattle.model.specs.Places.{XPlace, BankPlace, HelpPlace, no_links, linked, link}
 use Rattle.model.proofs.LinkLaws.{none_linked, link_same, link_other, link_below}
 use Rattle.model.specs.Sizes.{halves}
 use Rattle.model.specs.Words.{word_of, half, with_half}

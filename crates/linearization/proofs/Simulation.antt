@@ -11,9 +11,6 @@ use lib.ListN.{length, get_or, set, length-set}
 use Rattle.llsc.specs.declared.ProcessNumber.{ProcessNumber}
 use Rattle.model.specs.declared.BufferNumber.{BufferNumber}
 use Rattle.model.specs.declared.XContent.{XContent}
-use Rattle.model.specs.declared.XPlace.{XPlace}
-use Rattle.model.specs.declared.BankPlace.{BankPlace}
-use Rattle.model.specs.declared.HelpPlace.{HelpPlace}
 use Rattle.model.specs.declared.Bench.{Bench}
 use Rattle.model.specs.declared.Process.{Process}
 use Rattle.model.specs.declared.Reply.{Reply}
@@ -21,7 +18,7 @@ use Rattle.llsc.specs.declared.Order.{Order}
 use Rattle.llsc.specs.declared.Order.TheVariants.{StartLl, StartSc, StartVl, Step}
 use Rattle.model.specs.declared.Reply.TheVariants.{Accepted, LlAnswered, ScAnswered, VlAnswered}
 use Rattle.model.specs.declared.Moved.{Moved}
-use Rattle.model.specs.Places.{linked, link, no_links, write_help, ll_help, ll_bank}
+use Rattle.model.specs.Places.{XPlace, BankPlace, HelpPlace, linked, link, no_links, write_place, ll_place}
 use Rattle.model.specs.Sizes.{halves}
 use Rattle.model.specs.Words.{one_record, word_of, half, with_half}
 use Rattle.model.specs.Tables.{no_bank, no_help}
@@ -234,7 +231,7 @@ module _ (N W : ℕ) (x : XPlace) (ks : List BankPlace) (hs : List HelpPlace) (w
   -- Bank[i]: LL, left alone, written
   module _ (i : ℕ) (hi : i < 2 * N) where
     ll_bank_is : (q' : Process) (l : Local) → q' ≡ record_of l → l.link_bank ≡ upd f.link_bank i true → of_bank l ≡ of_bank f
-        → Made N W p z (record { bench = bench x (set ks i (ll_bank (get_or ks i no_bank) me)) hs; process = q'; reply = Accepted }, ws) (quiet z p l)
+        → Made N W p z (record { bench = bench x (set ks i (ll_place (get_or ks i no_bank) me)) hs; process = q'; reply = Accepted }, ws) (quiet z p l)
     ll_bank_is q' l e lb own =
         on_bank_is i hi _ q' h (λ m. m) l
         (record { buf = (r.bank i hi).buf; links = link_set (λ m. m.link_bank i) _ l (ap (λ c. c i) lb ∙ upd_same f.link_bank i true) (r.bank i hi).links })
@@ -259,7 +256,7 @@ module _ (N W : ℕ) (x : XPlace) (ks : List BankPlace) (hs : List HelpPlace) (w
   -- Help[i]: LL, left alone, written
   module _ (i : ℕ) (hi : i < N) where
     ll_help_is : (q' : Process) (l : Local) → q' ≡ record_of l → l.link_help ≡ upd f.link_help i true → of_help l ≡ of_help f
-        → Made N W p z (record { bench = bench x ks (set hs i (ll_help (get_or hs i no_help) me)); process = q'; reply = Accepted }, ws) (quiet z p l)
+        → Made N W p z (record { bench = bench x ks (set hs i (ll_place (get_or hs i no_help) me)); process = q'; reply = Accepted }, ws) (quiet z p l)
     ll_help_is q' l e lh own =
         on_help_is i hi _ q' h (λ m. m) l
         (record { flag = (r.help i hi).flag; buf = (r.help i hi).buf; links = link_set (λ m. m.link_help i) _ l (ap (λ c. c i) lh ∙ upd_same f.link_help i true) (r.help i hi).links })
@@ -273,7 +270,7 @@ module _ (N W : ℕ) (x : XPlace) (ks : List BankPlace) (hs : List HelpPlace) (w
 
     write_help_is : (up : Bool) (v : ℕ) (q' : Process) (h' : Shared) (l : Local) → q' ≡ record_of l → h'.flag ≡ upd h.flag i up → h'.help_buf ≡ upd h.help_buf i v
         → not_help h' ≡ not_help h → l.link_help ≡ upd f.link_help i false → of_help l ≡ of_help f
-        → Made N W p z (record { bench = bench x ks (set hs i (write_help (record { flag = cond up 1 0; buf = record { 0 = v } }))); process = q'; reply = Accepted }, ws)
+        → Made N W p z (record { bench = bench x ks (set hs i (write_place (record { flag = cond up 1 0; buf = record { 0 = v } }))); process = q'; reply = Accepted }, ws)
         (noisy z p h' (GhostMachine.set_link_help i false) l)
     write_help_is up v q' h' l e hf hb sh lh own =
         let clear = GhostMachine.set_link_help i false in

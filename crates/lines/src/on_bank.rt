@@ -5,47 +5,38 @@ ghost use Rattle.lines.specs.Ranges.{Stepping};
 
 use crate::{points, records};
 use llsc::ProcessNumber;
-use model::{BankPlace, BankStep, Process};
+use model::{BankPlace, LineStep, Process};
 
 // Line 12: if LL(Bank[x.seq]) differs from x.buf, the buffer of the last success is still to be banked.
-pub fn do_line_12(p: ProcessNumber, bank: BankPlace, process: Process) -> BankStep
+pub fn do_line_12(p: ProcessNumber, bank: BankPlace, process: Process) -> LineStep<BankPlace>
     requires { Stepping p process }
     ensures { result ≡ do_line12 p bank process }
 {
-    let banked = bank.content;
-    let x = process.x;
-    let current = x.buf;
-    let place = places::ll_bank(bank, p);
-    if banked.0 == current.0 {
-        let process = records::to(points::LINE_14, process);
-        return BankStep { place, process };
-    }
-    let process = records::to(points::LINE_12_VALID, process);
-    BankStep { place, process }
+    let line = if bank.content == process.x.buf {
+        points::LINE_14
+    } else {
+        points::LINE_12_VALID
+    };
+    LineStep::accepted(places::ll(bank, p), records::to(line, process))
 }
 
 // Line 13: SC(Bank[x.seq], x.buf).
-pub fn do_line_13(p: ProcessNumber, bank: BankPlace, process: Process) -> BankStep
+pub fn do_line_13(p: ProcessNumber, bank: BankPlace, process: Process) -> LineStep<BankPlace>
     requires { Stepping p process }
     ensures { result ≡ do_line13 p bank process }
 {
-    let x = process.x;
-    let current = x.buf;
-    let place = places::sc_bank(bank, p, current);
-    let process = records::to(points::LINE_14, process);
-    BankStep { place, process }
+    let place = places::sc(bank, p, process.x.buf);
+    LineStep::accepted(place, records::to(points::LINE_14, process))
 }
 
 // Line 18: e = Bank[(x.seq + 1) mod 2N], a plain read: the buffer that a success frees.
-pub fn do_line_18(bank: BankPlace, process: Process) -> BankStep
+pub fn do_line_18(bank: BankPlace, process: Process) -> LineStep<BankPlace>
     requires { process.count < 4294967296 }
     ensures { result ≡ do_line18 bank process }
 {
-    let banked = bank.content;
-    let found = records::with_e(banked, process);
-    let process = records::to(points::LINE_19, found);
-    BankStep {
-        place: bank,
-        process,
-    }
+    let found = Process {
+        e: bank.content,
+        ..process
+    };
+    LineStep::accepted(bank, records::to(points::LINE_19, found))
 }

@@ -5,111 +5,102 @@ ghost use Rattle.lines.specs.Ranges.{Stepping};
 
 use crate::{points, records};
 use llsc::ProcessNumber;
-use model::{HelpContent, HelpPlace, HelpStep, Process};
+use model::{HelpContent, HelpPlace, LineStep, Process};
 
 // A flag of Help: the process asks for help, or none is asked or it was given.
+// Kept: numbers, as lent memory holds any number in a flag; row 9 refuses all but these two.
 pub const ASKED: u8 = 1;
 
 pub const GIVEN: u8 = 0;
 
 // Line 1: Help[p] = (1, mybuf).
-pub fn do_line_1(help: HelpPlace, process: Process) -> HelpStep
+pub fn do_line_1(help: HelpPlace, process: Process) -> LineStep<HelpPlace>
     requires { process.count < 4294967296 }
     ensures { result ≡ do_line1 help process }
 {
     let buf = process.mybuf;
-    let place = places::write_help(HelpContent { flag: ASKED, buf });
-    let process = records::to(points::LINE_2, process);
-    HelpStep { place, process }
+    let place = places::write(HelpContent { flag: ASKED, buf });
+    LineStep::accepted(place, records::to(points::LINE_2, process))
 }
 
 // Line 4: if LL(Help[p]) = (0, b), help was given, and lines 5 to 7 follow.
-pub fn do_line_4(p: ProcessNumber, help: HelpPlace, process: Process) -> HelpStep
+pub fn do_line_4(p: ProcessNumber, help: HelpPlace, process: Process) -> LineStep<HelpPlace>
     requires { Stepping p process }
     ensures { result ≡ do_line4 p help process }
 {
-    let content = help.content;
-    let place = places::ll_help(help, p);
-    if content.flag == GIVEN {
-        let found = records::with_b(content.buf, process);
-        let process = records::to(points::LINE_5, found);
-        return HelpStep { place, process };
-    }
-    let process = records::to(points::LINE_8, process);
-    HelpStep { place, process }
+    let HelpContent { flag, buf } = help.content;
+    let process = if flag == GIVEN {
+        records::to(points::LINE_5, Process { b: buf, ..process })
+    } else {
+        records::to(points::LINE_8, process)
+    };
+    LineStep::accepted(places::ll(help, p), process)
 }
 
 // Line 8: if LL(Help[p]) = (1, c), no help came, and line 9 takes the question back.
-pub fn do_line_8(p: ProcessNumber, help: HelpPlace, process: Process) -> HelpStep
+pub fn do_line_8(p: ProcessNumber, help: HelpPlace, process: Process) -> LineStep<HelpPlace>
     requires { Stepping p process }
     ensures { result ≡ do_line8 p help process }
 {
-    let content = help.content;
-    let place = places::ll_help(help, p);
-    if content.flag == ASKED {
-        let found = records::with_c(content.buf, process);
-        let process = records::to(points::LINE_9, found);
-        return HelpStep { place, process };
-    }
-    let process = records::to(points::LINE_10, process);
-    HelpStep { place, process }
+    let HelpContent { flag, buf } = help.content;
+    let process = if flag == ASKED {
+        records::to(points::LINE_9, Process { c: buf, ..process })
+    } else {
+        records::to(points::LINE_10, process)
+    };
+    LineStep::accepted(places::ll(help, p), process)
 }
 
 // Line 9: SC(Help[p], (0, c)). No plain write: it would wipe out help that came after line 8.
-pub fn do_line_9(p: ProcessNumber, help: HelpPlace, process: Process) -> HelpStep
+pub fn do_line_9(p: ProcessNumber, help: HelpPlace, process: Process) -> LineStep<HelpPlace>
     requires { Stepping p process }
     ensures { result ≡ do_line9 p help process }
 {
     let buf = process.c;
-    let place = places::sc_help(help, p, HelpContent { flag: GIVEN, buf });
-    let process = records::to(points::LINE_10, process);
-    HelpStep { place, process }
+    let place = places::sc(help, p, HelpContent { flag: GIVEN, buf });
+    LineStep::accepted(place, records::to(points::LINE_10, process))
 }
 
 // Line 10: mybuf = Help[p].buf, whichever buffer the question came back with.
-pub fn do_line_10(help: HelpPlace, process: Process) -> HelpStep
+pub fn do_line_10(help: HelpPlace, process: Process) -> LineStep<HelpPlace>
     requires { process.count < 4294967296 }
     ensures { result ≡ do_line10 help process }
 {
-    let content = help.content;
-    let owner = records::with_mybuf(content.buf, process);
-    let process = records::to(points::LINE_11, owner);
-    HelpStep {
-        place: help,
-        process,
-    }
+    let owner = Process {
+        mybuf: help.content.buf,
+        ..process
+    };
+    LineStep::accepted(help, records::to(points::LINE_11, owner))
 }
 
 // Line 14: if LL(Help[x.seq mod N]) = (1, d), that process asks for help.
-pub fn do_line_14(p: ProcessNumber, help: HelpPlace, process: Process) -> HelpStep
+pub fn do_line_14(p: ProcessNumber, help: HelpPlace, process: Process) -> LineStep<HelpPlace>
     requires { Stepping p process }
     ensures { result ≡ do_line14 p help process }
 {
-    let content = help.content;
-    let place = places::ll_help(help, p);
-    if content.flag == ASKED {
-        let found = records::with_d(content.buf, process);
-        let process = records::to(points::LINE_14_VALID, found);
-        return HelpStep { place, process };
-    }
-    let process = records::to(points::LINE_17, process);
-    HelpStep { place, process }
+    let HelpContent { flag, buf } = help.content;
+    let process = if flag == ASKED {
+        records::to(points::LINE_14_VALID, Process { d: buf, ..process })
+    } else {
+        records::to(points::LINE_17, process)
+    };
+    LineStep::accepted(places::ll(help, p), process)
 }
 
 // Lines 15 and 16: if SC(Help[x.seq mod N], (0, mybuf)) then mybuf = d, the buffer that is given in exchange.
-pub fn do_line_15(p: ProcessNumber, help: HelpPlace, process: Process) -> HelpStep
+pub fn do_line_15(p: ProcessNumber, help: HelpPlace, process: Process) -> LineStep<HelpPlace>
     requires { Stepping p process }
     ensures { result ≡ do_line15 p help process }
 {
-    let links = help.links;
     let buf = process.mybuf;
-    let place = places::sc_help(help, p, HelpContent { flag: GIVEN, buf });
-    if places::is_linked(links, p) {
-        let d = process.d;
-        let owner = records::with_mybuf(d, process);
-        let process = records::to(points::LINE_17, owner);
-        return HelpStep { place, process };
-    }
-    let process = records::to(points::LINE_17, process);
-    HelpStep { place, process }
+    let place = places::sc(help, p, HelpContent { flag: GIVEN, buf });
+    let owner = if places::is_linked(help.links, p) {
+        Process {
+            mybuf: process.d,
+            ..process
+        }
+    } else {
+        process
+    };
+    LineStep::accepted(place, records::to(points::LINE_17, owner))
 }

@@ -1,8 +1,7 @@
 // The lines of Figure 2 that move words, one half word to a step: what they make of their own process. `moves` is how
 // many a run has.
 ghost use Rattle.std.specs.Prelude.{◌≡◌};
-ghost use Rattle.model.specs.Lines.{do_line11};
-ghost use Rattle.model.specs.Lines.{do_word_then};
+ghost use Rattle.model.specs.Lines.{do_line11, do_word_then};
 ghost use Rattle.lines.specs.Ranges.{Moving};
 
 use crate::records;
@@ -13,16 +12,13 @@ pub fn do_word(moves: usize, line: u8, process: Process) -> WordStep
     requires { Moving moves process }
     ensures { result ≡ do_word_then moves line process }
 {
-    let word = process.word;
-    if word + 1 < moves {
-        return WordStep {
-            process: records::next_word(process),
-            reply: Reply::Accepted,
-        };
-    }
-    let passed = records::first_word(process);
+    let process = if process.word + 1 < moves {
+        records::next_word(process)
+    } else {
+        records::to(line, Process { word: 0, ..process })
+    };
     WordStep {
-        process: records::to(line, passed),
+        process,
         reply: Reply::Accepted,
     }
 }
@@ -32,17 +28,19 @@ pub fn do_line_11(moves: usize, process: Process) -> WordStep
     requires { Moving moves process }
     ensures { result ≡ do_line11 moves process }
 {
-    let word = process.word;
-    let count = process.count;
-    if word + 1 < moves {
+    if process.word + 1 < moves {
         return WordStep {
             process: records::next_word(process),
             reply: Reply::Accepted,
         };
     }
-    let passed = records::marked_answered(records::first_word(process));
+    let passed = Process {
+        word: 0,
+        answered: true,
+        ..process
+    };
     WordStep {
         process: records::rested(passed),
-        reply: Reply::LlAnswered(count + 1),
+        reply: Reply::LlAnswered(process.count + 1),
     }
 }

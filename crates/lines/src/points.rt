@@ -1,5 +1,6 @@
 // The numbers that stand for the program points in a process record: Figure 2's own line numbers, and three more for
 // the accesses that share a line. Line 16 is done with 15, and 20 to 22 with 19.
+// Kept: numbers and no enum, as lent memory holds any number for a line; row 9 refuses those that stand for none.
 pub const IDLE: u8 = 0;
 
 pub const LINE_1: u8 = 1;
@@ -39,8 +40,10 @@ pub const LINE_18: u8 = 18;
 pub const LINE_19: u8 = 19;
 
 pub const LINE_23: u8 = 23;
+
 // The words from BUF[b] of line 7.
 pub const LINE_7_COPY: u8 = 24;
+
 // The VL(X) of line 12, and that of line 14.
 pub const LINE_12_VALID: u8 = 25;
 

@@ -2,14 +2,14 @@
 use mathlib.Core.Path.{◌≡◌}
 use Prim.Native.Nat.{ℕ, zero, suc}
 use mathlib.Core.List.{List, [], ◌∷◌, ◌++◌}
-use mathlib.Core.Bool.{Bool, true, false}
-use lib.ListN.{length, replicate}
+use mathlib.Core.Bool.{true}
+use lib.ListN.{replicate}
 use Rattle.model.specs.declared.Bench.{Bench}
 use Rattle.model.specs.declared.Process.{Process}
 use Rattle.llsc.specs.declared.Order.TheVariants.{StartLl, StartSc, StartVl, Step}
 use Rattle.model.specs.Machine.{Memory}
 use Rattle.model.specs.SetUp.{set_up}
-use Rattle.llsc.specs.Answers.{Answer, ll_words, sc_truth, vl_truth, Said, refused, accepted, answered}
+use Rattle.llsc.specs.Answers.{Answer, Said, refused, accepted, answered}
 use Rattle.llsc.specs.History.{Command, Event}
 use Rattle.model.specs.History.{events}
 

@@ -1,6 +1,6 @@
 -- The five readings of Figure 2 that tear the record (01): for each, a schedule on which the wrong reading answers otherwise, with the right answers.
-use mathlib.Core.Path.{◌≡◌, refl}
-use mathlib.Core.List.{List, [], ◌∷◌, ◌++◌}
+use mathlib.Core.Path.{refl}
+use mathlib.Core.List.{[], ◌∷◌, ◌++◌}
 use mathlib.Core.Bool.{true, false}
 use Rattle.model.specs.Machine.{step_at, obey}
 use Rattle.model.specs.Refusals.{in_range}

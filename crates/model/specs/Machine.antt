@@ -4,17 +4,13 @@ use Rattle.std.proofs.lemmas.List.Edits.{sets}
 use Rattle.model.specs.declared.BufferNumber.{BufferNumber}
 use Rattle.model.specs.declared.SequenceNumber.{SequenceNumber}
 use Rattle.llsc.specs.declared.ProcessNumber.{ProcessNumber}
-use Rattle.model.specs.declared.XPlace.{XPlace}
-use Rattle.model.specs.declared.BankPlace.{BankPlace}
-use Rattle.model.specs.declared.HelpPlace.{HelpPlace}
+use Rattle.model.specs.Places.{XPlace, BankPlace, HelpPlace}
 use Rattle.model.specs.declared.Bench.{Bench}
 use Rattle.model.specs.declared.Process.{Process}
 use Rattle.llsc.specs.declared.Order.{Order}
 use Rattle.llsc.specs.declared.Order.TheVariants.{StartLl, StartSc, StartVl, Step}
 use Rattle.model.specs.declared.Reply.TheVariants.{Accepted}
-use Rattle.model.specs.declared.XStep.{XStep}
-use Rattle.model.specs.declared.BankStep.{BankStep}
-use Rattle.model.specs.declared.HelpStep.{HelpStep}
+use Rattle.model.specs.declared.LineStep.{LineStep}
 use Rattle.model.specs.declared.WordStep.{WordStep}
 use Rattle.model.specs.declared.Moved.{Moved}
 use Rattle.model.specs.Tables.{bank_at, help_at, put_x, put_bank, put_help, next, helped}
@@ -42,14 +38,17 @@ pub record Shaped (m : Memory) : Type 0 where
 -- A step touches one shared item: X, Bank[i], Help[i] or one half word of a buffer. Each of these takes the item out,
 -- lets the line work on it and on the own process, and puts it back; b is the bench, q the own record, ws the lent
 -- words.
-abbrev pub on_x : (XPlace → Process → XStep) → Bench → Process → List ℕ → Moved × List ℕ
-on_x line b q ws = (record { bench = put_x b (line b.x q).place; process = (line b.x q).process; reply = (line b.x q).reply }, ws)
+abbrev pub moved : {P : Type 0} → (P → Bench) → LineStep P → List ℕ → Moved × List ℕ
+moved put s ws = (record { bench = put s.place; process = s.process; reply = s.reply }, ws)
 
-abbrev pub on_bank : SequenceNumber → (BankPlace → Process → BankStep) → Bench → Process → List ℕ → Moved × List ℕ
-on_bank i line b q ws = (record { bench = put_bank b i (line (bank_at b i) q).place; process = (line (bank_at b i) q).process; reply = Accepted }, ws)
+abbrev pub on_x : (XPlace → Process → LineStep XPlace) → Bench → Process → List ℕ → Moved × List ℕ
+on_x line b q ws = moved (put_x b) (line b.x q) ws
 
-abbrev pub on_help : ProcessNumber → (HelpPlace → Process → HelpStep) → Bench → Process → List ℕ → Moved × List ℕ
-on_help i line b q ws = (record { bench = put_help b i (line (help_at b i) q).place; process = (line (help_at b i) q).process; reply = Accepted }, ws)
+abbrev pub on_bank : SequenceNumber → (BankPlace → Process → LineStep BankPlace) → Bench → Process → List ℕ → Moved × List ℕ
+on_bank i line b q ws = moved (put_bank b i) (line (bank_at b i) q) ws
+
+abbrev pub on_help : ProcessNumber → (HelpPlace → Process → LineStep HelpPlace) → Bench → Process → List ℕ → Moved × List ℕ
+on_help i line b q ws = moved (put_help b i) (line (help_at b i) q) ws
 
 -- a half word of BUF[f], at the word place, into p's return area; l is the layout of the record's words
 abbrev pub on_read : Layout → ProcessNumber → BufferNumber → WordStep → Bench → Process → List ℕ → Moved × List ℕ

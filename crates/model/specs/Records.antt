@@ -1,5 +1,5 @@
 -- The process record with one of its numbers set: what the lines of Figure 2 do to their own process.
-use Rattle.std.specs.Prelude.{ℕ, ◌+◌, List, Bool, true, false, get_or}
+use Rattle.std.specs.Prelude.{ℕ, ◌+◌, List, true, false, get_or}
 use Rattle.model.specs.declared.BufferNumber.{BufferNumber}
 use Rattle.llsc.specs.declared.ProcessNumber.{ProcessNumber}
 use Rattle.model.specs.declared.XContent.{XContent}

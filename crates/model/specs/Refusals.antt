@@ -4,9 +4,7 @@ use Rattle.std.specs.Prelude.{ℕ, ◌/◌, ◌%◌, ◌^◌, List, [], ◌∷�
 use Rattle.model.specs.declared.BufferNumber.{BufferNumber}
 use Rattle.model.specs.declared.SequenceNumber.{SequenceNumber}
 use Rattle.model.specs.declared.XContent.{XContent}
-use Rattle.model.specs.declared.XPlace.{XPlace}
-use Rattle.model.specs.declared.BankPlace.{BankPlace}
-use Rattle.model.specs.declared.HelpPlace.{HelpPlace}
+use Rattle.model.specs.Places.{XPlace, BankPlace, HelpPlace}
 use Rattle.model.specs.declared.Bench.{Bench}
 use Rattle.model.specs.declared.Process.{Process}
 use Rattle.llsc.specs.declared.Order.{Order}

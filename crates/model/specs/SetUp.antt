@@ -1,13 +1,9 @@
 -- The set-up (01, "Set-up"). "Memory beyond what N and W need is never touched."
-use Rattle.std.specs.Prelude.{ℕ, zero, suc, ◌+◌, ◌-◌, ◌*◌, List, [], ◌∷◌, ◌++◌, map, Bool, false, cond, eqb, replicate}
+use Rattle.std.specs.Prelude.{ℕ, zero, suc, ◌-◌, List, [], ◌∷◌, ◌++◌, map, false, cond, eqb, replicate}
 use Rattle.std.proofs.lemmas.List.Edits.{sets}
-use Rattle.model.specs.declared.BufferNumber.{BufferNumber}
-use Rattle.model.specs.declared.XPlace.{XPlace}
-use Rattle.model.specs.declared.BankPlace.{BankPlace}
-use Rattle.model.specs.declared.HelpPlace.{HelpPlace}
 use Rattle.model.specs.declared.Bench.{Bench}
 use Rattle.model.specs.declared.Process.{Process}
-use Rattle.model.specs.Places.{no_links}
+use Rattle.model.specs.Places.{XPlace, BankPlace, HelpPlace, no_links}
 use Rattle.model.specs.Points.{line_number, idle}
 use Rattle.model.specs.Sizes.{sequence_numbers, lent_words}
 use Rattle.model.specs.Machine.{Memory}

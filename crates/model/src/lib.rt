@@ -5,51 +5,45 @@
 ghost use Rattle.std.specs.Prelude.{◌≡◌};
 ghost use Rattle.model.specs.SetUp.{x_at_set_up, bank_at_set_up, help_at_set_up, process_at_set_up, empty_bench};
 ghost use Rattle.model.specs.Replies.{number_of};
+ghost use Rattle.model.specs.declared.Reply.TheVariants.{Accepted};
 
 pub mod sizes;
 
 // A buffer's number, below 3N.
-#[derive(Clone, Copy)]
+#[derive(Clone, Copy, Default, PartialEq, Eq)]
 pub struct BufferNumber(pub u8);
 
 // A sequence number, below 2N.
-#[derive(Clone, Copy)]
+#[derive(Clone, Copy, Default, PartialEq, Eq)]
 pub struct SequenceNumber(pub u8);
 
 // What X holds: Figure 2's xtype.
-#[derive(Clone, Copy)]
+#[derive(Clone, Copy, Default)]
 pub struct XContent {
     pub buf: BufferNumber,
     pub seq: SequenceNumber,
 }
 
 // What a place of Help holds: Figure 2's helptype.
-#[derive(Clone, Copy)]
+#[derive(Clone, Copy, Default)]
 pub struct HelpContent {
     pub flag: u8,
     pub buf: BufferNumber,
 }
 
-// X, with its links: bit p of the number is the link of process p.
-#[derive(Clone, Copy)]
-pub struct XPlace {
-    pub content: XContent,
+// A shared place, with its links: bit p of the number is the link of process p.
+#[derive(Clone, Copy, Default)]
+pub struct Place<T> {
+    pub content: T,
     pub links: u16,
 }
 
-// A place of Bank, with its links.
-#[derive(Clone, Copy)]
-pub struct BankPlace {
-    pub content: BufferNumber,
-    pub links: u16,
-}
+// X, a place of Bank and a place of Help.
+pub type XPlace = Place<XContent>;
 
-// A place of Help, with its links.
-#[derive(Clone, Copy)]
-pub struct HelpPlace {
-    pub content: HelpContent,
-    pub links: u16,
-}
+pub type BankPlace = Place<BufferNumber>;
+
+pub type HelpPlace = Place<HelpContent>;
 
 // The bench record: N, W, X, Bank (2N places), Help (N places) and their links.
 #[derive(Clone, Copy)]
@@ -62,7 +56,7 @@ pub struct Bench {
 }
 
 // The private numbers of a process. Its return area and its offer area lie in the lent words.
-#[derive(Clone, Copy)]
+#[derive(Clone, Copy, Default)]
 pub struct Process {
     pub mybuf: BufferNumber,
     pub x: XContent,
@@ -88,26 +82,25 @@ pub enum Reply {
     VlAnswered(bool, usize),
 }
 
-// What a line makes of X and of its own process, with its reply.
+// What a line makes of the place that it touches and of its own process, with its reply.
 #[derive(Clone, Copy)]
-pub struct XStep {
-    pub place: XPlace,
+pub struct LineStep<P> {
+    pub place: P,
     pub process: Process,
     pub reply: Reply,
 }
 
-// What a line makes of a place of Bank and of its own process.
-#[derive(Clone, Copy)]
-pub struct BankStep {
-    pub place: BankPlace,
-    pub process: Process,
-}
-
-// What a line makes of a place of Help and of its own process.
-#[derive(Clone, Copy)]
-pub struct HelpStep {
-    pub place: HelpPlace,
-    pub process: Process,
+impl<P> LineStep<P> {
+    // What a line that does not answer makes.
+    pub fn accepted(place: P, process: Process) -> LineStep<P>
+        ensures { result ≡ record { place = place; process = process; reply = Accepted } }
+    {
+        LineStep {
+            place,
+            process,
+            reply: Reply::Accepted,
+        }
+    }
 }
 
 // What a line that moves a word makes of its own process, with its reply.
@@ -129,20 +122,14 @@ pub struct Moved {
 pub fn x_at_set_up() -> XPlace
     ensures { result ≡ x_at_set_up }
 {
-    XPlace {
-        content: XContent {
-            buf: BufferNumber(0),
-            seq: SequenceNumber(0),
-        },
-        links: 0,
-    }
+    Place::default()
 }
 
 // Bank[k] at the set-up.
 pub fn bank_at_set_up(k: u8) -> BankPlace
     ensures { result ≡ bank_at_set_up k }
 {
-    BankPlace {
+    Place {
         content: BufferNumber(k),
         links: 0,
     }
@@ -152,13 +139,7 @@ pub fn bank_at_set_up(k: u8) -> BankPlace
 pub fn help_at_set_up() -> HelpPlace
     ensures { result ≡ help_at_set_up }
 {
-    HelpPlace {
-        content: HelpContent {
-            flag: 0,
-            buf: BufferNumber(0),
-        },
-        links: 0,
-    }
+    Place::default()
 }
 
 // A bench record before any set-up, for a program to lend.
@@ -174,24 +155,13 @@ pub fn empty_bench() -> Bench
     }
 }
 
-// A process at the set-up, with the buffer that it owns.
+// A process at the set-up, with the buffer that it owns. Its other numbers are 0.
 pub fn process_at_set_up(mybuf: u8) -> Process
     ensures { result ≡ process_at_set_up mybuf }
 {
     Process {
         mybuf: BufferNumber(mybuf),
-        x: XContent {
-            buf: BufferNumber(0),
-            seq: SequenceNumber(0),
-        },
-        line: 0,
-        word: 0,
-        count: 0,
-        answered: false,
-        b: BufferNumber(0),
-        c: BufferNumber(0),
-        d: BufferNumber(0),
-        e: BufferNumber(0),
+        ..Process::default()
     }
 }
 
@@ -201,9 +171,6 @@ pub fn number_of(reply: Reply) -> u8
 {
     match reply {
         Reply::Refused(number) => number,
-        Reply::Accepted => 0,
-        Reply::LlAnswered(_) => 0,
-        Reply::ScAnswered(_, _) => 0,
-        Reply::VlAnswered(_, _) => 0,
+        _ => 0,
     }
 }

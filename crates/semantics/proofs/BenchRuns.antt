@@ -5,9 +5,7 @@ use mathlib.Core.Bool.{Bool, true, false}
 use Prim.Native.Nat.{ℕ, ◌-◌}
 use Prim.Native.String.{String}
 use lib.ListN.{length, replicate}
-use Rattle.model.specs.declared.XPlace.{XPlace}
-use Rattle.model.specs.declared.BankPlace.{BankPlace}
-use Rattle.model.specs.declared.HelpPlace.{HelpPlace}
+use Rattle.model.specs.Places.{XPlace, BankPlace, HelpPlace}
 use Rattle.model.specs.declared.Process.{Process}
 use Rattle.model.specs.Machine.{Memory, step_at, obey}
 use Rattle.model.specs.Refusals.{in_range}

@@ -5,7 +5,7 @@ use Prim.Native.Nat.{ℕ}
 use mathlib.Core.List.{[], ◌∷◌, ◌++◌}
 use lib.ListN.{get_or, set, replicate}
 use Rattle.llsc.specs.declared.Order.TheVariants.{StartLl, StartSc, Step}
-use Rattle.model.specs.declared.XPlace.{XPlace}
+use Rattle.model.specs.Places.{XPlace}
 use Rattle.model.specs.Points.{Point, line_number, idle, line2}
 use Rattle.station.specs.declared.Tables.{Tables}
 use Rattle.station.specs.declared.StationProcess.{StationProcess}

@@ -11,9 +11,6 @@ use lib.ListN.{length}
 use Rattle.model.specs.declared.BufferNumber.{BufferNumber}
 use Rattle.llsc.specs.declared.ProcessNumber.{ProcessNumber}
 use Rattle.model.specs.declared.XContent.{XContent}
-use Rattle.model.specs.declared.XPlace.{XPlace}
-use Rattle.model.specs.declared.BankPlace.{BankPlace}
-use Rattle.model.specs.declared.HelpPlace.{HelpPlace}
 use Rattle.model.specs.declared.Bench.{Bench}
 use Rattle.model.specs.declared.Process.{Process}
 use Rattle.llsc.specs.declared.Order.{Order}
@@ -21,7 +18,7 @@ use Rattle.llsc.specs.declared.Order.TheVariants.{StartLl, StartSc, StartVl, Ste
 use Rattle.model.specs.declared.Reply.{Reply}
 use Rattle.model.specs.declared.Reply.TheVariants.{Accepted, LlAnswered, ScAnswered}
 use Rattle.model.specs.declared.Moved.{Moved}
-use Rattle.model.specs.Places.{linked, sc_help, sc_x}
+use Rattle.model.specs.Places.{XPlace, BankPlace, HelpPlace, linked, sc_place}
 use Rattle.model.specs.Tables.{bank_at, help_at, put_x, put_help, helped, next}
 use Rattle.model.specs.Sizes.{buffers, halves}
 use Rattle.model.specs.Words.{Layout, word_of, half}
@@ -125,7 +122,7 @@ module _ (N W p T T' : ℕ) (L L' : Layout) (hp : p < N) (x : XPlace) (ks : List
       (λ t. record { bench = refl; reply = refl; process = live line9 tt refl tt tt; words = l })
       (λ t. record { bench = refl; reply = refl; process = live line10 tt tt tt tt; words = l })
   step_alike line9 f hb hc hd he h_b l =
-      record { bench = ap (λ k. put_help at me (sc_help (help_at at me) me (record { flag = 0; buf = k }))) hc; reply = refl; process = live line10 tt tt tt tt; words = l }
+      record { bench = ap (λ k. put_help at me (sc_place (help_at at me) me (record { flag = 0; buf = k }))) hc; reply = refl; process = live line10 tt tt tt tt; words = l }
   step_alike line10 f hb hc hd he h_b l = record { bench = refl; reply = refl; process = live line11 tt tt tt tt; words = l }
   step_alike line11 f hb hc hd he h_b l = go more
     where
@@ -151,7 +148,7 @@ module _ (N W p T T' : ℕ) (L L' : Layout) (hp : p < N) (x : XPlace) (ks : List
       (λ t. record { bench = refl; reply = refl; process = live line15 tt tt hd tt; words = l })
       (λ t. record { bench = refl; reply = refl; process = live line17 tt tt tt tt; words = l })
   step_alike line15 f hb hc hd he h_b l =
-      let after = put_help at (helped N cx.seq) (sc_help (help_at at (helped N cx.seq)) me (record { flag = 0; buf = mb })) in
+      let after = put_help at (helped N cx.seq) (sc_place (help_at at (helped N cx.seq)) me (record { flag = 0; buf = mb })) in
       rw hd (by_test₂ (λ m m'. Both line15 after Accepted ws ws' (to line17 m) (to line17 m')) (linked (help_at at (helped N cx.seq)).links me)
       (λ t. record { bench = refl; reply = refl; process = live line17 tt tt tt tt; words = l })
       (λ t. record { bench = refl; reply = refl; process = live line17 tt tt tt tt; words = l }))
@@ -163,7 +160,7 @@ module _ (N W p T T' : ℕ) (L L' : Layout) (hp : p < N) (x : XPlace) (ks : List
       (λ t. record { bench = refl; reply = refl; process = live line18 tt tt tt tt; words = less N W p hp w (omega arith) (omega arith) })
   step_alike line18 f hb hc hd he h_b l = record { bench = refl; reply = refl; process = live line19 tt tt tt refl; words = l }
   step_alike line19 f hb hc hd he h_b l =
-      let after = put_x at (sc_x x me (record { buf = mb; seq = next N cx.seq })) in
+      let after = put_x at (sc_place x me (record { buf = mb; seq = next N cx.seq })) in
       rw he (by_test₂ (λ m m'. Both line19 after (ScAnswered (linked x.links me) (ct + 1)) ws ws' (rest m) (rest m')) (linked x.links me)
       (λ t. record { bench = refl; reply = refl; process = live idle tt tt tt tt; words = l })
       (λ t. record { bench = refl; reply = refl; process = live idle tt tt tt tt; words = l }))

@@ -11,16 +11,13 @@ use lib.ListN.{length, get_or}
 use Rattle.model.specs.declared.BufferNumber.{BufferNumber}
 use Rattle.llsc.specs.declared.ProcessNumber.{ProcessNumber}
 use Rattle.model.specs.declared.XContent.{XContent}
-use Rattle.model.specs.declared.XPlace.{XPlace}
-use Rattle.model.specs.declared.BankPlace.{BankPlace}
-use Rattle.model.specs.declared.HelpPlace.{HelpPlace}
 use Rattle.model.specs.declared.Bench.{Bench}
 use Rattle.model.specs.declared.Process.{Process}
 use Rattle.llsc.specs.declared.Order.{Order}
 use Rattle.llsc.specs.declared.Order.TheVariants.{StartLl, StartSc, StartVl, Step}
 use Rattle.model.specs.declared.Reply.{Reply}
 use Rattle.model.specs.declared.Reply.TheVariants.{Refused, Accepted, LlAnswered, ScAnswered, VlAnswered}
-use Rattle.model.specs.Places.{linked}
+use Rattle.model.specs.Places.{XPlace, BankPlace, HelpPlace, linked}
 use Rattle.model.specs.Tables.{no_bank, no_help, bank_at, help_at, helped}
 use Rattle.model.specs.Sizes.{buffers, sequence_numbers, halves}
 use Rattle.model.specs.Words.{Layout}

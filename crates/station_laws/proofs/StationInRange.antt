@@ -8,9 +8,7 @@ use lib.Dec.{T, eqb, ltb, leb}
 use borrow.Author.Tests.{lt-ltb, le-leb, le-ltb}
 use lib.ListN.{length, take}
 use lib.Seq.{get_or-take, length-take-le}
-use Rattle.model.specs.declared.XPlace.{XPlace}
-use Rattle.model.specs.declared.BankPlace.{BankPlace}
-use Rattle.model.specs.declared.HelpPlace.{HelpPlace}
+use Rattle.model.specs.Places.{XPlace, BankPlace, HelpPlace}
 use Rattle.model.specs.declared.Process.{Process}
 use Rattle.model.specs.Sizes.{halves}
 use Rattle.model.specs.Machine.{Memory}

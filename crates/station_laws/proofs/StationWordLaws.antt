@@ -4,7 +4,7 @@ use mathlib.Core.Bool.{Bool, true, false, cond}
 use mathlib.Core.List.{List, [], ◌∷◌, ◌++◌}
 use Prim.Native.Nat.{ℕ, suc, ◌+◌, ◌<◌}
 use native.Mathlib.Omega.{arith}
-use Rattle.model.specs.declared.XPlace.{XPlace}
+use Rattle.model.specs.Places.{XPlace}
 use Rattle.model.specs.Sizes.{buffers, halves}
 use Rattle.model.specs.Machine.{Memory}
 use Rattle.model.specs.SetUp.{set_up}

@@ -7,17 +7,13 @@ use lib.ListN.{length}
 use lib.Seq.{sets, set-get_or, length-sets}
 use Rattle.model.specs.declared.SequenceNumber.{SequenceNumber}
 use Rattle.llsc.specs.declared.ProcessNumber.{ProcessNumber}
-use Rattle.model.specs.declared.XPlace.{XPlace}
-use Rattle.model.specs.declared.BankPlace.{BankPlace}
-use Rattle.model.specs.declared.HelpPlace.{HelpPlace}
+use Rattle.model.specs.Places.{XPlace, BankPlace, HelpPlace}
 use Rattle.model.specs.declared.Bench.{Bench}
 use Rattle.model.specs.declared.Process.{Process}
 use Rattle.llsc.specs.declared.Order.{Order}
 use Rattle.llsc.specs.declared.Order.TheVariants.{StartLl, StartSc, StartVl, Step}
 use Rattle.model.specs.declared.Reply.TheVariants.{Accepted}
-use Rattle.model.specs.declared.XStep.{XStep}
-use Rattle.model.specs.declared.BankStep.{BankStep}
-use Rattle.model.specs.declared.HelpStep.{HelpStep}
+use Rattle.model.specs.declared.LineStep.{LineStep}
 use Rattle.model.specs.declared.WordStep.{WordStep}
 use Rattle.model.specs.declared.Moved.{Moved}
 use Rattle.model.specs.Tables.{no_bank, no_help, bank_at, help_at}
@@ -73,14 +69,14 @@ module _ (l : Layout) (p : ProcessNumber) (b : Bench) (q : Process) (ws : List �
   back y out = restored b (i y) (j y) out
 
   -- a place that the line left alone is put back as it was
-  x_law : (y : Point) (line : XPlace → Process → XStep) → on_x line b q ws ≡ back y (after_x (taken_from y b p q) (line b.x q), ws)
+  x_law : (y : Point) (line : XPlace → Process → LineStep XPlace) → on_x line b q ws ≡ back y (after_x (taken_from y b p q) (line b.x q), ws)
   x_law y line = rw (set-get_or b.bank (i y).0 no_bank, set-get_or b.help (j y).0 no_help)
 
-  bank_law : (y : Point) (line : BankPlace → Process → BankStep)
+  bank_law : (y : Point) (line : BankPlace → Process → LineStep BankPlace)
       → on_bank (i y) line b q ws ≡ back y (after_bank (taken_from y b p q) (line (bank_at b (i y)) q), ws)
   bank_law y line = rw (set-get_or b.help (j y).0 no_help)
 
-  help_law : (y : Point) (line : HelpPlace → Process → HelpStep)
+  help_law : (y : Point) (line : HelpPlace → Process → LineStep HelpPlace)
       → on_help (j y) line b q ws ≡ back y (after_help (taken_from y b p q) (line (help_at b (j y)) q), ws)
   help_law y line = rw (set-get_or b.bank (i y).0 no_bank)
 

@@ -6,9 +6,7 @@ use Rattle.llsc.specs.declared.ProcessNumber.{ProcessNumber}
 use Rattle.model.specs.declared.Bench.{Bench}
 use Rattle.model.specs.declared.Process.{Process}
 use Rattle.model.specs.declared.Reply.TheVariants.{Accepted}
-use Rattle.model.specs.declared.XStep.{XStep}
-use Rattle.model.specs.declared.BankStep.{BankStep}
-use Rattle.model.specs.declared.HelpStep.{HelpStep}
+use Rattle.model.specs.declared.LineStep.{LineStep}
 use Rattle.model.specs.declared.WordStep.{WordStep}
 use Rattle.model.specs.declared.Moved.{Moved}
 use Rattle.model.specs.Tables.{bank_at, help_at, put_x, put_bank, put_help, next, helped}
@@ -49,13 +47,13 @@ restored b i j out = (put_back b i j out.0, out.1)
 
 -- What a line makes of the one item that it touches ("A step makes one access"): the other places stay as they were
 -- taken.
-abbrev pub after_x : Taken → XStep → Stepped
+abbrev pub after_x : Taken → LineStep XPlace → Stepped
 after_x t s = record { taken = record { x = s.place; bank = t.bank; help = t.help }; process = s.process; reply = s.reply }
 
-abbrev pub after_bank : Taken → BankStep → Stepped
+abbrev pub after_bank : Taken → LineStep BankPlace → Stepped
 after_bank t s = record { taken = record { x = t.x; bank = s.place; help = t.help }; process = s.process; reply = Accepted }
 
-abbrev pub after_help : Taken → HelpStep → Stepped
+abbrev pub after_help : Taken → LineStep HelpPlace → Stepped
 after_help t s = record { taken = record { x = t.x; bank = t.bank; help = s.place }; process = s.process; reply = Accepted }
 
 -- a word is no part of the three places

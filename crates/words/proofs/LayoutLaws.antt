@@ -1,10 +1,9 @@
 -- The layout of one record alone, and places in any layout.
 use mathlib.Core.Path.{◌≡◌, ap, fun_ext}
-use Prim.Native.Nat.{ℕ, ◌+◌, ◌*◌, ◌≤◌, ◌<◌}
-use native.Mathlib.Nat.{mul-le-mul}
+use Prim.Native.Nat.{ℕ, ◌+◌, ◌*◌, ◌≤◌}
 use native.Mathlib.Omega.{arith}
 use Rattle.model.specs.Sizes.{buffers}
-use Rattle.model.specs.Words.{Layout, one_record}
+use Rattle.model.specs.Words.{one_record}
 use Rattle.words.specs.Layouts.{layout_from, one_rows, Few}
 
 pub one_layout : (n : ℕ) → layout_from (one_rows n) ≡ one_record n
@@ -14,7 +13,3 @@ one_layout n =
 
 pub one_few : (n : ℕ) → n ≤ 16 → Few (one_rows n)
 one_few n h = record { buffers_few = omega arith; returns_few = omega arith; offers_few = omega arith }
-
--- a place of a row up to 655 fits a machine number
-pub fits_in : {r w k : ℕ} → r ≤ 655 → w ≤ 64 → k < 64 → r * w + k < 42048
-fits_in {r} {w} {k} hr hw hk = omega (arith, mul-le-mul hr hw)

@@ -1,7 +1,7 @@
 -- Places in the lent words.
 use mathlib.Core.Path.{◌≡◌}
 use Prim.Native.Nat.{ℕ, suc, ◌+◌, ◌*◌, ◌≤◌, ◌<◌}
-use native.Mathlib.Nat.{mul-le-mul, mul-le-mul_right, suc-mul}
+use native.Mathlib.Nat.{mul-le-mul_right, suc-mul}
 use native.Mathlib.Omega.{arith}
 
 -- word k of row b lies within c rows
@@ -15,7 +15,3 @@ lies n {b} {k} {w} {l} hb hk hl = omega (arith, within {b = b} {c = 5 * n} hb hk
 -- and so is a whole row
 pub row_lies : (n : ℕ) {r k w l : ℕ} → r < 5 * n → k ≡ w → 5 * n * w ≤ l → r * w + 0 + k ≤ l
 row_lies n {r} {k} {w} {l} hr hk hl = omega (arith, mul-le-mul_right {m = suc r} {n = 5 * n} w hr, suc-mul r w)
-
--- a place of a row up to 319 fits a machine number
-pub fits : {r w k : ℕ} → r ≤ 319 → w ≤ 64 → k < 64 → r * w + k < 20544
-fits {r} {w} {k} hr hw hk = omega (arith, mul-le-mul hr hw)

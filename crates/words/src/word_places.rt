@@ -1,17 +1,18 @@
-// The lent words: 5N rows of W words. Rows 0 to 3N-1 are BUF, row 3N+p is the return area of p, row 4N+p its offer
-// area.
+// The lent words of one record alone: 5N rows of W words. Rows 0 to 3N-1 are BUF, row 3N+p is the return area of p, row
+// 4N+p its offer area.
 ghost use Rattle.std.specs.Prelude.{◌≡◌, ◌+◌, ◌*◌, ◌<◌, ◌≤◌, length};
 ghost use Rattle.model.specs.Words.{buffer_word, return_word, offer_word, half, with_half, copied_half};
 
+use crate::layouts::{FirstRows, word_of_row};
 use llsc::ProcessNumber;
-use model::{BufferNumber, sizes};
+use model::BufferNumber;
 
 // Where word k of BUF[b] lies.
 pub fn buffer_word(w: usize, b: BufferNumber, k: usize) -> usize
     requires { (w ≤ 64) × (k < 64) }
     ensures { result ≡ buffer_word w b k }
 {
-    (b.0 as usize) * w + k
+    word_of_row(b.0 as usize, w, k)
 }
 
 // Where word k of p's return area lies.
@@ -19,7 +20,7 @@ pub fn return_word(n: usize, w: usize, p: ProcessNumber, k: usize) -> usize
     requires { (n ≤ 16) × ((w ≤ 64) × (k < 64)) }
     ensures { result ≡ return_word n w p k }
 {
-    (sizes::buffers(n) + p.0 as usize) * w + k
+    FirstRows::one_record(n).return_in(w, p, k)
 }
 
 // Where word k of p's offer area lies.
@@ -27,7 +28,7 @@ pub fn offer_word(n: usize, w: usize, p: ProcessNumber, k: usize) -> usize
     requires { (n ≤ 16) × ((w ≤ 64) × (k < 64)) }
     ensures { result ≡ offer_word n w p k }
 {
-    (sizes::rows_before_offers(n) + p.0 as usize) * w + k
+    FirstRows::one_record(n).offer_in(w, p, k)
 }
 
 // How many values a half word has.
@@ -38,9 +39,10 @@ pub fn half(k: usize, v: u64) -> u64
     ensures { result ≡ half k v }
 {
     if k % 2 == 0 {
-        return v % HALF_VALUES;
+        v % HALF_VALUES
+    } else {
+        v / HALF_VALUES
     }
-    v / HALF_VALUES
 }
 
 // The word v with the half of place k taken from u.
@@ -48,9 +50,10 @@ pub fn with_half(k: usize, u: u64, v: u64) -> u64
     ensures { result ≡ with_half k u v }
 {
     if k % 2 == 0 {
-        return v / HALF_VALUES * HALF_VALUES + u % HALF_VALUES;
+        v / HALF_VALUES * HALF_VALUES + u % HALF_VALUES
+    } else {
+        u / HALF_VALUES * HALF_VALUES + v % HALF_VALUES
     }
-    u / HALF_VALUES * HALF_VALUES + v % HALF_VALUES
 }
 
 // One half of a word is copied. Both words are places that the functions above give.

@@ -7,11 +7,7 @@ pub fn copy_in(words: &mut [u64], at: usize, value: &[u64])
     requires { at + length value.now ≤ length words.old }
     ensures { words.new ≡ sets words.old at value.now }
 {
-    let mut k = 0;
-    while k < value.len() {
-        words[at + k] = value[k];
-        k += 1;
-    }
+    words[at..at + value.len()].copy_from_slice(value);
 }
 
 // One number from one place to before another: the zeros of the set-up, and the offer of an SC in a text, "k in all W
@@ -20,9 +16,5 @@ pub fn fill(words: &mut [u64], from: usize, to: usize, number: u64)
     requires { (from ≤ to) × (to ≤ length words.old) }
     ensures { words.new ≡ sets words.old from (replicate (to - from) number) }
 {
-    let mut k = from;
-    while k < to {
-        words[k] = number;
-        k += 1;
-    }
+    words[from..to].fill(number);
 }

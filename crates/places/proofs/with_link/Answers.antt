@@ -3,9 +3,6 @@ use mathlib.Core.Path.{sym, ◌∙◌}
 use Rattle.model.proofs.LinkLaws.{added_below, one_shifted}
 use Rattle.places.proofs.with_link.Goals as goal
 
-pub returns-then-is_linked : goal.returns-then-is_linked
-returns-then-is_linked c = simp (sym c.is_linked.ensures ∙ c.if-is_linked.true)
-
 pub overflow_add-result : goal.overflow_add-result
 overflow_add-result c = let a = c.args in
     record { fits = rw (one_shifted a.p.0 16 c.requires) (added_below a.links a.p 16 c.requires c.ranges.links.fits (sym c.is_linked.ensures ∙ c.if-is_linked.false)) }
