@@ -5,7 +5,8 @@ use mathlib.Core.List.{List, [], ◌∷◌, ◌++◌}
 use Prim.Native.Nat.{ℕ}
 use Rattle.verdicts.specs.declared.Verdict.{Verdict}
 use Rattle.verdicts.specs.declared.Verdict.TheVariants.{Refused, Yes, No}
-use Rattle.verdicts.specs.Verdicts.{earns_yes, log_refusal, judged}
+use Rattle.llsc.specs.declared.refusals.Refusal.TheVariants.{NoSuchProcess, ValueNotWWords}
+use Rattle.verdicts.specs.Verdicts.{earns_yes, log_checked, judged}
 
 abbrev said : List ℕ → Verdict
 said log = judged 2 3 (5 ∷ 6 ∷ 7 ∷ []) log
@@ -27,15 +28,15 @@ record Words : Type 0 where
   words_of_a_vl : said (written 0 ++ 0 ∷ 3 ∷ 50 ∷ 60 ∷ 0 ∷ 60 ∷ 1 ∷ 2 ∷ 3 ∷ []) ≡ Yes
 
 words : Words
-unfolding written seen judged log_refusal earns_yes
+unfolding written seen judged log_checked earns_yes
 words = record { all_three = refl; first_differs = refl; second_differs = refl; last_differs = refl; truth_of_an_ll = refl; words_of_a_vl = refl }
 
 -- a last call of eight numbers; of seven, which would be whole where W is 1; of its process alone, which is none of two
 record Cut : Type 0 where
-  eight_numbers : said (written 0 ++ seen (8 ∷ 9 ∷ [])) ≡ Refused 8
-  seven_numbers : said (written 0 ++ seen (8 ∷ [])) ≡ Refused 8
-  process_alone : said (written 0 ++ 2 ∷ []) ≡ Refused 4
+  eight_numbers : said (written 0 ++ seen (8 ∷ 9 ∷ [])) ≡ Refused ValueNotWWords
+  seven_numbers : said (written 0 ++ seen (8 ∷ [])) ≡ Refused ValueNotWWords
+  process_alone : said (written 0 ++ 2 ∷ []) ≡ Refused NoSuchProcess
 
 cut : Cut
-unfolding written seen judged log_refusal earns_yes
+unfolding written seen judged log_checked earns_yes
 cut = record { eight_numbers = refl; seven_numbers = refl; process_alone = refl }

@@ -1,31 +1,38 @@
 -- Why the judge says no, and which call a refusal is about. A call is told by its index in the log, from 0 on.
-use Rattle.std.specs.Prelude.{ℕ, zero, suc, ◌+◌, ◌/◌, List, [], ◌∷◌, Bool, true, false, not, ◌&&◌, cond, eqb, leb, length}
+use Rattle.std.specs.Prelude.{ℕ, zero, suc, ◌+◌, ◌/◌, List, [], ◌∷◌, Bool, not, ◌&&◌, cond, eqb, leb, length}
+use Rattle.std.specs.Prelude.{Option, Some, None, Result, Ok, Err}
 use Rattle.llsc.specs.Answers.{Answer, ll_words, sc_truth, vl_truth}
 use Rattle.llsc.specs.Object.{Object, fresh, tell, feed}
 use Rattle.llsc.specs.Rows.{some}
-use Rattle.verdicts.specs.declared.Reason.{Reason}
+use Rattle.llsc.specs.declared.refusals.Refusal.{Refusal}
+use Rattle.llsc.specs.Refusals.{refusal_number}
+use Rattle.verdicts.specs.declared.Verdict.{Verdict}
+use Rattle.verdicts.specs.declared.Verdict.TheVariants.{Refused as Refused·said, Yes as Yes·said, No as No·said}
+use Rattle.verdicts.specs.declared.Shown.{Shown}
+use Rattle.verdicts.specs.declared.Shown.TheVariants.{Value as Value·shown, WordsOf, Truth}
+use Rattle.verdicts.specs.declared.Fault.{Fault}
+use Rattle.verdicts.specs.declared.Fault.TheVariants.{Unknown, Overlap, Moment, Outside, Answer as Answer·fault, Unled}
+use Rattle.verdicts.specs.declared.Place.{Place}
+use Rattle.verdicts.specs.declared.Place.TheVariants.{Value, Call}
 use Rattle.verdicts.specs.declared.Judgement.{Judgement}
+use Rattle.verdicts.specs.declared.Judgement.TheVariants.{Refused, Yes, No}
 use Rattle.verdicts.specs.Log.{Entry, width, entries, begun}
-use Rattle.verdicts.specs.Verdicts.{kind_of, answer_of, kind_known, apart, differ, inside, truth_told, answers_alike, ll_before, log_refusal, judged}
-
-abbrev pub no_reason : Reason
-no_reason = record { condition = 0; call = 0; other = 0; given = false; truth = false }
+use Rattle.verdicts.specs.Verdicts.{kind_of, answer_of, kind_known, apart, differ, inside, truth_told, answers_alike, ll_before, log_checked}
 
 -- how many entries stand before the first that passes a test: the index of that entry
 abbrev pub first_with : (Entry → Bool) → List Entry → ℕ
 first_with f [] = 0
 first_with f (e ∷ es) = cond (f e) 0 (suc (first_with f es))
 
--- condition c fails at an entry: the first in the log of which f holds is told
-abbrev pub one_at_fault : ℕ → (Entry → Bool) → List Entry → Reason
-one_at_fault c f es = cond (some f es) (record { condition = c; call = first_with f es; other = 0; given = false; truth = false }) no_reason
+-- a condition fails at an entry: the first in the log of which f holds is told
+abbrev pub one_at_fault : (Entry → Bool) → List Entry → Option ℕ
+one_at_fault f es = cond (some f es) (Some (first_with f es)) None
 
--- condition c fails at two entries: the first in the log that is at fault with a later one, and the first of those later
+-- a condition fails at two entries: the first in the log that is at fault with a later one, and the first of those later
 -- ones. The list begins with the call of index k.
-abbrev pub two_at_fault : ℕ → (Entry → Entry → Bool) → ℕ → List Entry → Reason
-two_at_fault c f k [] = no_reason
-two_at_fault c f k (e ∷ es) =
-    cond (some (f e) es) (record { condition = c; call = k; other = suc k + first_with (f e) es; given = false; truth = false }) (two_at_fault c f (suc k) es)
+abbrev pub two_at_fault : (Entry → Entry → Bool) → ℕ → List Entry → Option (ℕ × ℕ)
+two_at_fault f k [] = None
+two_at_fault f k (e ∷ es) = cond (some (f e) es) (Some (k, suc k + first_with (f e) es)) (two_at_fault f (suc k) es)
 
 -- an entry with its index
 pub record Numbered : Type 0 where
@@ -56,25 +63,26 @@ abbrev pub feed_entry : Entry → Object → Object
 feed_entry e o = feed e.process (kind_of e) o
 
 -- where the words stand that the object holds: they are the value given, or those that the SC of this index offered
-pub record Standing : Type 0 where
-  pub given : Bool
-  pub call : ℕ
+abbrev pub Standing : Type 0
+Standing = Option ℕ
 
 abbrev pub in_value : Standing
-in_value = record { given = true; call = 0 }
+in_value = None
 
 -- an SC of a process with its link set writes its words
 abbrev pub writes : Entry → Object → Bool
 writes e o = eqb e.kind 2 && o.link e.process
 
 abbrev pub standing_after : Numbered → Object → Standing → Standing
-standing_after c o s = cond (writes c.entry o) (record { given = false; call = c.index }) s
+standing_after c o s = cond (writes c.entry o) (Some c.index) s
 
 -- condition 5 fails at this call: what the object would have answered it, as where the words stand or as a truth
-abbrev pub object_answers : Numbered → Object → Standing → Reason
-object_answers c o s = cond (eqb c.entry.kind 1)
-    (record { condition = 5; call = c.index; other = s.call; given = s.given; truth = false })
-    (record { condition = 5; call = c.index; other = 0; given = false; truth = o.link c.entry.process })
+abbrev pub words_shown : Standing → Shown
+words_shown None = Value·shown
+words_shown (Some k) = WordsOf k
+
+abbrev pub object_answers : Numbered → Object → Standing → Fault
+object_answers c o s = Answer·fault c.index (cond (eqb c.entry.kind 1) (words_shown s) (Truth (o.link c.entry.process)))
 
 -- what that says of the entry's call: the answer that the object gives
 abbrev pub words_at : ℕ → List Entry → List ℕ
@@ -82,51 +90,89 @@ words_at k [] = []
 words_at zero (e ∷ es) = e.words
 words_at (suc k) (e ∷ es) = words_at k es
 
-abbrev pub answer_told : List ℕ → List Entry → Entry → Reason → Answer
-answer_told value es e r =
-    cond (eqb e.kind 1) (ll_words (cond r.given value (words_at r.other es))) (cond (eqb e.kind 2) (sc_truth r.truth) (vl_truth r.truth))
+abbrev pub answer_told : List ℕ → List Entry → Entry → Shown → Answer
+answer_told value es e Value·shown = ll_words value
+answer_told value es e (WordsOf k) = ll_words (words_at k es)
+answer_told value es e (Truth t) = cond (eqb e.kind 2) (sc_truth t) (vl_truth t)
 
 -- "Figure 1's object .. answers each call alike in moment order": the first call, in the order of the list, that it does
 -- not, and what it answers there
-abbrev pub not_alike : Object → Standing → List Numbered → Reason
-not_alike o s [] = no_reason
-not_alike o s (c ∷ cs) = cond (tells_alike c.entry o) (not_alike (feed_entry c.entry o) (standing_after c o s) cs) (object_answers c o s)
+abbrev pub not_alike : Object → Standing → List Numbered → Option Fault
+not_alike o s [] = None
+not_alike o s (c ∷ cs) =
+    cond (tells_alike c.entry o) (not_alike (feed_entry c.entry o) (standing_after c o s) cs) (Some (object_answers c o s))
 
--- The six of `conditions`, numbered from 1 in the order of the request: what is at fault where one fails.
-abbrev pub reasons : List ℕ → List Entry → List Reason
+-- a call, or two, at fault with a condition
+abbrev pub at_one : (ℕ → Fault) → Option ℕ → Option Fault
+at_one f None = None
+at_one f (Some k) = Some (f k)
+
+abbrev pub at_two : (ℕ → ℕ → Fault) → Option (ℕ × ℕ) → Option Fault
+at_two f None = None
+at_two f (Some ks) = Some (f ks.0 ks.1)
+
+-- The six of `conditions` in the order of the request: what is at fault where one fails.
+abbrev pub reasons : List ℕ → List Entry → List (Option Fault)
 reasons value es =
-    one_at_fault 1 (λ e. not (kind_known e)) es
-    ∷ two_at_fault 2 (λ e f. not (apart e f)) 0 es
-    ∷ two_at_fault 3 (λ e f. not (differ e f)) 0 es
-    ∷ one_at_fault 4 (λ e. not (inside e)) es
+    at_one Unknown (one_at_fault (λ e. not (kind_known e)) es)
+    ∷ at_two Overlap (two_at_fault (λ e f. not (apart e f)) 0 es)
+    ∷ at_two Moment (two_at_fault (λ e f. not (differ e f)) 0 es)
+    ∷ at_one Outside (one_at_fault (λ e. not (inside e)) es)
     ∷ not_alike (fresh value) in_value (numbered_in_order es)
-    ∷ one_at_fault 6 (λ e. not (ll_before es e)) es
+    ∷ at_one Unled (one_at_fault (λ e. not (ll_before es e)) es)
     ∷ []
 
--- the first that fails
-abbrev pub first_reason : List Reason → Reason
-first_reason [] = no_reason
-first_reason (r ∷ rs) = cond (eqb r.condition 0) (first_reason rs) r
+-- one reason, or else another; the first that fails
+abbrev pub or_else : Option Fault → Option Fault → Option Fault
+or_else None r = r
+or_else (Some f) r = Some f
 
-unfoldable pub reason_of_no : List ℕ → List Entry → Reason
+abbrev pub first_reason : List (Option Fault) → Option Fault
+first_reason [] = None
+first_reason (r ∷ rs) = or_else r (first_reason rs)
+
+unfoldable pub reason_of_no : List ℕ → List Entry → Option Fault
 reason_of_no value es = first_reason (reasons value es)
 
--- the call that a refusal is about: the first with a process not below N, or with an answer not after its start
-abbrev pub at_call : ℕ → Reason
-at_call k = record { condition = 0; call = k; other = 0; given = false; truth = false }
+-- a condition's number in the request
+abbrev pub condition_of : Fault → ℕ
+condition_of (Unknown k) = 1
+condition_of (Overlap k j) = 2
+condition_of (Moment k j) = 3
+condition_of (Outside k) = 4
+condition_of (Answer·fault k s) = 5
+condition_of (Unled k) = 6
 
 -- of 8 the value where it is not of W words, else the call that is cut off
-abbrev pub cut_off : ℕ → List ℕ → List ℕ → Reason
-cut_off w value log = cond (eqb (length value) w) (at_call (length log / width w)) (record { condition = 0; call = 0; other = 0; given = true; truth = false })
+abbrev pub cut_off : ℕ → List ℕ → List ℕ → Place
+cut_off w value log = cond (eqb (length value) w) (Call (length log / width w)) Value
 
-abbrev pub refused_at : ℕ → ℕ → ℕ → List ℕ → List ℕ → Reason
+-- what a refusal is about, by its number: the first call with a process not below N, or with an answer not after its start
+abbrev pub refused_at : ℕ → ℕ → ℕ → List ℕ → List ℕ → Option Place
 refused_at c n w value log =
-    cond (eqb c 4) (at_call (first_with (λ (e : Entry). leb n e.process) (begun w log)))
-    (cond (eqb c 8) (cut_off w value log) (cond (eqb c 17) (at_call (first_with (λ (e : Entry). leb e.answer e.start) (entries w log))) no_reason))
-
-unfoldable pub reason_for : ℕ → ℕ → List ℕ → List ℕ → Reason
-reason_for n w value log = cond (eqb (log_refusal n w value log) 0) (reason_of_no value (entries w log)) (refused_at (log_refusal n w value log) n w value log)
+    cond (eqb c 4) (Some (Call (first_with (λ (e : Entry). leb n e.process) (begun w log))))
+    (cond (eqb c 8) (Some (cut_off w value log))
+    (cond (eqb c 17) (Some (Call (first_with (λ (e : Entry). leb e.answer e.start) (entries w log)))) None))
 
 -- verdict and reason
+abbrev pub explained : ℕ → ℕ → List ℕ → List ℕ → Result (Unit {0}) Refusal → Option Fault → Judgement
+explained n w value log (Err r) f = Refused r (refused_at (refusal_number r) n w value log)
+explained n w value log (Ok _) None = Yes
+explained n w value log (Ok _) (Some f) = No f
+
 abbrev pub judged_with_reason : ℕ → ℕ → List ℕ → List ℕ → Judgement
-judged_with_reason n w value log = record { verdict = judged n w value log; reason = reason_for n w value log }
+judged_with_reason n w value log = explained n w value log (log_checked n w value log) (reason_of_no value (entries w log))
+
+-- its two parts: the verdict (`verdict_of_reason`, proofs/ReasonLaws, says that it is `judged`), and the reason of a no
+abbrev pub verdict_of : Judgement → Verdict
+verdict_of (Refused r at) = Refused·said r
+verdict_of Yes = Yes·said
+verdict_of (No f) = No·said
+
+abbrev pub reason_given : Judgement → Option Fault
+reason_given (Refused r at) = None
+reason_given Yes = None
+reason_given (No f) = Some f
+
+abbrev pub reason_for : ℕ → ℕ → List ℕ → List ℕ → Option Fault
+reason_for n w value log = reason_given (judged_with_reason n w value log)

@@ -1,23 +1,28 @@
 -- What the judge says of a log (02, CR 1).
 use Rattle.std.specs.Prelude.{◌≡◌, ℕ, ◌%◌, List, [], ◌∷◌, map, Bool, true, false, not, ◌&&◌, ◌||◌, cond, eqb, ltb, leb, length}
+use Rattle.std.specs.Prelude.{Result, Ok, Err}
 use Rattle.llsc.specs.Answers.{Answer, ll_words, sc_truth, vl_truth}
 use Rattle.llsc.specs.Object.{Kind, ll, sc, vl, fresh, serve}
 use Rattle.llsc.specs.History.{Call}
 use Rattle.llsc.specs.Linearizable.{Timed, in_moment_order, fed}
 use Rattle.llsc.specs.Rows.{Row, first, every, some, between, row1, row2}
+use Rattle.llsc.specs.declared.refusals.Refusal.{Refusal}
+use Rattle.llsc.specs.declared.refusals.Refusal.TheVariants.{NOutOfRange, WOutOfRange, NoSuchProcess, ValueNotWWords}
+use Rattle.llsc.specs.declared.refusals.Refusal.TheVariants.{TooManyCalls, AnswerNotAfterStart}
+use Rattle.llsc.specs.Refusals.{refusal_number, number_told}
 use Rattle.verdicts.specs.declared.Verdict.{Verdict}
 use Rattle.verdicts.specs.declared.Verdict.TheVariants.{Refused, Yes, No}
 use Rattle.verdicts.specs.Log.{Entry, width, entries, begun}
 
 -- the number of a refusal, 0 for none
 abbrev pub number_of : Verdict → ℕ
-number_of (Refused c) = c
+number_of (Refused r) = refusal_number r
 number_of Yes = 0
 number_of No = 0
 
 -- whether "It says yes"
 abbrev pub says_yes : Verdict → Bool
-says_yes (Refused c) = false
+says_yes (Refused r) = false
 says_yes Yes = true
 says_yes No = false
 
@@ -139,12 +144,36 @@ log_rows n w value log = row1 n ∷ row2 w ∷ row4log n (begun w log) ∷ row8l
 unfoldable pub log_refusal : ℕ → ℕ → List ℕ → List ℕ → ℕ
 log_refusal n w value log = first (log_rows n w value log)
 
+-- the same by name: the first cause that holds, a row's truth beside its name
+abbrev pub first_cause : List (Bool × Refusal) → Result (Unit {0}) Refusal
+first_cause [] = Ok tt
+first_cause (c ∷ cs) = cond c.0 (Err c.1) (first_cause cs)
+
+abbrev pub log_causes : ℕ → ℕ → List ℕ → List ℕ → List (Bool × Refusal)
+log_causes n w value log =
+    ((row1 n).holds, NOutOfRange)
+    ∷ ((row2 w).holds, WOutOfRange)
+    ∷ ((row4log n (begun w log)).holds, NoSuchProcess)
+    ∷ ((row8log w value log).holds, ValueNotWWords)
+    ∷ ((row16 (entries w log)).holds, TooManyCalls)
+    ∷ ((row17 (entries w log)).holds, AnswerNotAfterStart)
+    ∷ []
+
+unfoldable pub log_checked : ℕ → ℕ → List ℕ → List ℕ → Result (Unit {0}) Refusal
+log_checked n w value log = first_cause (log_causes n w value log)
+
+-- refused for a cause, or else what the log earns
+abbrev pub said_of : Result (Unit {0}) Refusal → Bool → Verdict
+said_of (Ok _) earned = cond earned Yes No
+said_of (Err r) earned = Refused r
+
 -- What is said of the log: N, W, the value with which the object begins, and the log's numbers.
 unfoldable pub judged : ℕ → ℕ → List ℕ → List ℕ → Verdict
-judged n w value log = cond (eqb (log_refusal n w value log) 0) (cond (earns_yes value (entries w log)) Yes No) (Refused (log_refusal n w value log))
+judged n w value log = said_of (log_checked n w value log) (earns_yes value (entries w log))
 
 -- What is promised of a verdict's number and word: the first row that holds, 0 for none; and "It says yes exactly when" no
 -- row and all six conditions hold. Proved in `proofs/VerdictLaws`.
 pub record VerdictSays (n w : ℕ) (value log : List ℕ) : Type 0 where
+  pub checked : number_told (log_checked n w value log) ≡ log_refusal n w value log
   pub number : number_of (judged n w value log) ≡ log_refusal n w value log
   pub yes : says_yes (judged n w value log) ≡ (eqb (log_refusal n w value log) 0 && earns_yes value (entries w log))
