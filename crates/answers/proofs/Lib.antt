@@ -1,9 +1,9 @@
 pub mod Examples
-pub mod PlaceLaws
+pub mod ChoiceLaws
 pub mod NumberLaws
-pub mod LineLaws
 pub mod Sound
 pub mod Complete
 pub mod SumLaws
 pub mod WholeLaws
+pub mod RestLaws
 pub mod Theorems

@@ -1,16 +1,18 @@
--- Laws of the readers of numbers and of expected bytes, over places.
-use Prim.Native.Nat.{ℕ, ◌+◌, ◌-◌, ◌*◌, ◌≤◌, ◌<◌}
+-- Laws of the readers of numbers and of expected bytes, for each way that the code goes.
+use Prim.Native.Nat.{ℕ, zero, suc, ◌+◌, ◌-◌, ◌*◌, ◌≤◌, ◌<◌}
 use mathlib.Core.Path.{◌≡◌, refl, sym, ap, ◌∙◌}
-use mathlib.Core.List.{List, ◌∷◌}
+use mathlib.Core.List.{List, [], ◌∷◌}
 use mathlib.Core.Bool.{Bool, true, false, ◌&&◌, true≢false}
 use native.Mathlib.Omega.{arith}
 use borrow.Author.Tests.{le-leb, lt-leb, eq-eqb, ne_eqb, leb-true}
 use lib.Dec.{leb}
-use lib.ListN.{length, get_or, drop}
+use native.Mathlib.Numerals.{add-one}
+use lib.ListN.{length, get_or, take, drop, drop_of_length-le}
+use lib.Seq.{drop-cons}
 use Rattle.listing.specs.Lines.{space}
 use Rattle.answers.specs.Shape.{largest}
-use Rattle.answers.specs.Readers.{is_digit, Got, none, number_missing, digits_after, number_in, spaced_number, Passed, expected}
-use Rattle.answers.proofs.PlaceLaws.{first_at, rest_at, split, ended}
+use Rattle.answers.specs.Readers.{first, is_digit, number_missing, digits_after, number_in, spaced_number, words_in, expected}
+use Rattle.std.proofs.lemmas.List.{take_rest}
 
 pub below_digits : (c : ℕ) → c < 48 → is_digit c ≡ false
 below_digits c h = ap (λ (t : Bool). t && leb c 57) (lt-leb 48 c h)
@@ -48,82 +50,114 @@ module _ (v c : ℕ) (cs : List ℕ) where
   unfolding digits_after
   one_more e z h = simp (e, ne_eqb v 0 z, le-leb more largest h)
 
--- the loop over digits: what the bytes from `next` on make of v is what was asked for
-module _ (bs : List ℕ) (next v : ℕ) (g : Got) (h : next < length bs) (i : digits_after v (drop next bs) ≡ g) where
-  abbrev c : ℕ
-  c = get_or bs next 0
+-- a text behind its first byte, as a pattern has it
+abbrev pub behind : List ℕ → List ℕ
+behind bs = take (length bs - 1) (drop 1 bs)
 
-  abbrev cs : List ℕ
-  cs = drop (next + 1) bs
+pub behind_is : (bs : List ℕ) → behind bs ≡ drop 1 bs
+behind_is bs = take_rest bs 1
 
-  cut : digits_after v (drop next bs) ≡ digits_after v (c ∷ cs)
-  cut = ap (digits_after v) (split bs next h)
+-- an empty text begins with no byte that is looked for
+pub no_byte : (bs : List ℕ) → length bs < 1 → first bs ≡ 0
+no_byte [] h = refl
+no_byte (c ∷ cs) h = absurd (omega arith)
 
-  abbrev got : ℕ → List ℕ → Got
-  got x r = record { value = x; rest = r }
+pub no_digit : (bs : List ℕ) → length bs < 1 → is_digit (first bs) ≡ false
+no_digit [] h = refl
+no_digit (c ∷ cs) h = absurd (omega arith)
 
-  back : (x : ℕ) → got x (drop next bs) ≡ got x (c ∷ cs)
-  back x = ap (got x) (split bs next h)
+module _ (v : ℕ) (bs : List ℕ) where
+  pub digits_end : is_digit (first bs) ≡ false → digits_after v bs ≡ record { value = v; rest = bs }
+  unfolding digits_after
+  digits_end = pick bs
+    where
+      pick : (xs : List ℕ) → is_digit (first xs) ≡ false → digits_after v xs ≡ record { value = v; rest = xs }
+      pick [] e = refl
+      pick (c ∷ cs) e = no_more v c cs e
 
-  pub stops : is_digit c ≡ false → record { value = v; rest = drop next bs } ≡ g
-  stops e = back v ∙ sym (cut ∙ no_more v c cs e) ∙ i
+  pub digit_after_0 : is_digit (first bs) ≡ true → v ≡ 0 → digits_after v bs ≡ number_missing bs
+  digit_after_0 = pick bs
+    where
+      pick : (xs : List ℕ) → is_digit (first xs) ≡ true → v ≡ 0 → digits_after v xs ≡ number_missing xs
+      pick [] e z = absurd (true≢false (sym e))
+      pick (c ∷ cs) e z = leading_zero v c cs e z
 
-  pub zero_stops : is_digit c ≡ true → v ≡ 0 → number_missing (drop next bs) ≡ g
-  zero_stops e z = back none ∙ sym (cut ∙ leading_zero v c cs e z) ∙ i
+  pub digit_too_many : is_digit (first bs) ≡ true → (v ≡ 0 → ⊥) → largest < v * 10 + (first bs - 48)
+      → digits_after v bs ≡ number_missing bs
+  digit_too_many = pick bs
+    where
+      pick : (xs : List ℕ) → is_digit (first xs) ≡ true → (v ≡ 0 → ⊥) → largest < v * 10 + (first xs - 48)
+          → digits_after v xs ≡ number_missing xs
+      pick [] e z h = absurd (true≢false (sym e))
+      pick (c ∷ cs) e z h = too_large v c cs e z h
 
-  pub large_stops : is_digit c ≡ true → (v ≡ 0 → ⊥) → largest < v * 10 + (c - 48) → number_missing (drop next bs) ≡ g
-  large_stops e z k = back none ∙ sym (cut ∙ too_large v c cs e z k) ∙ i
+  pub digit_on : is_digit (first bs) ≡ true → (v ≡ 0 → ⊥) → v * 10 + (first bs - 48) ≤ largest
+      → digits_after v bs ≡ digits_after (v * 10 + (first bs - 48)) (behind bs)
+  digit_on e z h = pick bs e z h ∙ ap (digits_after (v * 10 + (first bs - 48))) (sym (behind_is bs))
+    where
+      pick : (xs : List ℕ) → is_digit (first xs) ≡ true → (v ≡ 0 → ⊥) → v * 10 + (first xs - 48) ≤ largest
+          → digits_after v xs ≡ digits_after (v * 10 + (first xs - 48)) (drop 1 xs)
+      pick [] e z h = absurd (true≢false (sym e))
+      pick (c ∷ cs) e z h = one_more v c cs e z h
 
-  pub goes_on : is_digit c ≡ true → (v ≡ 0 → ⊥) → v * 10 + (c - 48) ≤ largest
-      → digits_after (v * 10 + (c - 48)) (drop (next + 1) bs) ≡ g
-  goes_on e z k = sym (cut ∙ one_more v c cs e z k) ∙ i
-
-pub digits_end : (bs : List ℕ) (next v : ℕ) (g : Got) → length bs ≤ next → digits_after v (drop next bs) ≡ g
-    → record { value = v; rest = drop next bs } ≡ g
-unfolding digits_after
-digits_end bs next v g h i = ap (λ (r : List ℕ). record { value = v; rest = r }) (ended bs next h)
-    ∙ sym (ap (digits_after v) (ended bs next h)) ∙ i
-
-module _ (bs : List ℕ) (at : ℕ) where
-  pub no_number : is_digit (get_or bs at 0) ≡ false → number_missing (drop at bs) ≡ number_in (drop at bs)
+module _ (bs : List ℕ) where
+  pub no_number : is_digit (first bs) ≡ false → number_in bs ≡ number_missing bs
   unfolding number_in
-  no_number e = simp (first_at bs at, e)
+  no_number e = simp e
 
-  pub number_from_is : is_digit (get_or bs at 0) ≡ true
-      → digits_after (get_or bs at 0 - 48) (drop (at + 1) bs) ≡ number_in (drop at bs)
+  pub number_from_is : is_digit (first bs) ≡ true → number_in bs ≡ digits_after (first bs - 48) (behind bs)
   unfolding number_in
-  number_from_is e = simp (first_at bs at, e, rest_at bs at)
+  number_from_is e = simp (e, behind_is bs)
 
-  pub no_space : (get_or bs at 0 ≡ space → ⊥) → number_missing (drop at bs) ≡ spaced_number (drop at bs)
+  pub no_space : (first bs ≡ space → ⊥) → spaced_number bs ≡ number_missing bs
   unfolding spaced_number
-  no_space h = simp (first_at bs at, ne_eqb (get_or bs at 0) space h)
+  no_space h = simp (ne_eqb (first bs) space h)
 
-  pub after_space : get_or bs at 0 ≡ space → number_in (drop (at + 1) bs) ≡ spaced_number (drop at bs)
+  pub after_space : first bs ≡ space → spaced_number bs ≡ number_in (behind bs)
   unfolding spaced_number
-  after_space h = simp (first_at bs at, eq-eqb (get_or bs at 0) space h, rest_at bs at)
+  after_space h = simp (eq-eqb (first bs) space h, behind_is bs)
 
--- the loop over expected bytes: what stands from `next` on is held against what is left of the word
-module _ (bs ks : List ℕ) (next i : ℕ) (p : Passed) (k : i < length ks) (e : expected (drop i ks) (drop next bs) ≡ p) where
-  abbrev wrong_at : List ℕ → Passed
-  wrong_at r = record { right = false; rest = r }
+-- the loop over expected bytes: the text is held against what is left of the word
+module _ (ks : List ℕ) (i : ℕ) (k : i < length ks) where
+  pub word_cut : drop i ks ≡ get_or ks i 0 ∷ drop (i + 1) ks
+  word_cut = drop-cons ks i 0 k ∙ ap (λ (j : ℕ). get_or ks i 0 ∷ drop j ks) (sym (add-one i))
 
-  pub missing : length bs ≤ next → wrong_at (drop next bs) ≡ p
+  pub missing : (bs : List ℕ) → length bs < 1 → expected (drop i ks) bs ≡ record { right = false; rest = bs }
   unfolding expected
-  missing h = ap wrong_at (ended bs next h)
-      ∙ sym (ap (λ (x : List ℕ). expected x (drop next bs)) (split ks i k) ∙ ap (expected (get_or ks i 0 ∷ drop (i + 1) ks)) (ended bs next h)) ∙ e
+  missing [] h = ap (λ (x : List ℕ). expected x []) word_cut
+  missing (c ∷ cs) h = absurd (omega arith)
 
-  both : next < length bs → expected (drop i ks) (drop next bs) ≡ expected (get_or ks i 0 ∷ drop (i + 1) ks) (get_or bs next 0 ∷ drop (next + 1) bs)
-  both h = ap (λ (x : List ℕ). expected x (drop next bs)) (split ks i k) ∙ ap (expected (get_or ks i 0 ∷ drop (i + 1) ks)) (split bs next h)
-
-  pub differs : next < length bs → (get_or bs next 0 ≡ get_or ks i 0 → ⊥) → wrong_at (drop next bs) ≡ p
+  pub differs : (bs : List ℕ) → 1 ≤ length bs → (first bs ≡ get_or ks i 0 → ⊥)
+      → expected (drop i ks) bs ≡ record { right = false; rest = bs }
   unfolding expected
-  differs h d = ap wrong_at (split bs next h) ∙ sym (both h ∙ simp (ne_eqb (get_or bs next 0) (get_or ks i 0) d)) ∙ e
+  differs [] h d = absurd (omega arith)
+  differs (c ∷ cs) h d = ap (λ (x : List ℕ). expected x (c ∷ cs)) word_cut ∙ simp (ne_eqb c (get_or ks i 0) d)
 
-  pub agrees : next < length bs → get_or bs next 0 ≡ get_or ks i 0 → expected (drop (i + 1) ks) (drop (next + 1) bs) ≡ p
+  pub agrees : (bs : List ℕ) → 1 ≤ length bs → first bs ≡ get_or ks i 0
+      → expected (drop i ks) bs ≡ expected (drop (i + 1) ks) (behind bs)
   unfolding expected
-  agrees h d = sym (both h ∙ simp (eq-eqb (get_or bs next 0) (get_or ks i 0) d)) ∙ e
+  agrees [] h d = absurd (omega arith)
+  agrees (c ∷ cs) h d = ap (λ (x : List ℕ). expected x (c ∷ cs)) word_cut
+      ∙ simp (eq-eqb c (get_or ks i 0) d, behind_is (c ∷ cs))
 
-pub word_end : (bs ks : List ℕ) (next i : ℕ) (p : Passed) → length ks ≤ i → expected (drop i ks) (drop next bs) ≡ p
-    → record { right = true; rest = drop next bs } ≡ p
+pub word_end : (ks : List ℕ) (i : ℕ) (bs : List ℕ) → length ks ≤ i → expected (drop i ks) bs ≡ record { right = true; rest = bs }
 unfolding expected
-word_end bs ks next i p h e = sym (ap (λ (x : List ℕ). expected x (drop next bs)) (ended ks i h)) ∙ e
+word_end ks i bs h = ap (λ (x : List ℕ). expected x bs) (drop_of_length-le ks h)
+
+-- the loop over words: k of them are left
+pub no_word : (k : ℕ) (bs : List ℕ) {rest : List ℕ} → 0 < k → spaced_number bs ≡ number_missing rest
+    → words_in k bs ≡ record { right = false; rest = rest }
+unfolding words_in
+no_word zero bs h e = absurd (omega arith)
+no_word (suc k) bs h e = simp e
+
+pub word_more : (k : ℕ) (bs : List ℕ) {v : ℕ} {rest : List ℕ} → 0 < k → v ≤ largest → spaced_number bs ≡ record { value = v; rest = rest }
+    → words_in k bs ≡ words_in (k - 1) rest
+unfolding words_in
+word_more zero bs h q e = absurd (omega arith)
+word_more (suc k) bs {v} {rest} h q e = simp (e, le-leb v largest q) (ap (λ (x : ℕ). words_in x rest) (omega arith))
+
+pub words_end : (k : ℕ) (bs : List ℕ) → k ≤ 0 → words_in k bs ≡ record { right = true; rest = bs }
+unfolding words_in
+words_end zero bs h = refl
+words_end (suc k) bs h = absurd (omega arith)

@@ -1,20 +1,18 @@
 -- Laws of the loop over a listing's lines.
-use Prim.Native.Nat.{ℕ, zero, suc, ◌+◌, ◌*◌, ◌≤◌, ◌<◌}
+use Prim.Native.Nat.{ℕ, zero, suc, ◌+◌, ◌-◌, ◌*◌, ◌≤◌, ◌<◌}
 use mathlib.Core.Path.{◌≡◌, refl, sym, ap, subst, ◌∙◌}
 use mathlib.Core.List.{List, [], ◌∷◌, ◌++◌}
 use mathlib.Core.Bool.{Bool, true, false, cond}
 use native.Mathlib.Omega.{arith}
-use lib.ListN.{length, length-append, length-drop, get_or, set, drop}
+use lib.ListN.{length, length-append, get_or, set}
 use Rattle.listing.specs.Decimal.{decimal}
 use Rattle.listing.specs.Lines.{space, answer_head, words_of, ll_line, truth, truth_line}
 use Rattle.answers.specs.declared.Sum.{Sum}
-use Rattle.answers.specs.declared.Line.{Line}
-use Rattle.answers.specs.declared.Spot.{Spot}
+use Rattle.answers.specs.declared.Gain.{Gain}
 use Rattle.answers.specs.Shape.{largest, Answer, ll, sc, vl, line_of, Fits, ll_fits, sc_fits, vl_fits}
 use Rattle.answers.specs.Gains.{no_sum, plus, bit, gain_of, process_of, tally}
-use Rattle.answers.specs.Readers.{first, is_digit, Passed, Told, answer_in, last_in, lines_in, listing_in, told_at, GivesSpot, GivesLine, GivesReading}
+use Rattle.answers.specs.Readers.{first, is_digit, Passed, Told, Read, answer_in, last_in, strange, lines_in, listing_in}
 use Rattle.answers.specs.Ranges.{Below, AllBelow, Readable}
-use Rattle.answers.proofs.PlaceLaws.{first_at}
 use Rattle.answers.proofs.SumLaws.{tally_below, weaker}
 use Rattle.answers.proofs.Sound.{answer_sound}
 
@@ -93,76 +91,56 @@ module _ (n w : ℕ) (few : n ≤ 16) (l : List Sum) (bs : List ℕ) where
   unfolding listing_in lines_in
   last_line d = simp (d)
 
--- the loop: what is left from `at` on, on top of the sums so far, is the whole listing on top of the first ones
-pub record Going (n w : ℕ) (l₀ : List Sum) (bs : List ℕ) (l : List Sum) (at : ℕ) (more : Bool) : Type 0 where
-  pub same : listing_in n w l (drop at bs) ≡ listing_in n w l₀ bs
-  pub within : at ≤ length bs
-  pub below : AllBelow n (72057594037927935 + at * largest) l
-  pub digit : more ≡ is_digit (get_or bs at 0)
+-- the loop: the rest of the listing, on top of the sums so far, is the whole listing on top of the first ones
+pub record Going (n w : ℕ) (l₀ : List Sum) (bs : List ℕ) (l : List Sum) (rest : List ℕ) : Type 0 where
+  pub same : listing_in n w l rest ≡ listing_in n w l₀ bs
+  pub within : length rest ≤ length bs
+  pub below : AllBelow n (72057594037927935 + (length bs - length rest) * largest) l
 
-pub going_start : (n w : ℕ) (l : List Sum) (bs : List ℕ) (more : Bool) → Readable n l bs → more ≡ is_digit (get_or bs 0 0) → Going n w l bs l 0 more
-going_start n w l bs more h d = record {
+pub going_start : (n w : ℕ) (l : List Sum) (bs : List ℕ) → Readable n l bs → Going n w l bs l bs
+going_start n w l bs h = record {
   same = refl;
   within = omega arith;
-  below = weaker n 72057594037927935 (72057594037927935 + 0 * largest) l (omega arith) h.below;
-  digit = d;
+  below = weaker n 72057594037927935 (72057594037927935 + (length bs - length bs) * largest) l (omega arith) h.below;
 }
 
-starts : {n w : ℕ} {l₀ : List Sum} {bs : List ℕ} {l : List Sum} {at : ℕ} {more t : Bool}
-    → Going n w l₀ bs l at more → more ≡ t → is_digit (first (drop at bs)) ≡ t
-starts {bs = bs} {at = at} g e = ap is_digit (first_at bs at) ∙ sym g.digit ∙ e
+-- the first wrong byte begins r
+abbrev pub StopsAt : List ℕ → Read → Type 0
+StopsAt r a = (a.right ≡ false) × (a.rest ≡ r)
 
--- where no digit stands, the last line is read
-pub ends : {n w : ℕ} {l₀ : List Sum} {bs : List ℕ} {l : List Sum} {at : ℕ} {more : Bool} (s : Spot)
-    → Readable n l₀ bs → Going n w l₀ bs l at more → more ≡ false → GivesSpot bs s (last_in (drop at bs))
-    → GivesReading bs (record { right = s.right; each = l; next = s.next }) (listing_in n w l₀ bs)
-ends {n} {w} {l₀} {bs} {l} {at} s h g e f = (
-  ap (λ (p : Passed). record { right = p.right; each = l; rest = p.rest }) f.0
-      ∙ sym (last_line n w h.few l (drop at bs) (starts g e)) ∙ g.same,
-  f.1,
-)
+module _ {n w : ℕ} {l₀ : List Sum} {bs : List ℕ} {l : List Sum} {rest : List ℕ}
+    (h : Readable n l₀ bs) (g : Going n w l₀ bs l rest) where
+  -- where no digit stands, the last line is read
+  pub ends : {s : Passed} → is_digit (first rest) ≡ false → last_in rest ≡ s
+      → listing_in n w l₀ bs ≡ record { right = s.right; each = l; rest = s.rest }
+  ends d e = sym g.same ∙ last_line n w h.few l rest d ∙ ap (λ (s : Passed). record { right = s.right; each = l; rest = s.rest }) e
 
--- a turn of the loop: a digit stands there, and a line is read
-pub record Turn (n w : ℕ) (l₀ : List Sum) (bs : List ℕ) (l : List Sum) (at : ℕ) (more : Bool) (r : Line) : Type 0 where
-  pub readable : Readable n l₀ bs
-  pub going : Going n w l₀ bs l at more
-  pub digit : more ≡ true
-  pub line : GivesLine bs r (answer_in n w (drop at bs))
+  pub ends_wrong : {r : List ℕ} → is_digit (first rest) ≡ false → last_in rest ≡ record { right = false; rest = r }
+      → StopsAt r (listing_in n w l₀ bs)
+  ends_wrong d e = let z = ends d e in (ap (λ (a : Read). a.right) z, ap (λ (a : Read). a.rest) z)
 
-pub turn : {n w : ℕ} {l₀ : List Sum} {bs : List ℕ} {l : List Sum} {at : ℕ} {more : Bool} (r : Line)
-    → Readable n l₀ bs → Going n w l₀ bs l at more → more ≡ true → GivesLine bs r (answer_in n w (drop at bs))
-    → Turn n w l₀ bs l at more r
-turn r h g m e = record { readable = h; going = g; digit = m; line = e }
+  pub stops : {r : List ℕ} → is_digit (first rest) ≡ true → answer_in n w rest ≡ strange r → StopsAt r (listing_in n w l₀ bs)
+  stops d e =
+      let z = sym g.same ∙ no_line n w h.few l rest d (ap (λ (t : Told). t.right) e) in
+      (ap (λ (a : Read). a.right) z, ap (λ (a : Read). a.rest) z ∙ ap (λ (t : Told). t.rest) e)
 
-module _ {n w : ℕ} {l₀ : List Sum} {bs : List ℕ} {l : List Sum} {at : ℕ} {more : Bool} {r : Line} (t : Turn n w l₀ bs l at more r) where
-  few : n ≤ 16
-  few = t.readable.few
+  -- a turn of the loop: a digit stands there, and a line is read
+  module _ (gain : Gain) (more : List ℕ)
+      (e : answer_in n w rest ≡ record { right = true; process = gain.process; gain = gain.sum; rest = more }) where
+    took : Takes n rest (record { right = true; process = gain.process; gain = gain.sum; rest = more })
+    took = subst (Takes n rest) e (takes n w rest h.few (ap (λ (t : Told). t.right) e))
 
-  right_of : {x : Bool} → r.right ≡ x → (answer_in n w (drop at bs)).right ≡ x
-  right_of q = ap (λ (a : Told). a.right) (sym t.line.0) ∙ q
+    pub own : gain.process < 16
+    own = omega (arith, took.process, h.few)
 
-  pub stops : r.right ≡ false → GivesReading bs (record { right = false; each = l; next = r.next }) (listing_in n w l₀ bs)
-  stops q = (
-    ap (λ (a : Told). record { right = false; each = l; rest = a.rest }) t.line.0
-        ∙ sym (no_line n w few l (drop at bs) (starts t.going t.digit) (right_of q)) ∙ t.going.same,
-    t.line.1,
-  )
+    pub further : length more < length rest
+    further = took.shorter
 
-  module _ (q : r.right ≡ true) where
-    took : Takes n (drop at bs) (told_at bs r)
-    took = subst (Takes n (drop at bs)) (sym t.line.0) (takes n w (drop at bs) few (right_of q))
-
-    pub own : r.process < 16
-    own = omega (arith, took.process, few)
-
-    pub further : at < r.next
-    further = omega (arith, took.shorter, length-drop at bs, length-drop r.next bs, t.line.1, t.going.within)
-
-    pub room : Below 9223372036854775807 (get_or l r.process no_sum) × Below 9223372036854775807 r.gain
+    pub room : Below 9223372036854775807 (get_or l gain.process no_sum) × Below 9223372036854775807 gain.sum
     room =
-        let s = t.going.below r.process took.process in
-        let a = t.going.within in
-        let b = t.readable.short in (
+        let s = g.below gain.process took.process in
+        let a = g.within in
+        let b = h.short in (
           record {
             successes = omega (arith, s.successes, a, b);
             scs = omega (arith, s.scs, a, b);
@@ -172,7 +150,7 @@ module _ {n w : ℕ} {l₀ : List Sum} {bs : List ℕ} {l : List Sum} {at : ℕ}
           wider took.gain,
         )
       where
-        wider : {g : Sum} → Below largest g → Below 9223372036854775807 g
+        wider : {k : Sum} → Below largest k → Below 9223372036854775807 k
         wider k = record {
           successes = omega (arith, k.successes);
           scs = omega (arith, k.scs);
@@ -180,17 +158,18 @@ module _ {n w : ℕ} {l₀ : List Sum} {bs : List ℕ} {l : List Sum} {at : ℕ}
           lls = omega (arith, k.lls);
         }
 
-    pub goes : (x : Bool) → x ≡ is_digit (get_or bs r.next 0)
-        → Going n w l₀ bs (set l r.process (plus (get_or l r.process no_sum) r.gain)) r.next x
+    pub goes : is_digit (first rest) ≡ true
+        → Going n w l₀ bs (set l gain.process (plus (get_or l gain.process no_sum) gain.sum)) more
     unfolding tally
-    goes x d =
+    goes d =
         let b : ℕ = 72057594037927935 in
-        let next : List Sum = tally l r.process r.gain in
+        let next : List Sum = tally l gain.process gain.sum in
+        let so_far : ℕ = length bs - length rest in
         record {
-          same = ap (λ (a : Told). listing_in n w (tally l a.process a.gain) a.rest) t.line.0
-              ∙ sym (next_line n w few l (drop at bs) (starts t.going t.digit) (right_of q)) ∙ t.going.same;
-          within = t.line.1;
-          below = weaker n (b + at * largest + largest) (b + r.next * largest) next (omega (arith, further))
-              (tally_below n (b + at * largest) largest l r.process r.gain took.gain t.going.below);
-          digit = d;
+          same = ap (λ (t : Told). listing_in n w (tally l t.process t.gain) t.rest) (sym e)
+              ∙ sym (next_line n w h.few l rest d (ap (λ (t : Told). t.right) e)) ∙ g.same;
+          within = omega (arith, further, g.within);
+          below = weaker n (b + so_far * largest + largest) (b + (length bs - length more) * largest) next
+              (omega (arith, further, g.within))
+              (tally_below n (b + so_far * largest) largest l gain.process gain.sum took.gain g.below);
         }

@@ -1,14 +1,12 @@
 -- A listing read part by part (CR 2, row 18: "answer lines and a last line in 01's shape"). Each part says whether it is
 -- there, and the bytes after it, or from the first wrong byte on: that byte's place is a part of the reply. What is read
 -- to its end is exactly a `Shaped` listing, and gains what its answers add: proofs/Theorems.
-use Rattle.std.specs.Prelude.{ℕ, zero, suc, ◌+◌, ◌-◌, ◌*◌, ◌≤◌, ◌≡◌, List, [], ◌∷◌, Bool, true, false, ◌&&◌, cond, eqb, ltb, leb, length, get_or, drop}
+use Rattle.std.specs.Prelude.{ℕ, zero, suc, ◌+◌, ◌-◌, ◌*◌, ◌≤◌, ◌≡◌, List, [], ◌∷◌, Bool, true, false, ◌&&◌, cond, eqb, ltb, leb, length, get_or, drop, Result, Ok, Err}
+use Rattle.std.specs.Borrow.{Bor}
 use Rattle.listing.specs.Quoted.{quoted, byte}
 use Rattle.listing.specs.Lines.{space, line_feed, letter_l, letter_s, letter_v}
 use Rattle.answers.specs.declared.Sum.{Sum}
-use Rattle.answers.specs.declared.Number.{Number}
-use Rattle.answers.specs.declared.Spot.{Spot}
-use Rattle.answers.specs.declared.Line.{Line}
-use Rattle.answers.specs.declared.Reading.{Reading}
+use Rattle.answers.specs.declared.Gain.{Gain}
 use Rattle.answers.specs.Shape.{largest}
 use Rattle.answers.specs.Gains.{no_sum, ll_gain, sc_gain, tally}
 
@@ -115,12 +113,14 @@ answer_in n w bs =
     let s : Passed = expected (space ∷ []) g.rest in
     cond (ltb g.value n) (cond s.right (by_letter w g.value s.rest) (strange s.rest)) (strange g.rest)
 
--- the last number of the last line, its line feed, and nothing behind it
+-- behind the last number of the last line its line feed, and nothing more
+abbrev pub at_end : List ℕ → Passed
+at_end bs =
+    let s : Passed = expected (line_feed ∷ []) bs in
+    cond s.right (record { right = eqb (length s.rest) 0; rest = s.rest }) s
+
 unfoldable pub finished : Got → Passed
-finished g =
-    let s : Passed = expected (line_feed ∷ []) g.rest in
-    cond (is_number g) (cond s.right (record { right = eqb (length s.rest) 0; rest = s.rest }) s)
-    (record { right = false; rest = g.rest })
+finished g = cond (is_number g) (at_end g.rest) (record { right = false; rest = g.rest })
 
 unfoldable pub end_in : List ℕ → Passed
 end_in bs =
@@ -155,36 +155,32 @@ lines_in n w (suc f) l bs =
 unfoldable pub listing_in : ℕ → ℕ → List Sum → List ℕ → Read
 listing_in n w l bs = lines_in n w (suc (length bs)) l bs
 
--- the same, where the code says the place in all bytes that it came to
-abbrev pub got_at : List ℕ → Number → Got
-got_at bs r = record { value = r.value; rest = drop r.next bs }
+-- the same of what the code returns: a value and the text behind it, or the text from the first wrong byte on
+abbrev pub Text : Type 0
+Text = Bor (List ℕ)
 
-abbrev pub GivesNumber : List ℕ → Number → Got → Type 0
-GivesNumber bs r g = (got_at bs r ≡ g) × (r.next ≤ length bs)
+abbrev pub GivesNumber : Result (ℕ × Text) Text → Got → Type 0
+GivesNumber (Ok p) g = (g ≡ record { value = p.0; rest = p.1.now }) × (p.0 ≤ largest)
+GivesNumber (Err r) g = g ≡ number_missing r.now
 
-abbrev pub passed_at : List ℕ → Spot → Passed
-passed_at bs r = record { right = r.right; rest = drop r.next bs }
+abbrev pub GivesSpot : Result Text Text → Passed → Type 0
+GivesSpot (Ok r) s = s ≡ record { right = true; rest = r.now }
+GivesSpot (Err r) s = s ≡ record { right = false; rest = r.now }
 
-abbrev pub GivesSpot : List ℕ → Spot → Passed → Type 0
-GivesSpot bs r s = (passed_at bs r ≡ s) × (r.next ≤ length bs)
+-- at the end of a listing nothing is left
+abbrev pub GivesEnd : Result (Unit {0}) Text → Passed → Type 0
+GivesEnd (Ok done) s = s ≡ record { right = true; rest = [] }
+GivesEnd (Err r) s = s ≡ record { right = false; rest = r.now }
 
-abbrev pub told_at : List ℕ → Line → Told
-told_at bs r = record { right = r.right; process = r.process; gain = r.gain; rest = drop r.next bs }
+abbrev pub GivesLine : Result (Gain × Text) Text → Told → Type 0
+GivesLine (Ok p) t = t ≡ record { right = true; process = p.0.process; gain = p.0.sum; rest = p.1.now }
+GivesLine (Err r) t = t ≡ strange r.now
 
-abbrev pub GivesLine : List ℕ → Line → Told → Type 0
-GivesLine bs r t = (told_at bs r ≡ t) × (r.next ≤ length bs)
+abbrev pub GivesListing : Result (List Sum) Text → Read → Type 0
+GivesListing (Ok l) a = a ≡ record { right = true; each = l; rest = [] }
+GivesListing (Err r) a = (a.right ≡ false) × (a.rest ≡ r.now)
 
-abbrev pub read_at : List ℕ → Reading → Read
-read_at bs r = record { right = r.right; each = r.each; rest = drop r.next bs }
-
-abbrev pub GivesReading : List ℕ → Reading → Read → Type 0
-GivesReading bs r a = (read_at bs r ≡ a) × (r.next ≤ length bs)
-
-abbrev pub no_line : ℕ → Line
-no_line next = record { right = false; process = 0; gain = no_sum; next = next }
-
--- a line of process p that adds `gain`, if its rest is there
-abbrev pub line_with : ℕ → Sum → Number → Line
-line_with p gain r =
-    cond (leb r.value largest) (record { right = true; process = p; gain = gain; next = r.next })
-    (no_line r.next)
+-- the place of the first wrong byte in all bytes
+abbrev pub GivesReading : List ℕ → Result (List Sum) ℕ → Read → Type 0
+GivesReading bs (Ok l) a = a ≡ record { right = true; each = l; rest = [] }
+GivesReading bs (Err at) a = (a.right ≡ false) × (at ≡ length bs - length a.rest)

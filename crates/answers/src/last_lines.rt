@@ -1,72 +1,45 @@
 // The last line: `end E` or `refused C E`.
-ghost use Rattle.std.specs.Prelude.{◌≡◌, ◌≤◌, length, drop};
-ghost use Rattle.answers.specs.Readers.{finished, end_in, refused_in, last_in, got_at, GivesSpot};
+ghost use Rattle.std.specs.Prelude.{◌≡◌};
+ghost use Rattle.answers.specs.Readers.{at_end, end_in, refused_in, last_in, GivesEnd};
 
-use crate::numbers::{LARGEST, byte_at, expect, number, spaced_number};
-use crate::{Number, Spot};
+use crate::numbers::{expect, number, spaced_number};
 
-// Behind the last number: its line feed, and nothing more.
-fn finish(text: &[u8], entries: Number) -> Spot
-    requires { entries.next ≤ length text.now }
-    ensures { GivesSpot text.now result (finished (got_at text.now entries)) }
+// The line feed behind the last number, and nothing more.
+fn finish(text: &[u8]) -> Result<(), &[u8]>
+    ensures { GivesEnd result (at_end text.now) }
 {
-    let at = entries.next;
-    if LARGEST < entries.value {
-        return Spot {
-            right: false,
-            next: at,
-        };
-    }
-    let feed = expect(text, at, b"\n");
-    let next = feed.next;
-    if !feed.right {
-        return feed;
-    }
-    Spot {
-        right: next == text.len(),
-        next,
-    }
+    let rest = expect(text, b"\n")?;
+    if rest.is_empty() { Ok(()) } else { Err(rest) }
 }
 
 // `end E`.
-fn end_line(text: &[u8], at: usize) -> Spot
-    requires { at ≤ length text.now }
-    ensures { GivesSpot text.now result (end_in (drop at text.now)) }
+#[tactic(auto, unfolding(crate::specs::Readers::end_in, crate::specs::Readers::finished))]
+fn end_line(text: &[u8]) -> Result<(), &[u8]>
+    ensures { GivesEnd result (end_in text.now) }
 {
-    let word = expect(text, at, b"end ");
-    if !word.right {
-        return word;
-    }
-    let entries = number(text, word.next);
-    finish(text, entries)
+    let rest = expect(text, b"end ")?;
+    let (_, rest) = number(rest)?;
+    finish(rest)
 }
 
 // `refused C E`.
-fn refused_line(text: &[u8], at: usize) -> Spot
-    requires { at ≤ length text.now }
-    ensures { GivesSpot text.now result (refused_in (drop at text.now)) }
+#[tactic(auto, unfolding(crate::specs::Readers::refused_in, crate::specs::Readers::finished))]
+fn refused_line(text: &[u8]) -> Result<(), &[u8]>
+    ensures { GivesEnd result (refused_in text.now) }
 {
-    let word = expect(text, at, b"refused ");
-    if !word.right {
-        return word;
-    }
-    let refusal = number(text, word.next);
-    let next = refusal.next;
-    if LARGEST < refusal.value {
-        return Spot { right: false, next };
-    }
-    let entries = spaced_number(text, next);
-    finish(text, entries)
+    let rest = expect(text, b"refused ")?;
+    let (_, rest) = number(rest)?;
+    let (_, rest) = spaced_number(rest)?;
+    finish(rest)
 }
 
 // The last line, and that nothing follows it.
-pub fn last_line(text: &[u8], at: usize) -> Spot
-    requires { at ≤ length text.now }
-    ensures { GivesSpot text.now result (last_in (drop at text.now)) }
+#[tactic(auto, unfolding(crate::specs::Readers::last_in))]
+pub fn last_line(text: &[u8]) -> Result<(), &[u8]>
+    ensures { GivesEnd result (last_in text.now) }
 {
-    let first = byte_at(text, at);
-    if first == b'e' {
-        return end_line(text, at);
+    match text {
+        [b'e', ..] => end_line(text),
+        _ => refused_line(text),
     }
-    refused_line(text, at)
 }

@@ -8,7 +8,7 @@ mod last_lines;
 pub mod numbers;
 mod whole;
 
-pub use whole::{no_sum, read_listing};
+pub use whole::read_listing;
 
 // What one process's answers add up to: SCs that succeeded, SCs answered, the steps of all LLs, and LLs answered.
 #[derive(Clone, Copy)]
@@ -19,33 +19,20 @@ pub struct Sum {
     pub lls: u64,
 }
 
-// A number, 4,294,967,296 where there is none, and the place after it, or of the first wrong byte.
-#[derive(Clone, Copy)]
-pub struct Number {
-    pub value: u64,
-    pub next: usize,
-}
+// No answers.
+pub const NO_SUM: Sum = Sum {
+    successes: 0,
+    scs: 0,
+    steps: 0,
+    lls: 0,
+};
 
-// Whether the bytes are there, and the place after them, or of the first wrong one.
+// What an answer line adds, and to the sum of which process.
 #[derive(Clone, Copy)]
-pub struct Spot {
-    pub right: bool,
-    pub next: usize,
-}
-
-// Whether an answer line is there, its process and what it adds, and the place after it, or of the first wrong byte.
-#[derive(Clone, Copy)]
-pub struct Line {
-    pub right: bool,
+pub struct Gain {
     pub process: u64,
-    pub gain: Sum,
-    pub next: usize,
+    pub sum: Sum,
 }
 
-// Whether a whole listing is there, the sums with its answers, and the place of its end, or of the first wrong byte.
-#[derive(Clone, Copy)]
-pub struct Reading {
-    pub right: bool,
-    pub each: [Sum; 16],
-    pub next: usize,
-}
+// What the first bytes of a text say, and the text behind them; or the text from the first wrong byte on.
+pub type Read<'a, T> = Result<(T, &'a [u8]), &'a [u8]>;

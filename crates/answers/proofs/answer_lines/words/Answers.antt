@@ -1,39 +1,21 @@
-use Prim.Native.Nat.{◌<◌}
-use mathlib.Core.Path.{refl, ◌∙◌}
-use native.Mathlib.Omega.{arith}
-use Rattle.answers.proofs.LineLaws.{no_word, word_more, words_end}
+use Rattle.std.proofs.Common.{arith, sym, ap, ◌∙◌, ◌-◌}
+use Rattle.answers.specs.Readers.{words_in}
+use Rattle.std.proofs.lemmas.Result.{err_from_is_err_and}
+use Rattle.answers.proofs.NumberLaws.{no_word, word_more, words_end}
 use Rattle.answers.proofs.answer_lines.words.Goals as goal
 
--- src/answer_lines.rt:31:5
-pub loop-left-init : goal.loop-left-init
-loop-left-init c = (refl, c.requires)
+pub returns-in_err-word : goal.returns-in_err-word
+returns-in_err-word c =
+    let l = c.loop-i in
+    let p = err_from_is_err_and c.from_residual.result c.from_residual.ensures.1 in
+    rw (p.1, p.2) (sym l.invariant ∙ no_word (c.args.w - l._i) l.rest.now (omega arith) c.in_err-word.ensures)
 
--- src/answer_lines.rt:32:13
-pub spaced_number-word-requires : goal.spaced_number-word-requires
-spaced_number-word-requires c = c.loop-left.invariant.1
+pub loop-i-preserved : goal.loop-i-preserved
+loop-i-preserved c =
+    let l = c.loop-i in
+    let e = c.in_ok-word.ensures in
+    ap (λ k. words_in k c.in_ok-word.word.1.now) (omega arith)
+    ∙ sym (word_more (c.args.w - l._i) l.rest.now (omega arith) e.1 e.0) ∙ l.invariant
 
--- src/answer_lines.rt:35:13
-pub returns-then-word-gt-LARGEST : goal.returns-then-word-gt-LARGEST
-returns-then-word-gt-LARGEST c =
-    let g = c.spaced_number-word in
-    let l = c.loop-left in
-    let some : 0 < l.left = omega (arith, c.loop-left-test.true) in (
-      no_word c.args.text.now l.next l.left g.result g.ensures.0 some c.if-word-gt-LARGEST.true ∙ l.invariant.0,
-      g.ensures.1,
-    )
-
--- src/answer_lines.rt:31:5
-pub loop-left-preserved : goal.loop-left-preserved
-loop-left-preserved c =
-    let g = c.spaced_number-word in
-    let l = c.loop-left in
-    let some : 0 < l.left = omega (arith, c.loop-left-test.true) in (
-      word_more c.args.text.now l.next l.left g.result g.ensures.0 some c.if-word-gt-LARGEST.false ∙ l.invariant.0,
-      g.ensures.1,
-    )
-
--- src/answer_lines.rt:25:1
 pub returns : goal.returns
-returns c =
-    let l = c.loop-left in
-    (words_end c.args.text.now l.next l.left (omega (arith, c.loop-left-test.false)) ∙ l.invariant.0, l.invariant.1)
+returns c = let l = c.loop-i in sym l.invariant ∙ words_end (c.args.w - l._i) l.rest.now (omega arith)

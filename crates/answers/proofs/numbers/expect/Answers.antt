@@ -1,29 +1,21 @@
-use mathlib.Core.Path.{refl}
-use native.Mathlib.Omega.{arith}
+use Rattle.std.proofs.Common.{rules, arith, sym, ◌∙◌}
 use Rattle.answers.proofs.NumberLaws.{missing, differs, agrees, word_end}
 use Rattle.answers.proofs.numbers.expect.Goals as goal
+use Rattle.answers.proofs.numbers.expect.Goals.{in_default-via-then-rest-lt1, in_default-via-in-len1-up+else-c-k}
 
--- src/numbers.rt:103:5
-pub loop-i-init : goal.loop-i-init
-loop-i-init c = (refl, c.requires)
+pub returns-in_default : goal.returns-in_default
+returns-in_default c =
+    let l = c.loop-k in
+    elim c.in_default.branch [
+      | in_default-via-then-rest-lt1 w ↦ sym l.invariant ∙ missing c.args.word.now l.k-index (omega arith) l.rest.now (search rules)
+      | in_default-via-in-len1-up+else-c-k w ↦
+          sym l.invariant ∙ differs c.args.word.now l.k-index (omega arith) l.rest.now (omega arith) w.if-c-k.false
+    ]
 
--- src/numbers.rt:105:13
-pub returns-then-text-next : goal.returns-then-text-next
-returns-then-text-next c = let i = c.loop-i.invariant in (missing _ _ _ _ _ c.loop-i-test.true i.0 c.if-text-next.true, i.1)
+pub loop-k-preserved : goal.loop-k-preserved
+loop-k-preserved c =
+    let l = c.loop-k in
+    sym (agrees c.args.word.now l.k-index (omega arith) l.rest.now c.in-len1-up.len_at_least c.if-c-k.true) ∙ l.invariant
 
--- src/numbers.rt:108:13
-pub returns-then-text-next-2 : goal.returns-then-text-next-2
-returns-then-text-next-2 c =
-    let i = c.loop-i.invariant in
-    (differs _ _ _ _ _ c.loop-i-test.true i.0 c.if-text-next.false c.if-text-next-2.true, i.1)
-
--- src/numbers.rt:103:5
-pub loop-i-preserved : goal.loop-i-preserved
-loop-i-preserved c =
-    let i = c.loop-i.invariant in
-    let h = c.if-text-next.false in
-    (agrees _ _ _ _ _ c.loop-i-test.true i.0 h c.if-text-next-2.false, omega (arith, h))
-
--- src/numbers.rt:97:1
 pub returns : goal.returns
-returns c = let i = c.loop-i.invariant in (word_end c.args.text.now _ c.loop-i.next _ _ c.loop-i-test.false i.0, i.1)
+returns c = let l = c.loop-k in sym l.invariant ∙ word_end c.args.word.now l.k-index l.rest.now (omega arith)

@@ -1,37 +1,24 @@
-use Prim.Native.Nat.{ℕ, ◌+◌, ◌-◌}
-use mathlib.Core.Path.{refl, sym, ap, ◌∙◌}
-use native.Mathlib.Omega.{arith}
-use lib.ListN.{drop, get_or}
-use Rattle.answers.specs.Readers.{digits_after}
-use Rattle.answers.proofs.PlaceLaws.{inside}
-use Rattle.answers.proofs.NumberLaws.{digit_range, no_number, number_from_is}
+use Rattle.std.proofs.Common.{rules, arith, ◌≡◌, true, false, slice_index}
+use Rattle.answers.specs.Readers.{is_digit}
+use Rattle.answers.proofs.NumberLaws.{below_digits, above_digits, a_digit, no_digit, no_number, number_from_is}
 use Rattle.answers.proofs.numbers.number.Goals as goal
+use Rattle.answers.proofs.numbers.number.Goals.{in_default-via-then-text-lt1, in_default-via-else-text-lt1+then-text-lt48, in_default-via-else-text-lt1+else-text-lt48+else-text-lt58}
 
--- src/numbers.rt:72:9
-pub returns-then-not-there : goal.returns-then-not-there
-returns-then-not-there c =
-    let a = c.args in
-    (no_number a.text.now a.at (sym c.digit_at-there.ensures ∙ c.if-not-there.true), c.requires)
+pub returns-in-48-to-57 : goal.returns-in-48-to-57
+returns-in-48-to-57 c =
+    let text = c.args.text.now in
+    let digit : is_digit (slice_index text 0) ≡ true = a_digit (slice_index text 0) (omega arith) (omega arith) in
+    let e = rw c.from.ensures at c.digits_after.ensures in
+    rw (number_from_is text digit) e
 
--- src/numbers.rt:77:17
-pub overflow_sub-first : goal.overflow_sub-first
-overflow_sub-first c =
-    let a = c.args in
-    let d = digit_range (get_or a.text.now a.at 0) (sym c.digit_at-there.ensures ∙ c.if-not-there.false) in
-    omega (arith, d.0, c.byte_at-first.ensures)
-
--- src/numbers.rt:78:5
-pub digits_after-requires : goal.digits_after-requires
-digits_after-requires c =
-    let a = c.args in
-    let d = digit_range (get_or a.text.now a.at 0) (sym c.digit_at-there.ensures ∙ c.if-not-there.false) in
-    (omega (arith, inside a.text.now a.at _ refl (omega (arith, d.0))), omega (arith, d.1, c.byte_at-first.ensures))
-
--- src/numbers.rt:66:1
-pub returns : goal.returns
-returns c =
-    let a = c.args in
-    let e = c.digits_after.ensures in
-    let d = sym c.digit_at-there.ensures ∙ c.if-not-there.false in
-    let f = ap (λ (x : ℕ). digits_after (x - 48) (drop (a.at + 1) a.text.now)) c.byte_at-first.ensures in
-    (e.0 ∙ f ∙ number_from_is a.text.now a.at d, e.1)
+pub returns-in_default : goal.returns-in_default
+returns-in_default c =
+    let text = c.args.text.now in
+    let none : is_digit (slice_index text 0) ≡ false =
+    elim c.in_default.branch [
+      | in_default-via-then-text-lt1 w ↦ no_digit text (search rules)
+      | in_default-via-else-text-lt1+then-text-lt48 w ↦ below_digits (slice_index text 0) (omega arith)
+      | in_default-via-else-text-lt1+else-text-lt48+else-text-lt58 w ↦ above_digits (slice_index text 0) (omega arith)
+    ]
+    in
+    no_number text none

@@ -1,24 +1,15 @@
-use mathlib.Core.Path.{sym, ◌∙◌}
-use native.Mathlib.Omega.{arith}
-use Rattle.answers.proofs.PlaceLaws.{inside}
-use Rattle.answers.proofs.NumberLaws.{no_space, after_space}
+use Rattle.std.proofs.Common.{rules, arith}
+use Rattle.answers.proofs.NumberLaws.{no_byte, no_space, after_space}
 use Rattle.answers.proofs.numbers.spaced_number.Goals as goal
+use Rattle.answers.proofs.numbers.spaced_number.Goals.{in_default-via-then-text-lt1, in_default-via-else-text-lt1+in_default-1}
 
--- src/numbers.rt:88:9
-pub returns-then-b-ne32 : goal.returns-then-b-ne32
-returns-then-b-ne32 c =
-    let a = c.args in
-    (no_space a.text.now a.at (λ z. c.if-b-ne32.true (c.byte_at-b.ensures ∙ z)), c.requires)
+pub returns-in-32 : goal.returns-in-32
+returns-in-32 c = rw (after_space c.args.text.now (omega arith)) c.number.ensures
 
--- src/numbers.rt:93:5
-pub number-requires : goal.number-requires
-number-requires c =
-    let a = c.args in
-    omega (arith, inside a.text.now a.at _ (sym c.byte_at-b.ensures ∙ c.if-b-ne32.false) (omega arith))
-
--- src/numbers.rt:82:1
-pub returns : goal.returns
-returns c =
-    let a = c.args in
-    let e = c.number.ensures in
-    (e.0 ∙ after_space a.text.now a.at (sym c.byte_at-b.ensures ∙ c.if-b-ne32.false), e.1)
+pub returns-in_default : goal.returns-in_default
+returns-in_default c =
+    let text = c.args.text.now in
+    elim c.in_default.branch [
+      | in_default-via-then-text-lt1 w ↦ no_space text (λ z. omega (arith, z, no_byte text (search rules)))
+      | in_default-via-else-text-lt1+in_default-1 w ↦ no_space text (λ z. omega (arith, z))
+    ]
