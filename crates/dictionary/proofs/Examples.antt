@@ -2,8 +2,9 @@
 use mathlib.Core.Path.{◌≡◌, refl}
 use mathlib.Core.List.{[], ◌∷◌, map}
 use mathlib.Core.Bool.{true}
+use Rattle.std.specs.Prelude.{Some, None}
 use Rattle.ways.specs.Ways.{ways}
-use Rattle.dictionary.specs.Schedules.{before, schedule_for, number_for, schedule, was_last, schedule_after}
+use Rattle.dictionary.specs.Schedules.{before, schedule_for, number_for, schedule_after}
 
 -- two turns and one: all in order
 two_and_one : map (schedule_for 2 1) (0 ∷ 1 ∷ 2 ∷ []) ≡ (0 ∷ 0 ∷ 1 ∷ []) ∷ (0 ∷ 1 ∷ 0 ∷ []) ∷ (1 ∷ 0 ∷ 0 ∷ []) ∷ []
@@ -23,15 +24,15 @@ zero_first_lem : before (0 ∷ 1 ∷ []) (1 ∷ 0 ∷ []) ≡ true
 zero_first_lem = refl
 
 -- the one after, and the last
-one_after : schedule_after 2 1 (0 ∷ 1 ∷ 0 ∷ []) ≡ schedule (1 ∷ 0 ∷ 0 ∷ [])
+one_after : schedule_after 2 1 (0 ∷ 1 ∷ 0 ∷ []) ≡ Some (1 ∷ 0 ∷ 0 ∷ [])
 unfolding schedule_after schedule_for number_for ways
 one_after = refl
 
-last_one : schedule_after 2 1 (1 ∷ 0 ∷ 0 ∷ []) ≡ was_last
+last_one : schedule_after 2 1 (1 ∷ 0 ∷ 0 ∷ []) ≡ None
 unfolding schedule_after schedule_for number_for ways
 last_one = refl
 
 -- no turns at all: one schedule, the last
-no_turns : schedule_after 0 0 [] ≡ was_last
+no_turns : schedule_after 0 0 [] ≡ None
 unfolding schedule_after schedule_for number_for ways
 no_turns = refl

@@ -1,6 +1,6 @@
 -- All small schedules, in order (02, CR 5): "every way in which processes 0 and 1 can take a and b turns". A schedule
 -- is the list of the processes whose turns they are.
-use Rattle.std.specs.Prelude.{◌≡◌, ℕ, zero, suc, ◌+◌, ◌-◌, ◌<◌, List, [], ◌∷◌, Bool, true, false, ◌&&◌, ◌||◌, cond, eqb, ltb, leb, replicate}
+use Rattle.std.specs.Prelude.{◌≡◌, ℕ, zero, suc, ◌+◌, ◌-◌, ◌<◌, List, [], ◌∷◌, Bool, true, false, ◌&&◌, ◌||◌, cond, eqb, ltb, leb, replicate, Option, Some, None}
 use Rattle.llsc.specs.Rows.{every}
 use Rattle.ways.specs.Ways.{ways}
 
@@ -36,14 +36,10 @@ number_for (suc a) (suc b) (t ∷ ts) =
     cond (eqb t 0) (number_for a (suc b) ts) (ways a (suc b) + number_for (suc a) b ts)
 
 -- "the schedule after a given one, or word that it was the last"
-pub data Next : Type 0 where
-  schedule : List ℕ → Next
-  was_last : Next
-
-unfoldable pub schedule_after : ℕ → ℕ → List ℕ → Next
+unfoldable pub schedule_after : ℕ → ℕ → List ℕ → Option (List ℕ)
 schedule_after a b ts =
     let k : ℕ = number_for a b ts + 1 in
-    cond (ltb k (ways a b)) (schedule (schedule_for a b k)) was_last
+    cond (ltb k (ways a b)) (Some (schedule_for a b k)) None
 
 -- "every schedule comes once": at one number and at no other
 pub record ComesOnce (a b : ℕ) (ts : List ℕ) : Type 0 where
@@ -53,8 +49,8 @@ pub record ComesOnce (a b : ℕ) (ts : List ℕ) : Type 0 where
   pub once : (k : ℕ) → k < ways a b → schedule_for a b k ≡ ts → k ≡ number
 
 -- what follows ts in dictionary order: us comes after it and no schedule between them; or none comes after it
-abbrev pub Follows : ℕ → ℕ → List ℕ → Next → Type 0
-Follows a b ts (schedule us) =
+abbrev pub Follows : ℕ → ℕ → List ℕ → Option (List ℕ) → Type 0
+Follows a b ts (Some us) =
     (is_schedule a b us ≡ true) × ((before ts us ≡ true)
     × ((vs : List ℕ) → is_schedule a b vs ≡ true → before ts vs ≡ true → before vs us ≡ false))
-Follows a b ts was_last = (vs : List ℕ) → is_schedule a b vs ≡ true → before ts vs ≡ false
+Follows a b ts None = (vs : List ℕ) → is_schedule a b vs ≡ true → before ts vs ≡ false

@@ -1,16 +1,17 @@
--- Pascal's rule, tested over a whole table, makes each of its entries the number of ways to finish.
-use Prim.Native.Nat.{ℕ, zero, suc, ◌+◌, ◌*◌, ◌/◌, ◌%◌, ◌≤◌, ◌<◌}
-use mathlib.Core.Path.{◌≡◌, refl, ap, ap₂, ◌∙◌}
-use mathlib.Core.List.{List}
+-- Pascal's rule, tested over the whole table, makes each of its entries the number of ways to finish.
+use Prim.Native.Nat.{ℕ, zero, suc, ◌+◌, ◌≤◌}
+use mathlib.Core.Path.{◌≡◌, refl, ap₂, ◌∙◌}
+use mathlib.Core.List.{List, []}
 use mathlib.Core.Bool.{Bool, true, false, cond, ◌||◌}
 use native.Mathlib.Omega.{arith}
-use native.Mathlib.Nat.{div-add-mod', mod-lt}
+use lib.ListN.{length, get_or}
 use lib.Dec.{eqb}
-use lib.ListN.{get_or}
-use borrow.Author.Tests.{eqb-true, eq-eqb, ne_eqb}
+use borrow.Author.Tests.{eqb-true, ne_eqb}
+use Rattle.laws.proofs.AndLaws.{left, right}
 use Rattle.laws.proofs.Updates.{contra}
+use Rattle.ways.specs.declared.TheConstants.{WAYS}
 use Rattle.ways.specs.Ways.{ways}
-use Rattle.ways.specs.Table.{rule_at, rule, Pascal}
+use Rattle.ways.specs.Table.{every_entry, entry_at, rule_at, good_row, rule, Pascal}
 use Rattle.ways.proofs.Tested.{at}
 
 on_edge : (t a b : Bool) → cond t a b ≡ true → t ≡ true → a ≡ true
@@ -25,54 +26,38 @@ or_true : (t : Bool) → (t || true) ≡ true
 or_true true = refl
 or_true false = refl
 
-place : (a b : ℕ) → b < 33 → ((a * 33 + b) / 33 ≡ a) × ((a * 33 + b) % 33 ≡ b)
-place a b h =
-    let k = a * 33 + b in
-    let e = div-add-mod' k 33 in
-    let m = mod-lt k {m = 33} (omega arith) in
-    (omega arith, omega arith)
+positive : (k : ℕ) → eqb (suc k) 0 ≡ false
+positive k = ne_eqb (suc k) 0 (λ (z : suc k ≡ 0). omega (arith, z))
 
-module _ (t : List ℕ) (p : Pascal t) where
-  unfoldable entry : ℕ → ℕ → ℕ
-  entry a b = get_or t (a * 33 + b) 0
+-- the rule is tested over the constants of the code
+pub table_is : Pascal WAYS
+unfolding rule rule_at good_row
+table_is = record { size = refl; tested = refl }
 
-  passed : (a b : ℕ) → a ≤ 32 → b ≤ 32 → rule_at t (a * 33 + b) (entry a b) ≡ true
-  unfolding entry rule
-  passed a b ha hb = at (rule_at t) t p.tested (a * 33 + b) (omega (arith, p.size))
+module _ (t : List (List ℕ)) (p : Pascal t) where
+  row_passed : (a : ℕ) → a ≤ 32 → good_row t a (get_or t a []) ≡ true
+  unfolding rule
+  row_passed a h = at [] (good_row t) t p.tested a (omega (arith, p.size))
 
-  edge : (a b : ℕ) → a ≤ 32 → b ≤ 32 → (eqb ((a * 33 + b) / 33) 0 || eqb ((a * 33 + b) % 33) 0) ≡ true → entry a b ≡ 1
-  unfolding rule_at
-  edge a b ha hb e = eqb-true (entry a b) 1 (on_edge _ _ _ (passed a b ha hb) e)
+  pub row_size : (a : ℕ) → a ≤ 32 → length (get_or t a []) ≡ 33
+  unfolding good_row
+  row_size a h =
+      let row = get_or t a [] in
+      eqb-true (length row) 33 (left (eqb (length row) 33) (every_entry (rule_at t a) 0 row) (row_passed a h))
 
-  first_row_lem : (b : ℕ) → b ≤ 32 → entry 0 b ≡ 1
-  first_row_lem b h =
-      let k = 0 * 33 + b in
-      edge 0 b (omega arith) h
-      (ap (λ (t : Bool). t || eqb (k % 33) 0) (eq-eqb (k / 33) 0 (place 0 b (omega arith)).0))
+  passed : (a b : ℕ) → a ≤ 32 → b ≤ 32 → rule_at t a b (entry_at t a b) ≡ true
+  unfolding good_row
+  passed a b ha hb =
+      let row = get_or t a [] in
+      at 0 (rule_at t a) row (right (eqb (length row) 33) (every_entry (rule_at t a) 0 row) (row_passed a ha)) b
+      (omega (arith, row_size a ha))
 
-  first_column : (a : ℕ) → a ≤ 32 → entry a 0 ≡ 1
-  first_column a h =
-      let k = a * 33 + 0 in
-      edge a 0 h (omega arith)
-      (ap (λ (t : Bool). eqb (k / 33) 0 || t) (eq-eqb (k % 33) 0 (place a 0 (omega arith)).1) ∙ or_true (eqb (k / 33) 0))
-
-  sum : (a b : ℕ) → suc a ≤ 32 → suc b ≤ 32 → entry (suc a) (suc b) ≡ entry a (suc b) + entry (suc a) b
-  unfolding rule_at entry
-  sum a b ha hb =
-      let i = place (suc a) (suc b) (omega arith) in
-      let k = suc a * 33 + suc b in
-      let x : eqb (k / 33) 0 ≡ false = ne_eqb (k / 33) 0 (λ (z : k / 33 ≡ 0). omega (arith, z, i.0)) in
-      let y : eqb (k % 33) 0 ≡ false = ne_eqb (k % 33) 0 (λ (z : k % 33 ≡ 0). omega (arith, z, i.1)) in
-      eqb-true _ _ (off_edge _ _ _ (passed (suc a) (suc b) ha hb) (ap₂ ◌||◌ x y))
-      ∙ ap₂ (λ i j. get_or t i 0 + get_or t j 0) (omega arith) (omega arith)
-
-  counted : (a b : ℕ) → a ≤ 32 → b ≤ 32 → entry a b ≡ ways a b
-  unfolding ways
-  counted zero b ha hb = first_row_lem b hb
-  counted (suc a) zero ha hb = first_column (suc a) ha
-  counted (suc a) (suc b) ha hb =
-      sum a b ha hb ∙ ap₂ ◌+◌ (counted a (suc b) (omega arith) hb) (counted (suc a) b ha (omega arith))
-
-  pub entry_is : (a b : ℕ) → a ≤ 32 → b ≤ 32 → get_or t (a * 33 + b) 0 ≡ ways a b
-  unfolding entry
-  entry_is = counted
+  pub entry_is : (a b : ℕ) → a ≤ 32 → b ≤ 32 → entry_at t a b ≡ ways a b
+  unfolding ways rule_at
+  entry_is zero b ha hb = eqb-true (entry_at t 0 b) 1 (passed 0 b ha hb)
+  entry_is (suc a) zero ha hb =
+      eqb-true (entry_at t (suc a) 0) 1 (on_edge _ _ _ (passed (suc a) 0 ha hb) (or_true (eqb (suc a) 0)))
+  entry_is (suc a) (suc b) ha hb =
+      eqb-true _ _ (off_edge _ _ _ (passed (suc a) (suc b) ha hb) (ap₂ ◌||◌ (positive a) (positive b)))
+      ∙ ap₂ (λ i j. entry_at t i (suc b) + entry_at t (suc a) j) (omega arith) (omega arith)
+      ∙ ap₂ ◌+◌ (entry_is a (suc b) (omega arith) hb) (entry_is (suc a) b ha (omega arith))
