@@ -94,6 +94,15 @@ module _ (b : Bench) (len n w : ℕ) (value ws : List ℕ) where
   unfolding prepared
   prepared_done e = simp (eq-eqb (set_up_number n w len (length ws) (length value)) 0 e)
 
+  -- the number that it tells is that of its refusal
+  pub prepared_number : (prepared b len n w value ws).0 ≡ set_up_number n w len (length ws) (length value)
+  unfolding prepared
+  prepared_number = by (set_up_number n w len (length ws) (length value))
+    where
+      by : (k : ℕ) → (cond {A = ℕ × Bench × List ℕ} (eqb k 0) (0, bench_at_set_up b n w, words_at_set_up ws n w value) (k, b, ws)).0 ≡ k
+      by zero = refl
+      by (suc k) = rw (ne_eqb (suc k) 0 (λ z. omega (arith, z))) refl
+
 -- The by-value set-up is the set-up, once the records are set up too.
 module _ (b : Bench) (rs : List Process) (ws : List ℕ) (n w : ℕ) (value : List ℕ) where
   abbrev number : ℕ
