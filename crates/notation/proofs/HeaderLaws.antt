@@ -10,8 +10,8 @@ use lib.ListN.{length, get_or, drop, drop_of_length-le}
 use lib.Seq.{drop-cons}
 use Rattle.notation.specs.declared.Kind.{Kind}
 use Rattle.notation.specs.declared.Kind.TheVariants.{Digit, Gap, Marked, Offer, Open, Close, Other}
-use Rattle.notation.specs.declared.Digits.{Digits}
-use Rattle.notation.specs.declared.Digits.TheVariants.{Value, NoNumber}
+use Rattle.std.specs.Prelude.{Ok, Err}
+use Rattle.notation.specs.Readers.{Digits}
 use Rattle.notation.specs.Bytes.{space, line_feed, kind_of, is_digit}
 use Rattle.notation.specs.Grammar.{largest, digit_ok}
 use Rattle.notation.specs.Scan.{between, scan}
@@ -136,8 +136,8 @@ module _ {m : Place} {f : ℕ → Place} {stop : ℕ} {out : ℕ → Next} (fd :
 
 -- a number is read on from its first digit
 pub number_whole : (s : List ℕ) (at d : ℕ) (r : Digits) → at < length s → kind_of (get_or s at 0) ≡ Digit d → NumberSays s (at + 1) d r → NumberAtSays s at r
-number_whole s at d (Value v next) h e n = record { d = d; here = h; is = e; numbered = n; only = number_only (number_slice h e n.counts) }
-number_whole s at d (NoNumber place) h e x = strayed h e x
+number_whole s at d (Ok (v, next)) h e n = record { d = d; here = h; is = e; numbered = n; only = number_only (number_slice h e n.counts) }
+number_whole s at d (Err place) h e x = strayed h e x
 
 -- the whole first line
 pub ended_within : {s : List ℕ} {at stop v next : ℕ} → Ended s at stop v next → next ≤ length s

@@ -1,25 +1,23 @@
 -- Laws of the readers of items and of groups: what is read is kept, once for each turn.
 use Prim.Native.Nat.{ℕ, ◌-◌, ◌≤◌}
-use mathlib.Core.Path.{◌≡◌, refl, ◌∙◌}
+use mathlib.Core.Path.{◌≡◌, subst, ◌∙◌}
+use Rattle.std.specs.Prelude.{Ok}
 use mathlib.Core.List.{List, [], ◌∷◌, ◌++◌}
 use mathlib.Core.Bool.{false}
 use native.Mathlib.Omega.{arith}
 use lib.ListN.{length}
 use Rattle.notation.specs.declared.Entry.{Entry}
-use Rattle.notation.specs.declared.Start.{Start}
-use Rattle.notation.specs.declared.Start.TheVariants.{Single, Group, Wrong}
-use Rattle.notation.specs.declared.items.Done.{Done}
-use Rattle.notation.specs.declared.items.Done.TheVariants.{At, Failed}
+use Rattle.notation.specs.declared.items.Items.{Items}
 use Rattle.notation.specs.Grammar.{times}
 use Rattle.notation.specs.Scan.{between}
 use Rattle.notation.specs.Places.{fore, tail, Moves, ClosesAfter}
-use Rattle.notation.specs.Stretches.{Once, Begun, StartSays}
+use Rattle.notation.specs.Stretches.{Once, Begun}
 use Rattle.notation.specs.Groups.{ItemRead, ItemsClosed}
-use Rattle.notation.specs.Listed.{Lists, Repeated, Block, Keeps, Spoilt, ItemSays, GroupSays}
+use Rattle.notation.specs.Listed.{Lists, Repeated, Block, Keeps, Spoilt, ItemsAre, ItemsSay}
 use Rattle.notation.specs.Written.{none, more}
 use Rattle.notation.proofs.AgainLaws.{standing_then, standing_turns}
 use Rattle.notation.proofs.PlaceLaws.{places_group}
-use Rattle.notation.proofs.GroupLaws.{item_once, item_closed, item_wrong}
+use Rattle.notation.proofs.GroupLaws.{item_once, item_closed}
 use Rattle.notation.proofs.ListedLaws.{lists_none, lists_then, lists_turns}
 
 -- the place after what is kept
@@ -58,18 +56,9 @@ pub spoilt_by : {s list list₁ : List ℕ} {from to : ℕ} {P : List Entry → 
     → Keeps s list list₁ from to P Q → ((es : List Entry) → P es → B) → Spoilt list list₁ B
 spoilt_by x f = record { is = f x.says x.read; lent = x.lists.entries.lent }
 
--- what an item says, where the ways to it meet: it begins wrong, or is an entry or a group
-module _ {s list₁ list₂ : List ℕ} {at d from : ℕ} {o : Done} {r : Start} (same : list₁ ≡ list₂) where
-  pub item_fault : {place : ℕ} → o ≡ Failed 10 place → r ≡ Wrong place → StartSays s at r → ItemSays s at d list₂ list₁ from o
-  item_fault h b f = rw (same, h) (record { is = record { is = item_wrong d (rw b at f); lent = refl } })
-
-  pub item_single : {list : List ℕ} {e : Entry} {next to : ℕ} → o ≡ At next to → r ≡ Single e next → StartSays s at r
-      → Lists list list₂ from to (e ∷ []) (at ∷ []) → ItemSays s at d list list₁ from o
-  item_single h b f l = rw (same, h) (record { is = keeps_once d (rw b at f) l })
-
-  pub item_group : {list : List ℕ} {o' : Done} {n body : ℕ} → o ≡ o' → r ≡ Group n body → StartSays s at r
-      → GroupSays s n body d list list₂ from o' → ItemSays s at d list list₁ from o
-  item_group h b f g = rw (same, h) (g.is at (rw b at f))
+-- items, where the reply is known
+pub items_as : {s list list' : List ℕ} {at d from : ℕ} {r r' : Items} → ItemsSay s at d list list' from (Ok r) → r ≡ r' → ItemsAre s at d list list' from (Ok r')
+items_as {s} {list} {list'} {at} {d} {from} x e = subst (λ (y : Items). ItemsAre s at d list list' from (Ok y)) e x.are
 
 -- a group: its first turn is a block, and the block is repeated
 module _ {s list list₁ : List ℕ} {at n body next from to : ℕ} (d : ℕ) (h : from ≤ length list) (b : Begun s at n body)

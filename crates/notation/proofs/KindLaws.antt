@@ -12,8 +12,9 @@ use Rattle.notation.specs.declared.Mark.TheVariants.{Ll, Vl, One, All}
 use Rattle.notation.specs.declared.Kind.{Kind}
 use Rattle.notation.specs.declared.Kind.TheVariants.{Digit, Gap, Marked, Offer, Open, Close, Other}
 use Rattle.notation.specs.declared.Entry.TheVariants.{StartSc}
-use Rattle.notation.specs.declared.Start.TheVariants.{Group, Wrong}
-use Rattle.notation.specs.declared.Follow.TheVariants.{Stray}
+use Rattle.std.specs.Prelude.{Result, Ok, Err}
+use Rattle.notation.specs.declared.Start.TheVariants.{Group}
+use Rattle.notation.specs.declared.Start.{Start}
 use Rattle.notation.specs.Bytes.{kind_of, is_digit, is_gap}
 use Rattle.notation.specs.Grammar.{largest, digit_ok, count_ok}
 use Rattle.notation.specs.Scan.{between, offer, offer_num, done, bad, move, said}
@@ -148,7 +149,7 @@ offer_not p Other h = refl
 
 -- after a number that is no item by itself: neither a mark nor `s` nor `(`
 pub unsigned : (s : List ℕ) (v place : ℕ) (k : Kind) → ((m : Mark) → k ≡ Marked m → ⊥) → (k ≡ Offer → ⊥) → (k ≡ Open → ⊥)
-    → Signed s v place k (Wrong place)
+    → Signed s v place k (Err place)
 unsigned s v place (Digit d) m o p = refl
 unsigned s v place Gap m o p = refl
 unsigned s v place (Marked x) m o p = absurd (m x refl)
@@ -158,17 +159,20 @@ unsigned s v place Close m o p = refl
 unsigned s v place Other m o p = refl
 
 -- what a count makes of a `(`
-pub count_zero : (v x place : ℕ) → v ≡ 0 → Wrong place ≡ cond (count_ok v) (Group v x) (Wrong place)
+abbrev Opening : ℕ → ℕ → ℕ → Result Start ℕ
+Opening v x place = cond (count_ok v) (Ok (Group v x)) (Err place)
+
+pub count_zero : (v x place : ℕ) → v ≡ 0 → Err place ≡ Opening v x place
 count_zero v x place h = simp (eq-eqb _ _ h)
 
-pub count_over : (v x place : ℕ) → (v ≡ 0 → ⊥) → 255 < v → Wrong place ≡ cond (count_ok v) (Group v x) (Wrong place)
+pub count_over : (v x place : ℕ) → (v ≡ 0 → ⊥) → 255 < v → Err place ≡ Opening v x place
 count_over v x place h l = simp (ne_eqb _ _ h, lt-leb _ _ l)
 
-pub count_fits : (v x place : ℕ) → (v ≡ 0 → ⊥) → v ≤ 255 → Group v x ≡ cond (count_ok v) (Group v x) (Wrong place)
+pub count_fits : (v x place : ℕ) → (v ≡ 0 → ⊥) → v ≤ 255 → Ok (Group v x) ≡ Opening v x place
 count_fits v x place h l = simp (ne_eqb _ _ h, le-leb _ _ l)
 
 -- right after an item, neither a gap nor a `)`
-pub stray : (s : List ℕ) (at : ℕ) (k : Kind) → (k ≡ Gap → ⊥) → (k ≡ Close → ⊥) → After s at k (Stray at)
+pub stray : (s : List ℕ) (at : ℕ) (k : Kind) → (k ≡ Gap → ⊥) → (k ≡ Close → ⊥) → After s at k (Err at)
 stray s at (Digit d) g c = refl
 stray s at Gap g c = absurd (g refl)
 stray s at (Marked m) g c = refl
@@ -178,7 +182,7 @@ stray s at Close g c = absurd (c refl)
 stray s at Other g c = refl
 
 -- behind gaps, neither a digit nor a `)`
-pub gap_stray : (next : ℕ) (k : Kind) → ((d : ℕ) → k ≡ Digit d → ⊥) → (k ≡ Close → ⊥) → Stray next ≡ behind_of next k
+pub gap_stray : (next : ℕ) (k : Kind) → ((d : ℕ) → k ≡ Digit d → ⊥) → (k ≡ Close → ⊥) → Err next ≡ behind_of next k
 gap_stray next (Digit d) n c = absurd (n d refl)
 gap_stray next Gap n c = refl
 gap_stray next (Marked m) n c = refl

@@ -9,13 +9,11 @@ use lib.Dec.{ltb}
 use lib.ListN.{get_or}
 use Rattle.notation.specs.declared.Kind.{Kind}
 use Rattle.notation.specs.declared.Kind.TheVariants.{Digit, Gap, Marked, Offer, Open, Close, Other}
-use Rattle.notation.specs.declared.Digits.{Digits}
-use Rattle.notation.specs.declared.Digits.TheVariants.{Value, NoNumber}
+use Rattle.std.specs.Prelude.{Result, Ok, Err}
+use Rattle.notation.specs.Readers.{Digits}
 use Rattle.notation.specs.declared.Start.{Start}
-use Rattle.notation.specs.declared.Start.TheVariants.{Wrong}
 use Rattle.notation.specs.declared.Follow.{Follow}
-use Rattle.notation.specs.declared.Header.{Header}
-use Rattle.notation.specs.declared.Header.TheVariants.{First, NoFirst}
+use Rattle.notation.specs.declared.First.{First}
 use Rattle.notation.specs.Bytes.{kind_of, is_digit, is_gap}
 use Rattle.notation.specs.Grammar.{digit_ok}
 use Rattle.notation.specs.Readers as D
@@ -83,10 +81,10 @@ module _ (s : List ℕ) where
   stray_one {i = i} {j = j} x y = same_if i j (stray_first x y) (stray_first y x)
 
   pub number_one : (at v : ℕ) (r r' : Digits) → NumberSays s at v r → NumberSays s at v r' → r ≡ r'
-  number_one at v (Value a n) (Value b m) p q = let e = numbered_one p q in let x = e.0 in let y = e.1 in cc
-  number_one at v (Value a n) (NoNumber j) p q = absurd (stray_not q p)
-  number_one at v (NoNumber i) (Value b m) p q = absurd (stray_not p q)
-  number_one at v (NoNumber i) (NoNumber j) p q = ap NoNumber (stray_one p q)
+  number_one at v (Ok (a, n)) (Ok (b, m)) p q = let e = numbered_one p q in let x = e.0 in let y = e.1 in cc
+  number_one at v (Ok (a, n)) (Err j) p q = absurd (stray_not q p)
+  number_one at v (Err i) (Ok (b, m)) p q = absurd (stray_not p q)
+  number_one at v (Err i) (Err j) p q = ap Err (stray_one p q)
 
   whole_one : {at a n b m : ℕ} → Whole s at a n → Whole s at b m → (a ≡ b) × (n ≡ m)
   whole_one {at} {b = b} {m = m} p q = numbered_one p.numbered (subst (λ (x : ℕ). Numbered s (at + 1) x b m) (one_digit at at refl q.is p.is) q.numbered)
@@ -109,10 +107,10 @@ module _ (s : List ℕ) where
       stray_one x (subst (λ (d : ℕ). StrayDigit s (at + 1) d j) (one_digit at at refl e₂ e) y)
 
   pub number_at_one : (at : ℕ) (r r' : Digits) → NumberAtSays s at r → NumberAtSays s at r' → r ≡ r'
-  number_at_one at (Value a n) (Value b m) p q = let e = whole_one p q in let x = e.0 in let y = e.1 in cc
-  number_at_one at (Value a n) (NoNumber j) p q = absurd (none_not q p)
-  number_at_one at (NoNumber i) (Value b m) p q = absurd (none_not p q)
-  number_at_one at (NoNumber i) (NoNumber j) p q = ap NoNumber (none_one p q)
+  number_at_one at (Ok (a, n)) (Ok (b, m)) p q = let e = whole_one p q in let x = e.0 in let y = e.1 in cc
+  number_at_one at (Ok (a, n)) (Err j) p q = absurd (none_not q p)
+  number_at_one at (Err i) (Ok (b, m)) p q = absurd (none_not p q)
+  number_at_one at (Err i) (Err j) p q = ap Err (none_one p q)
 
   -- one field, one first line
   ended_one : {at stop a n b m : ℕ} → Ended s at stop a n → Ended s at stop b m → (a ≡ b) × (n ≡ m)
@@ -135,10 +133,10 @@ module _ (s : List ℕ) where
   not_ended_one (D.other w h k) (D.other w₂ h₂ k₂) = (whole_one w w₂).1
 
   pub field_one : (at stop : ℕ) (r r' : Digits) → FieldSays s at stop r → FieldSays s at stop r' → r ≡ r'
-  field_one at stop (Value a n) (Value b m) p q = let e = ended_one p q in let x = e.0 in let y = e.1 in cc
-  field_one at stop (Value a n) (NoNumber j) p q = absurd (ended_not q p)
-  field_one at stop (NoNumber i) (Value b m) p q = absurd (ended_not p q)
-  field_one at stop (NoNumber i) (NoNumber j) p q = ap NoNumber (not_ended_one p q)
+  field_one at stop (Ok (a, n)) (Ok (b, m)) p q = let e = ended_one p q in let x = e.0 in let y = e.1 in cc
+  field_one at stop (Ok (a, n)) (Err j) p q = absurd (ended_not q p)
+  field_one at stop (Err i) (Ok (b, m)) p q = absurd (ended_not p q)
+  field_one at stop (Err i) (Err j) p q = ap Err (not_ended_one p q)
 
   moved : {at at' stop a n : ℕ} → at ≡ at' → Ended s at stop a n → Ended s at' stop a n
   moved {stop = stop} {a = a} {n = n} e p = subst (λ (x : ℕ). Ended s x stop a n) e p
@@ -162,15 +160,15 @@ module _ (s : List ℕ) where
   not_headed_one (D.no_initial p q x) (D.no_w p₂ y) = absurd (ended_not (moved_not (ended_one p₂ p).1 y) q)
   not_headed_one (D.no_initial p q x) (D.no_initial p₂ q₂ y) = not_ended_one (moved_not (ended_one (moved (ended_one p p₂).1 q) q₂).1 x) y
 
-  pub first_line_one : (r r' : Header) → HeaderSays s r → HeaderSays s r' → r ≡ r'
-  first_line_one (First n w v a) (First m x u b) p q =
-      let e = ended_one p.n_ends q.n_ends in
-      let f = ended_one (moved e.1 p.w_ends) q.w_ends in
-      let g = ended_one (moved f.1 p.initial_ends) q.initial_ends in
-      let e₀ = e.0 in let f₀ = f.0 in let g₀ = g.0 in let g₁ = g.1 in cc
-  first_line_one (First n w v a) (NoFirst j) p q = absurd (headed_not q p)
-  first_line_one (NoFirst i) (First m x u b) p q = absurd (headed_not p q)
-  first_line_one (NoFirst i) (NoFirst j) p q = ap NoFirst (not_headed_one p q)
+  pub first_line_one : (r r' : Result First ℕ) → HeaderSays s r → HeaderSays s r' → r ≡ r'
+  first_line_one (Ok f) (Ok g) p q =
+      let e₁ = ended_one p.n_ends q.n_ends in
+      let e₂ = ended_one (moved e₁.1 p.w_ends) q.w_ends in
+      let e₃ = ended_one (moved e₂.1 p.initial_ends) q.initial_ends in
+      ap Ok (λ i. record { n = e₁.0 i; w = e₂.0 i; initial = e₃.0 i; items = e₃.1 i })
+  first_line_one (Ok f) (Err j) p q = absurd (headed_not q p)
+  first_line_one (Err i) (Ok g) p q = absurd (headed_not p q)
+  first_line_one (Err i) (Err j) p q = ap Err (not_headed_one p q)
 
   -- one end of gaps
   gaps_between : {at next : ℕ} → Gapped s at next → (i : ℕ) → at ≤ i → i < next → is_gap (kind_of (get_or s i 0)) ≡ true
@@ -184,7 +182,7 @@ module _ (s : List ℕ) where
   skip_one {n = n} {m = m} p q = same_if n m (gap_first p q) (gap_first q p)
 
   -- one beginning of an item
-  signed_one : (v place : ℕ) (k : Kind) (r r' : Start) → Signed s v place k r → Signed s v place k r' → r ≡ r'
+  signed_one : (v place : ℕ) (k : Kind) (r r' : Result Start ℕ) → Signed s v place k r → Signed s v place k r' → r ≡ r'
   signed_one v place (Digit d) r r' p q = p ∙ sym q
   signed_one v place Gap r r' p q = p ∙ sym q
   signed_one v place (Marked m) r r' p q = p ∙ sym q
@@ -193,12 +191,12 @@ module _ (s : List ℕ) where
   signed_one v place Close r r' p q = p ∙ sym q
   signed_one v place Other r r' p q = p ∙ sym q
 
-  sign_one : (v place v' place' : ℕ) (k k' : Kind) (r r' : Start) → v ≡ v' → place ≡ place' → kind_of (get_or s place 0) ≡ k → kind_of (get_or s place' 0) ≡ k'
+  sign_one : (v place v' place' : ℕ) (k k' : Kind) (r r' : Result Start ℕ) → v ≡ v' → place ≡ place' → kind_of (get_or s place 0) ≡ k → kind_of (get_or s place' 0) ≡ k'
       → Signed s v place k r → Signed s v' place' k' r' → r ≡ r'
   sign_one v place v' place' k k' r r' e f g h p q = signed_one v place k r r' p (subst (λ (x : Kind). Signed s v place x r') (sym h ∙ ap (λ (x : ℕ). kind_of (get_or s x 0)) (sym f) ∙ g) (subst (λ (x : ℕ). Signed s x place k' r') (sym e) (subst (λ (x : ℕ). Signed s v' x k' r') (sym f) q)))
 
-  pub begin_one : {at : ℕ} {r r' : Start} → Begins s at r → Begins s at r' → r ≡ r'
-  begin_one (D.none x) (D.none y) = ap Wrong (none_one x y)
+  pub begin_one : {at : ℕ} {r r' : Result Start ℕ} → Begins s at r → Begins s at r' → r ≡ r'
+  begin_one (D.none x) (D.none y) = ap Err (none_one x y)
   begin_one (D.none x) (D.ends w h) = absurd (none_not x w)
   begin_one (D.none x) (D.signed w h e q) = absurd (none_not x w)
   begin_one (D.ends w h) (D.none y) = absurd (none_not y w)
@@ -210,13 +208,13 @@ module _ (s : List ℕ) where
       let o = whole_one w w₂ in sign_one v place v' place' k k' r r' o.0 o.1 e e₂ q q₂
 
   -- one thing that follows it
-  behind_one : (n m : ℕ) {r r' : Follow} → n ≡ m → Behind s n r → Behind s m r' → r ≡ r'
+  behind_one : (n m : ℕ) {r r' : Result Follow ℕ} → n ≡ m → Behind s n r → Behind s m r' → r ≡ r'
   behind_one n m o (D.ends h) (D.ends h₂) = refl
   behind_one n m o (D.ends h) (D.byte h₂ e q) = absurd (omega arith)
   behind_one n m o (D.byte h e q) (D.ends h₂) = absurd (omega arith)
   behind_one n m o (D.byte h e q) (D.byte h₂ e₂ q₂) = cc
 
-  after_one : (at : ℕ) (k : Kind) (r r' : Follow) → After s at k r → After s at k r' → r ≡ r'
+  after_one : (at : ℕ) (k : Kind) (r r' : Result Follow ℕ) → After s at k r → After s at k r' → r ≡ r'
   after_one at (Digit d) r r' p q = p ∙ sym q
   after_one at Gap r r' p q = behind_one p.next q.next (skip_one p.skipped q.skipped) p.behind q.behind
   after_one at (Marked m) r r' p q = p ∙ sym q
@@ -225,7 +223,7 @@ module _ (s : List ℕ) where
   after_one at Close r r' p q = p ∙ sym q
   after_one at Other r r' p q = p ∙ sym q
 
-  pub follow_one : {at : ℕ} {r r' : Follow} → Follows s at r → Follows s at r' → r ≡ r'
+  pub follow_one : {at : ℕ} {r r' : Result Follow ℕ} → Follows s at r → Follows s at r' → r ≡ r'
   follow_one (D.ends h) (D.ends h₂) = refl
   follow_one (D.ends h) (D.byte h₂ e q) = absurd (omega arith)
   follow_one (D.byte h e q) (D.ends h₂) = absurd (omega arith)

@@ -1,12 +1,12 @@
 -- The list of a text's entries, kept as numbers in an array that the caller lends, and what its writers promise.
 -- Inner: `ListedText` proves that the list has what the text says and where it stands, by `Grammar`.
-use Rattle.std.specs.Prelude.{ℕ, ◌+◌, ◌-◌, ◌*◌, ◌≤◌, ◌<◌, min, ◌≡◌, List, length, get_or}
+use Rattle.std.specs.Prelude.{ℕ, ◌+◌, ◌-◌, ◌*◌, ◌≤◌, ◌<◌, min, ◌≡◌, List, length, get_or, Result, Ok, Err}
 use Rattle.notation.specs.declared.Entry.{Entry}
 use Rattle.notation.specs.declared.Entry.TheVariants.{Step}
-use Rattle.notation.specs.declared.items.Done.{Done}
-use Rattle.notation.specs.declared.items.Done.TheVariants.{At, Failed}
+use Rattle.llsc.specs.Refusals.{refusal_number}
+use Rattle.notation.specs.declared.items.Fault.{Fault}
 use Rattle.notation.specs.declared.items.Items.{Items}
-use Rattle.notation.specs.declared.items.Items.TheVariants.{Ended, Closed, Broken}
+use Rattle.notation.specs.declared.items.Items.TheVariants.{Ended, Closed}
 use Rattle.notation.specs.EntryWords.{entry_in, kept_entry, largest_place, place_in}
 use Rattle.notation.specs.Places.{fore, tail, Moves, ClosesAfter, EndsAfter}
 use Rattle.notation.specs.Written.{Standing}
@@ -68,11 +68,11 @@ pub record Spoilt (list list' : List ℕ) (A : Type 0) : Type 0 where
   pub is : A
   pub lent : length list' ≡ length list
 
-abbrev pub ItemIs : List ℕ → ℕ → ℕ → List ℕ → List ℕ → ℕ → Done → Type 0
-ItemIs s at d list list' from (At next to) = Keeps s list list' from to (λ es. ItemRead s at d next es) (λ ps. Moves s at fore next tail ps)
-ItemIs s at d list list' from (Failed k place) = Spoilt list list' (ItemBroken s at d k place)
+abbrev pub ItemIs : List ℕ → ℕ → ℕ → List ℕ → List ℕ → ℕ → Result (ℕ × ℕ) Fault → Type 0
+ItemIs s at d list list' from (Ok (next, to)) = Keeps s list list' from to (λ es. ItemRead s at d next es) (λ ps. Moves s at fore next tail ps)
+ItemIs s at d list list' from (Err f) = Spoilt list list' (ItemBroken s at d (refusal_number f.cause) f.place)
 
-pub record ItemSays (s : List ℕ) (at d : ℕ) (list list' : List ℕ) (from : ℕ) (o : Done) : Type 0 where
+pub record ItemSays (s : List ℕ) (at d : ℕ) (list list' : List ℕ) (from : ℕ) (o : Result (ℕ × ℕ) Fault) : Type 0 where
   pub is : ItemIs s at d list list' from o
 
 -- a text whose places fit into a word
@@ -85,13 +85,13 @@ pub record Opened (s : List ℕ) (n body : ℕ) : Type 0 where
   pub begun : Begun s at n body
 
 -- read from its body on, it is the item that begins with its count
-pub record GroupSays (s : List ℕ) (n body d : ℕ) (list list' : List ℕ) (from : ℕ) (o : Done) : Type 0 where
+pub record GroupSays (s : List ℕ) (n body d : ℕ) (list list' : List ℕ) (from : ℕ) (o : Result (ℕ × ℕ) Fault) : Type 0 where
   pub is : (at : ℕ) → Begun s at n body → ItemSays s at d list list' from o
 
-abbrev pub ItemsAre : List ℕ → ℕ → ℕ → List ℕ → List ℕ → ℕ → Items → Type 0
-ItemsAre s at d list list' from (Ended to) = Keeps s list list' from to (λ es. ItemsEnded s at d es) (λ ps. EndsAfter s at ps)
-ItemsAre s at d list list' from (Closed next to) = Keeps s list list' from to (λ es. ItemsClosed s at d next es) (λ ps. ClosesAfter s at next ps)
-ItemsAre s at d list list' from (Broken k place) = Spoilt list list' (ItemsBroken s at d k place)
+abbrev pub ItemsAre : List ℕ → ℕ → ℕ → List ℕ → List ℕ → ℕ → Result Items Fault → Type 0
+ItemsAre s at d list list' from (Ok (Ended to)) = Keeps s list list' from to (λ es. ItemsEnded s at d es) (λ ps. EndsAfter s at ps)
+ItemsAre s at d list list' from (Ok (Closed next to)) = Keeps s list list' from to (λ es. ItemsClosed s at d next es) (λ ps. ClosesAfter s at next ps)
+ItemsAre s at d list list' from (Err f) = Spoilt list list' (ItemsBroken s at d (refusal_number f.cause) f.place)
 
-pub record ItemsSay (s : List ℕ) (at d : ℕ) (list list' : List ℕ) (from : ℕ) (o : Items) : Type 0 where
+pub record ItemsSay (s : List ℕ) (at d : ℕ) (list list' : List ℕ) (from : ℕ) (o : Result Items Fault) : Type 0 where
   pub are : ItemsAre s at d list list' from o

@@ -43,37 +43,28 @@ pub enum Entry {
     Finish(u64),
 }
 
-// A number and the place after it, or none and the place of the byte (or of the text's end) that is in the way.
+// The first line's N, W and initial number, and where the items begin.
 #[derive(Clone, Copy)]
-pub enum Digits {
-    Value(u64, usize),
-    NoNumber(usize),
+pub struct First {
+    pub n: u64,
+    pub w: u64,
+    pub initial: u64,
+    pub items: usize,
 }
 
-// The first line's N, W and initial number, and where the items begin; or the place at which it breaks.
-#[derive(Clone, Copy)]
-pub enum Header {
-    First(u64, u64, u64, usize),
-    NoFirst(usize),
-}
-
-// An item that is no group, or a group's count; and the place after it, or after the `(`. Or the place at which it
-// breaks.
+// An item that is no group, or a group's count; and the place after it, or after the `(`.
 #[derive(Clone, Copy)]
 pub enum Start {
     Single(Entry, usize),
     Group(u64, usize),
-    Wrong(usize),
 }
 
-// What follows an item: a next one and its place, a `)` and the place after it, the text's end, or a stray byte and its
-// place.
+// What follows an item: a next one and its place, a `)` and the place after it, or the text's end.
 #[derive(Clone, Copy)]
 pub enum Follow {
     Item(usize),
     Shut(usize),
     End,
-    Stray(usize),
 }
 
 // What a byte is.
@@ -83,8 +74,7 @@ pub fn class(b: u8) -> Kind
 {
     match b {
         b'0'..=b'9' => Kind::Digit((b as u64) - 48),
-        b'\n' => Kind::Gap,
-        b' ' => Kind::Gap,
+        b'\n' | b' ' => Kind::Gap,
         b'!' => Kind::Marked(Mark::All),
         b'(' => Kind::Open,
         b')' => Kind::Close,
@@ -113,89 +103,74 @@ fn may_follow(value: u64, d: u64) -> bool
     requires { (value ≤ largest) × (d ≤ 9) }
     ensures { result ≡ digit_ok value d }
 {
-    if value == 0 {
-        return false;
-    }
-    value * 10 + d <= 4294967295
+    value != 0 && value * 10 + d <= 4294967295
 }
 
+// Each reader below replies with the place after what it reads, or with the place of the byte (or of the text's end) that
+// is in the way.
+
 // The digits from a place on, after digits that make v.
-pub fn number(text: &[u8], at: usize, v: u64) -> Digits
+pub fn number(text: &[u8], at: usize, v: u64) -> Result<(u64, usize), usize>
     requires { (at ≤ length text.now) × (v ≤ largest) }
     ensures { NumberSays text.now at v result }
 {
-    let mut next = at;
     let mut value = v;
-    while next < text.len() {
+    for next in at..text.len() {
         let k = class(text[next]);
         let Kind::Digit(d) = k else {
-            return Digits::Value(value, next);
+            return Ok((value, next));
         };
         if !may_follow(value, d) {
-            return Digits::NoNumber(next);
+            return Err(next);
         }
         value = value * 10 + d;
-        next += 1;
     }
-    Digits::Value(value, next)
+    Ok((value, text.len()))
 }
 
 // The number that begins at a place.
-pub fn number_at(text: &[u8], at: usize) -> Digits
+pub fn number_at(text: &[u8], at: usize) -> Result<(u64, usize), usize>
     requires { at ≤ length text.now }
     ensures { NumberAtSays text.now at result }
 {
     if text.len() <= at {
-        return Digits::NoNumber(text.len());
+        return Err(text.len());
     }
     let k = class(text[at]);
     let Kind::Digit(d) = k else {
-        return Digits::NoNumber(at);
+        return Err(at);
     };
     number(text, at + 1, d)
 }
 
 // A number and the one byte that ends it; the place given is after that byte.
-pub fn field(text: &[u8], at: usize, stop: u8) -> Digits
+pub fn field(text: &[u8], at: usize, stop: u8) -> Result<(u64, usize), usize>
     requires { at ≤ length text.now }
     ensures { FieldSays text.now at stop result }
 {
-    let got = number_at(text, at);
-    match got {
-        Digits::NoNumber(place) => Digits::NoNumber(place),
-        Digits::Value(v, next) => {
-            if text.len() <= next {
-                return Digits::NoNumber(text.len());
-            }
-            if text[next] != stop {
-                return Digits::NoNumber(next);
-            }
-            Digits::Value(v, next + 1)
-        }
+    let (v, next) = number_at(text, at)?;
+    if text.len() <= next {
+        return Err(text.len());
     }
+    if text[next] != stop {
+        return Err(next);
+    }
+    Ok((v, next + 1))
 }
 
 // The first line: N, W and the initial number, one space between, then a line feed.
-pub fn first_line(text: &[u8]) -> Header
+pub fn first_line(text: &[u8]) -> Result<First, usize>
     ensures { HeaderSays text.now result }
 {
-    let first = field(text, 0, b' ');
-    match first {
-        Digits::NoNumber(place) => Header::NoFirst(place),
-        Digits::Value(n, second) => {
-            let middle = field(text, second, b' ');
-            match middle {
-                Digits::NoNumber(place) => Header::NoFirst(place),
-                Digits::Value(w, third) => {
-                    let last = field(text, third, b'\n');
-                    match last {
-                        Digits::NoNumber(place) => Header::NoFirst(place),
-                        Digits::Value(initial, items) => Header::First(n, w, initial, items),
-                    }
-                }
-            }
-        }
-    }
+    let (n, second) = field(text, 0, b' ')?;
+    let (w, third) = field(text, second, b' ')?;
+    let (initial, items) = field(text, third, b'\n')?;
+    Ok(First {
+        n,
+        w,
+        initial,
+        items,
+    })
 }
 
 // The first byte from a place on that is no gap.
@@ -203,77 +178,62 @@ pub fn skip(text: &[u8], at: usize) -> usize
     requires { at ≤ length text.now }
     ensures { Skipped text.now at result }
 {
-    let mut next = at;
-    while next < text.len() {
+    for next in at..text.len() {
         let k = class(text[next]);
         let Kind::Gap = k else {
             return next;
         };
-        next += 1;
     }
-    next
+    text.len()
 }
 
 // An item up to its end, or to the `(` of a group.
-pub fn begin(text: &[u8], at: usize) -> Start
+pub fn begin(text: &[u8], at: usize) -> Result<Start, usize>
     requires { at ≤ length text.now }
     ensures { BeginSays text.now at result }
 {
-    let got = number_at(text, at);
-    match got {
-        Digits::NoNumber(place) => Start::Wrong(place),
-        Digits::Value(v, next) => {
-            if text.len() <= next {
-                return Start::Wrong(text.len());
-            }
-            let sign = class(text[next]);
-            match sign {
-                Kind::Marked(m) => Start::Single(entry_of(m, v), next + 1),
-                Kind::Offer => {
-                    let word = number_at(text, next + 1);
-                    match word {
-                        Digits::NoNumber(place) => Start::Wrong(place),
-                        Digits::Value(k, end) => Start::Single(Entry::StartSc(v, k), end),
-                    }
-                }
-                Kind::Open => {
-                    if v == 0 {
-                        return Start::Wrong(next);
-                    }
-                    if 255 < v {
-                        return Start::Wrong(next);
-                    }
-                    Start::Group(v, next + 1)
-                }
-                _ => Start::Wrong(next),
-            }
+    let (v, next) = number_at(text, at)?;
+    if text.len() <= next {
+        return Err(text.len());
+    }
+    let sign = class(text[next]);
+    match sign {
+        Kind::Marked(m) => Ok(Start::Single(entry_of(m, v), next + 1)),
+        Kind::Offer => {
+            let (k, end) = number_at(text, next + 1)?;
+            Ok(Start::Single(Entry::StartSc(v, k), end))
         }
+        Kind::Open => match v {
+            1..=255 => Ok(Start::Group(v, next + 1)),
+            _ => Err(next),
+        },
+        _ => Err(next),
     }
 }
 
 // What follows an item.
-pub fn after(text: &[u8], at: usize) -> Follow
+pub fn after(text: &[u8], at: usize) -> Result<Follow, usize>
     requires { at ≤ length text.now }
     ensures { Follows text.now at result }
 {
     if text.len() <= at {
-        return Follow::End;
+        return Ok(Follow::End);
     }
     let k = class(text[at]);
     match k {
-        Kind::Close => Follow::Shut(at + 1),
+        Kind::Close => Ok(Follow::Shut(at + 1)),
         Kind::Gap => {
             let next = skip(text, at + 1);
             if text.len() <= next {
-                return Follow::End;
+                return Ok(Follow::End);
             }
             let sign = class(text[next]);
             match sign {
-                Kind::Close => Follow::Shut(next + 1),
-                Kind::Digit(_) => Follow::Item(next),
-                _ => Follow::Stray(next),
+                Kind::Close => Ok(Follow::Shut(next + 1)),
+                Kind::Digit(_) => Ok(Follow::Item(next)),
+                _ => Err(next),
             }
         }
-        _ => Follow::Stray(at),
+        _ => Err(at),
     }
 }

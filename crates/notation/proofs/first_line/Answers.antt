@@ -1,38 +1,30 @@
 -- `notation::first_line`: three numbers, each with the byte that ends it.
-use mathlib.Core.Path.{subst}
-use Rattle.notation.specs.Readers.{FieldSays, no_n, no_w, no_initial}
-use Rattle.notation.proofs.HeaderLaws.{ended_within}
+use Rattle.std.proofs.lemmas.Result.{err_from_is_err_and}
+use Rattle.notation.specs.Readers.{no_n, no_w, no_initial}
 use Rattle.notation.proofs.AgainLaws.{first_again}
 use Rattle.notation.proofs.first_line.Goals as goal
 
-pub field-middle-requires : goal.field-middle-requires
-field-middle-requires c =
-    let p = subst (FieldSays _ _ _) c.in-Value.is c.field-first.ensures in
-    ended_within p
+pub returns-in_err-n : goal.returns-in_err-n
+returns-in_err-n c =
+    let p = err_from_is_err_and c.from_residual.result c.from_residual.ensures.1 in
+    rw (p.1, p.2) (no_n c.in_err-n.ensures)
 
-pub field-last-requires : goal.field-last-requires
-field-last-requires c =
-    let q = subst (FieldSays _ _ _) c.in-Value-middle.is c.field-middle.ensures in
-    ended_within q
+pub returns-in_err-w : goal.returns-in_err-w
+returns-in_err-w c =
+    let p = err_from_is_err_and c.from_residual-in_err-w.result c.from_residual-in_err-w.ensures.1 in
+    rw (p.1, p.2) (no_w c.in_ok-n.ensures c.in_err-w.ensures)
 
-pub returns-in-NoNumber : goal.returns-in-NoNumber
-returns-in-NoNumber c =
-    no_n (subst (FieldSays _ _ _) c.in-NoNumber.is c.field-first.ensures)
+pub returns-in_err-initial : goal.returns-in_err-initial
+returns-in_err-initial c =
+    let p = err_from_is_err_and c.from_residual-in_err-initial.result c.from_residual-in_err-initial.ensures.1 in
+    rw (p.1, p.2) (no_initial c.in_ok-n.ensures c.in_ok-w.ensures c.in_err-initial.ensures)
 
-pub returns-in-NoNumber-middle : goal.returns-in-NoNumber-middle
-returns-in-NoNumber-middle c =
-    let p = subst (FieldSays _ _ _) c.in-Value.is c.field-first.ensures in
-    no_w p (subst (FieldSays _ _ _) c.in-NoNumber-middle.is c.field-middle.ensures)
-
-pub returns-in-NoNumber-last : goal.returns-in-NoNumber-last
-returns-in-NoNumber-last c =
-    let p = subst (FieldSays _ _ _) c.in-Value.is c.field-first.ensures in
-    let q = subst (FieldSays _ _ _) c.in-Value-middle.is c.field-middle.ensures in
-    no_initial p q (subst (FieldSays _ _ _) c.in-NoNumber-last.is c.field-last.ensures)
-
-pub returns-in-Value-last : goal.returns-in-Value-last
-returns-in-Value-last c =
-    let p = subst (FieldSays _ _ _) c.in-Value.is c.field-first.ensures in
-    let q = subst (FieldSays _ _ _) c.in-Value-middle.is c.field-middle.ensures in
-    let r = subst (FieldSays _ _ _) c.in-Value-last.is c.field-last.ensures in
-    record { second = _; third = _; n_ends = p; w_ends = q; initial_ends = r; again = first_again p q r }
+pub returns : goal.returns
+returns c = record {
+  second = _;
+  third = _;
+  n_ends = c.in_ok-n.ensures;
+  w_ends = c.in_ok-w.ensures;
+  initial_ends = c.in_ok-initial.ensures;
+  again = first_again c.in_ok-n.ensures c.in_ok-w.ensures c.in_ok-initial.ensures;
+}

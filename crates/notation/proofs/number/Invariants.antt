@@ -1,19 +1,13 @@
--- `notation::number`: the loop's invariant is that the digits passed lead from v to the value.
-use Prim.Native.Nat.{ℕ, ◌≤◌, ◌-◌}
+-- `notation::number`: the digits passed lead from v to the value.
+use Prim.Native.Nat.{ℕ, ◌≤◌}
 use mathlib.Core.List.{List}
-use lib.ListN.{length}
 use Rattle.notation.specs.Grammar.{largest}
 use Rattle.notation.specs.Readers.{Counts}
 use Rattle.notation.proofs.number.Given as goal
 
 pub record Inv (s : List ℕ) (at v next value : ℕ) : Type 0 where
   pub counts : Counts s at v next value
-  pub on : at ≤ next
-  pub within : next ≤ length s
   pub small : value ≤ largest
 
 abbrev pub invariant-loop-next : goal.invariant-loop-next
 invariant-loop-next l = Inv l.text l.at l.v l.next l.value
-
-abbrev pub decreases-loop-next : goal.decreases-loop-next
-decreases-loop-next l = length l.text - l.next
