@@ -1,41 +1,29 @@
--- What `set_up` makes of lent memory is the model's set-up.
+-- A set-up that is not refused has its records lent, and writes the first n of them.
 use mathlib.Core.Path.{◌≡◌, refl, sym, ap, ◌∙◌}
-use Prim.Native.Nat.{ℕ, zero, suc}
-use native.Mathlib.Nat.{zero-add}
-use native.Mathlib.Numerals.{add-one}
-use mathlib.Core.Bool.{Bool, true, false, cond}
-use mathlib.Core.List.{List}
-use lib.Dec.{eqb}
-use lib.ListN.{length, set, replicate}
-use lib.Seq.{sets}
-use Rattle.laws.proofs.ListLaws.{sets_replicate}
+use mathlib.Core.List.{List, ◌++◌}
+use Prim.Native.Nat.{ℕ, ◌+◌, ◌≤◌}
+use native.Mathlib.Omega.{arith}
+use lib.ListN.{length, take, drop, replicate, length-replicate, length-take}
+use borrow.Author.Tests.{ne_eqb}
+use Rattle.std.proofs.lemmas.List.Edits.{sets-eq}
 use Rattle.moir_model.specs.declared.Bench.{Bench}
 use Rattle.moir_model.specs.declared.Process.{Process}
-use Rattle.moir_model.specs.SetUp.{process_at_set_up, records_at_set_up, set_up}
-use Rattle.moir_machine.specs.SetUpByValue.{prepared}
-use Rattle.moir_machine.proofs.SetUpLaws.{set_up_law}
-use Rattle.moir_bench.specs.Lent.{memory, records_to_write, records_written}
-use Rattle.moir_bench.specs.SettingUp.{set_up_over}
+use Rattle.moir_model.specs.SetUp.{process_at_set_up, records_at_set_up}
+use Rattle.moir_machine.specs.SetUpByValue.{prepared, records_set}
+use Rattle.moir_bench.specs.Lent.{memory}
+use Rattle.moir_machine.proofs.SetUpLaws.{records_fit, prepared_number}
 
--- records that are set up one by one are a run of stores
-written_at_set_up : (l : List Process) (n : ℕ) → records_written l n ≡ records_at_set_up l n
-unfolding records_written
-written_at_set_up l zero = refl
-written_at_set_up l (suc n) =
-    ap (λ (r : List Process). set r n process_at_set_up) (written_at_set_up l n) ∙
-    ap (λ (k : ℕ). set (sets l 0 (replicate n process_at_set_up)) k process_at_set_up) (sym (zero-add n)) ∙
-    sym (sets_replicate l 0 n process_at_set_up) ∙ ap (λ (k : ℕ). sets l 0 (replicate k process_at_set_up)) (add-one n)
+pub records_lent : (b : Bench) (rs : List Process) (ws : List ℕ) (n w : ℕ) (v : List ℕ) → 0 ≡ (prepared b (length rs) n w v ws).0 → n ≤ length rs
+records_lent b rs ws n w v e = records_fit n w (length rs) (length ws) (length v) (sym (e ∙ prepared_number b (length rs) n w v ws))
 
-written : (rs : List Process) (n : ℕ) (t : Bool) → records_written rs (cond t n 0) ≡ cond t (records_at_set_up rs n) rs
-unfolding records_written
-written rs n true = written_at_set_up rs n
-written rs n false = refl
+pub first_written : (rs : List Process) (n : ℕ) {q : Process} {l : List Process} → l ≡ replicate (length (take n rs)) q
+    → q ≡ process_at_set_up → n ≤ length rs → l ++ drop n rs ≡ records_at_set_up rs n
+first_written rs n e f h =
+    let taken : length (take n rs) ≡ n = omega (arith, length-take n rs, h) in
+    let all = length-replicate n process_at_set_up in
+    let z : 0 + length (replicate n process_at_set_up) ≡ n = omega (arith, all) in
+    rw (e, f, taken, sets-eq (replicate n process_at_set_up) rs 0 (omega (arith, all, h)), z) refl
 
-pub set_up_same : (b : Bench) (rs : List Process) (ws : List ℕ) (n w : ℕ) (v : List ℕ) → set_up_over (memory b rs ws) n w v ≡ set_up (memory b rs ws) n w v
-unfolding records_to_write
-set_up_same b rs ws n w v =
-    ap (λ (r : List Process). (
-      (prepared b (length rs) n w v ws).0.number,
-      memory (prepared b (length rs) n w v ws).0.bench r (prepared b (length rs) n w v ws).1,
-    ))
-    (written rs n (eqb (prepared b (length rs) n w v ws).0.number 0)) ∙ set_up_law b rs ws n w v
+-- a refused one keeps them
+pub records_kept : (b : Bench) (rs : List Process) (n : ℕ) (ws : List ℕ) (k : ℕ) → (k ≡ 0 → ⊥) → records_set rs n (k, b, ws) ≡ (k, memory b rs ws)
+records_kept b rs n ws k h = simp (ne_eqb k 0 h)

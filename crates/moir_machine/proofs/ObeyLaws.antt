@@ -17,7 +17,6 @@ use Rattle.llsc.specs.Rows.{every}
 use Rattle.moir_model.specs.Refusals.{header_ok, process_ok, in_range}
 use Rattle.moir_steps.specs.Ranges.{Obeyable}
 use Rattle.moir_rows.specs.CommandRows.{decision_number}
-use Rattle.moir_machine.specs.Decision.{refused_outcome, obeyed_at, decided}
 use Rattle.laws.proofs.AndLaws.{right}
 use Rattle.laws.proofs.ListLaws.{every_at}
 use Rattle.moir_machine.proofs.RowLaws.{Cleared, none_holds, InRange, in_range_lem}
@@ -47,16 +46,8 @@ module _ (b : Bench) (list : List Process) (len p : ℕ) (o : Order) (value word
         value = h.given;
       }
 
-  pub process_small : decision_number b list len p o (length value) (length words) ≡ 0 → p < 16
-  process_small e = let h = none_holds b list len p o (length value) (length words) e in omega (arith, h.process, h.n_most)
-
-  -- the two answers of a decision
-  pub refused_law : (k : ℕ) → k ≡ decision_number b list len p o (length value) (length words) → (k ≡ 0 → ⊥)
-      → (refused_outcome b len k, words) ≡ decided b list len p o value words
-  unfolding decided
-  refused_law k e h = rw e (simp (ne_eqb (decision_number b list len p o (length value) (length words)) 0 (λ z. h (e ∙ z))))
-
-  pub obeyed_law : (out : Moved × List ℕ) → decision_number b list len p o (length value) (length words) ≡ 0
-      → out ≡ obey o (record { 0 = p }) value b (record_at list (record { 0 = p })) words → obeyed_at p out ≡ decided b list len p o value words
-  unfolding decided
-  obeyed_law out e h = ap (obeyed_at p) h ∙ simp (eq-eqb (decision_number b list len p o (length value) (length words)) 0 e)
+  -- the process that is named has a record, and it is lent
+  pub process_lent : decision_number b list len p o (length value) (length words) ≡ 0 → (p < 16) × (p < len)
+  process_lent e =
+      let h = none_holds b list len p o (length value) (length words) e in
+      (omega (arith, h.process, h.n_most), omega (arith, h.process, h.records))

@@ -16,16 +16,9 @@ use Rattle.moir_model.specs.Words.{put_tag}
 use Rattle.moir_model.specs.Machine.{Memory}
 use Rattle.moir_model.specs.Refusals.{row3}
 use Rattle.moir_model.specs.SetUp.{bench_at_set_up, words_at_set_up, set_up, set_up_refusal}
-use Rattle.moir_machine.specs.declared.setting_up.Prepared.{Prepared}
-use Rattle.moir_machine.specs.SetUpByValue.{set_up_number, set_up_number_lem, tags_set, Accepted, prepared, records_set}
+use Rattle.moir_machine.specs.SetUpByValue.{set_up_number, set_up_number_lem, Accepted, prepared, records_set}
 use Rattle.laws.proofs.ListLaws.{sets_append, sets_replicate}
 use Rattle.rows.proofs.RowLaws.{cleared, n_in, w_in, neither}
-
--- one tag more
-pub tags_next : (b : Bench) (k : ℕ) → put_tag (tags_set b k) k 0 ≡ tags_set b (k + 1)
-tags_next b k =
-    ap (λ (l : List ℕ). record { n = b.n; w = b.w; header = b.header; tags = l })
-    (ap (λ (j : ℕ). set (sets b.tags 0 (replicate k 0)) j 0) (sym (zero-add k)) ∙ sym (sets_replicate b.tags 0 k 0))
 
 -- A[0] and the segments are rows of the lent words
 pub first_row_lem : (n w : ℕ) → 1 ≤ n → w ≤ n * w
@@ -77,17 +70,38 @@ set_up_fits n w len words value e =
       value_words = eqb-true value w (not-false (eqb value w) c8.0);
     }
 
+-- and records
+pub records_fit : (n w len words value : ℕ) → set_up_number n w len words value ≡ 0 → n ≤ len
+unfolding set_up_number
+records_fit n w len words value e =
+    let r8 : ℕ = cond (row8always w value).holds 8 0 in
+    let r3 : ℕ = cond (row3 n w len words).holds 3 r8 in
+    let r2 : ℕ = cond (row2 w).holds 2 r3 in
+    let c1 = cleared (row1 n).holds 0 r2 e in
+    let c2 = cleared (row2 w).holds 1 r3 c1.1 in
+    let c3 = cleared (row3 n w len words).holds 2 r8 c2.1 in
+    ltb-false len n (neither (ltb words ((3 * n + 1) * w)) (ltb len n) c3.0).1
+
 -- the two answers of a set-up
 module _ (b : Bench) (len n w : ℕ) (value ws : List ℕ) where
   pub prepared_refused : (k : ℕ) → k ≡ set_up_number n w len (length ws) (length value) → (k ≡ 0 → ⊥)
-      → ◌≡◌ {A = Prepared × List ℕ} (record { number = k; bench = b }, ws) (prepared b len n w value ws)
+      → ◌≡◌ {A = ℕ × Bench × List ℕ} (k, b, ws) (prepared b len n w value ws)
   unfolding prepared
   prepared_refused k e h = rw e (simp (ne_eqb (set_up_number n w len (length ws) (length value)) 0 (λ z. h (e ∙ z))))
 
   pub prepared_done : set_up_number n w len (length ws) (length value) ≡ 0
-      → ◌≡◌ {A = Prepared × List ℕ} (record { number = 0; bench = bench_at_set_up b n w }, words_at_set_up ws n w value) (prepared b len n w value ws)
+      → ◌≡◌ {A = ℕ × Bench × List ℕ} (0, bench_at_set_up b n w, words_at_set_up ws n w value) (prepared b len n w value ws)
   unfolding prepared
   prepared_done e = simp (eq-eqb (set_up_number n w len (length ws) (length value)) 0 e)
+
+  -- the number that it tells is that of its refusal
+  pub prepared_number : (prepared b len n w value ws).0 ≡ set_up_number n w len (length ws) (length value)
+  unfolding prepared
+  prepared_number = by (set_up_number n w len (length ws) (length value))
+    where
+      by : (k : ℕ) → (cond {A = ℕ × Bench × List ℕ} (eqb k 0) (0, bench_at_set_up b n w, words_at_set_up ws n w value) (k, b, ws)).0 ≡ k
+      by zero = refl
+      by (suc k) = rw (ne_eqb (suc k) 0 (λ z. omega (arith, z))) refl
 
 -- The by-value set-up is the set-up, once the records are set up too.
 module _ (b : Bench) (rs : List Process) (ws : List ℕ) (n w : ℕ) (value : List ℕ) where

@@ -1,33 +1,27 @@
 -- The command by value: `list` is the lent records with a filler after them, `len` how many were lent.
 -- Inner: `DecisionLaws` proves that this, stored back, is `moir_model`'s command.
-use Rattle.std.specs.Prelude.{ℕ, List, cond, eqb, length, set}
+use Rattle.std.specs.Prelude.{◌≡◌, ℕ, List, Result, Ok, Err, length, set}
+use Rattle.llsc.specs.declared.Order.{Order}
+use Rattle.llsc.specs.declared.refusals.Refusal.{Refusal}
+use Rattle.llsc.specs.Refusals.{refusal_number}
 use Rattle.moir_model.specs.declared.Bench.{Bench}
 use Rattle.moir_model.specs.declared.Process.{Process}
-use Rattle.llsc.specs.declared.Order.{Order}
 use Rattle.moir_model.specs.declared.Reply.{Reply}
 use Rattle.moir_model.specs.declared.Reply.TheVariants.{Refused}
 use Rattle.moir_model.specs.declared.Moved.{Moved}
-use Rattle.moir_model.specs.Records.{no_process, record_at}
+use Rattle.moir_model.specs.Records.{record_at}
 use Rattle.moir_model.specs.Machine.{Memory, obey}
-use Rattle.moir_machine.specs.declared.Outcome.{Outcome}
 use Rattle.moir_rows.specs.CommandRows.{decision_number}
 
--- A refusal names place `len`, where a store does nothing.
-abbrev pub refused_outcome : Bench → ℕ → ℕ → Outcome
-refused_outcome b len number = record { bench = b; at = len; process = no_process; reply = Refused number }
+-- where no row holds the order is obeyed; else the first that holds refuses it, and the words stay
+abbrev pub Decides : Bench → List Process → ℕ → ℕ → Order → List ℕ → List ℕ → Result Moved Refusal → List ℕ → Type 0
+Decides b list len p o value words (Ok m) words' =
+    (decision_number b list len p o (length value) (length words) ≡ 0) ×
+    ((m, words') ≡ obey o (record { 0 = p }) value b (record_at list (record { 0 = p })) words)
+Decides b list len p o value words (Err r) words' =
+    (decision_number b list len p o (length value) (length words) ≡ refusal_number r) × (words' ≡ words)
 
-abbrev pub obeyed_outcome : Moved → ℕ → Outcome
-obeyed_outcome m p = record { bench = m.bench; at = p; process = m.process; reply = m.reply }
-
-abbrev pub obeyed_at : ℕ → Moved × List ℕ → Outcome × List ℕ
-obeyed_at p out = (obeyed_outcome out.0 p, out.1)
-
-unfoldable pub decided : Bench → List Process → ℕ → ℕ → Order → List ℕ → List ℕ → Outcome × List ℕ
-decided b list len p o value words =
-    cond (eqb (decision_number b list len p o (length value) (length words)) 0)
-    (obeyed_at p (obey o (record { 0 = p }) value b (record_at list (record { 0 = p })) words))
-    (refused_outcome b len (decision_number b list len p o (length value) (length words)), words)
-
--- the reply and all lent memory, once the caller has stored the outcome's record
-abbrev pub stored_back : List Process → Outcome × List ℕ → Reply × Memory
-stored_back rs out = (out.0.reply, record { bench = out.0.bench; records = set rs out.0.at out.0.process; words = out.1 })
+-- the reply and all lent memory, once the caller has stored the bench and the record of an obeyed order
+abbrev pub stored_back : Bench → List Process → ℕ → Result Moved Refusal → List ℕ → Reply × Memory
+stored_back b rs p (Ok m) words = (m.reply, record { bench = m.bench; records = set rs p m.process; words = words })
+stored_back b rs p (Err r) words = (Refused (refusal_number r), record { bench = b; records = rs; words = words })

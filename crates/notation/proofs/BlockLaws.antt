@@ -1,39 +1,12 @@
--- Laws of a block that is repeated: where its turns end, and the copy so far.
-use Prim.Native.Nat.{ℕ, suc, ◌+◌, ◌-◌, ◌*◌, ◌/◌, ◌≤◌, ◌<◌}
-use mathlib.Core.Path.{◌≡◌, refl, sym, ap, ◌∙◌}
+-- Laws of a block that is repeated: the copy so far.
+use Prim.Native.Nat.{ℕ, ◌+◌, ◌-◌, ◌≤◌, ◌<◌}
+use mathlib.Core.Path.{◌≡◌, refl, sym, ◌∙◌}
 use mathlib.Core.List.{List}
 use native.Mathlib.Omega.{arith}
-use native.Mathlib.Nat.{mul-zero, suc-mul, div-lt_iff_lt-mul, le-div_iff_mul-le}
 use native.Mathlib.Decide.{dec_lt}
 use lib.ListN.{length, get_or, set, length-set}
 use lib.Seq.{get_or-set_same, get_or-set_other}
-use Rattle.notation.specs.Listed.{Block, TurnsEnd, Repeated}
-
-module _ {len from to n : ℕ} (b : Block len from to n) where
-  -- n turns are the first and the others
-  turns_are : n * (to - from) ≡ (n - 1) * (to - from) + (to - from)
-  turns_are =
-      let one : n ≡ suc (n - 1) = omega (arith, b.turns) in
-      ap (λ (a : ℕ). a * (to - from)) one ∙ suc-mul (n - 1) (to - from)
-
-  pub turns_none : to - from ≡ 0 → TurnsEnd len from to n to
-  turns_none z =
-      let none = ap (λ (a : ℕ). n * a) z ∙ mul-zero n in
-      record { is = omega (arith, none, b.on, b.within); on = omega arith; within = b.within; some = λ h. absurd (omega arith) }
-
-  module _ (some : to - from ≡ 0 → ⊥) where
-    pub turns_cut : (len - to) / (to - from) < n - 1 → TurnsEnd len from to n len
-    turns_cut h =
-        let more = (div-lt_iff_lt-mul {k = to - from} (omega (arith, some))).0 h in
-        record { is = omega (arith, more, turns_are, b.on); on = b.within; within = omega arith; some = λ l. omega (arith, some) }
-
-    pub turns_room : n - 1 ≤ (len - to) / (to - from) → to + (n - 1) * (to - from) ≤ len
-    turns_room h =
-        let room = (le-div_iff_mul-le {k = to - from} (omega (arith, some))).0 h in
-        omega (arith, room, b.within)
-
-    pub turns_fit : n - 1 ≤ (len - to) / (to - from) → TurnsEnd len from to n (to + (n - 1) * (to - from))
-    turns_fit h = record { is = omega (arith, turns_room h, turns_are, b.on); on = omega arith; within = turns_room h; some = λ l. omega (arith, some) }
+use Rattle.notation.specs.Listed.{TurnsEnd, Repeated}
 
 -- the block again, up to `next`
 pub record Copied (list list' : List ℕ) (from to next end : ℕ) : Type 0 where

@@ -1,6 +1,6 @@
 -- Laws of the readers of items and of groups: what is read is kept, once for each turn.
 use Prim.Native.Nat.{ℕ, ◌-◌, ◌≤◌}
-use mathlib.Core.Path.{◌≡◌, refl, subst, ◌∙◌}
+use mathlib.Core.Path.{◌≡◌, subst, ◌∙◌}
 use Rattle.std.specs.Prelude.{Ok}
 use mathlib.Core.List.{List, [], ◌∷◌, ◌++◌}
 use mathlib.Core.Bool.{false}
@@ -11,13 +11,13 @@ use Rattle.notation.specs.declared.items.Items.{Items}
 use Rattle.notation.specs.Grammar.{times}
 use Rattle.notation.specs.Scan.{between}
 use Rattle.notation.specs.Places.{fore, tail, Moves, ClosesAfter}
-use Rattle.notation.specs.Stretches.{Once, Begun, StartSays}
+use Rattle.notation.specs.Stretches.{Once, Begun}
 use Rattle.notation.specs.Groups.{ItemRead, ItemsClosed}
 use Rattle.notation.specs.Listed.{Lists, Repeated, Block, Keeps, Spoilt, ItemsAre, ItemsSay}
 use Rattle.notation.specs.Written.{none, more}
 use Rattle.notation.proofs.AgainLaws.{standing_then, standing_turns}
 use Rattle.notation.proofs.PlaceLaws.{places_group}
-use Rattle.notation.proofs.GroupLaws.{item_once, item_closed, item_wrong}
+use Rattle.notation.proofs.GroupLaws.{item_once, item_closed}
 use Rattle.notation.proofs.ListedLaws.{lists_none, lists_then, lists_turns}
 
 -- the place after what is kept

@@ -1,4 +1,5 @@
 // An entry and the place of its item as one number, and the list of them.
+// Kept: a number and no struct, since the list of 60,001 of them stands in memory of a fixed size: no heap.
 ghost use Rattle.std.specs.Prelude.{◌≡◌, [], ◌∷◌, ◌≤◌, ◌<◌, length};
 ghost use Rattle.notation.specs.EntryWords.{kept_process, kept_entry, entry_of_kind, entry_in, place_unit, largest_place, place_in};
 ghost use Rattle.notation.specs.Grammar.{largest};
@@ -22,7 +23,7 @@ const PLACE_UNIT: u64 = 1099511627776;
 fn kept_process(p: u64) -> u64
     ensures { result ≡ kept_process p }
 {
-    if p <= 15 { p } else { 16 }
+    p.min(16)
 }
 
 // A kind, a process and a number in one.

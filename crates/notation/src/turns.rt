@@ -2,20 +2,13 @@
 ghost use Rattle.std.specs.Prelude.{◌≤◌, length};
 ghost use Rattle.notation.specs.Listed.{Block, TurnsEnd, Repeated};
 
-// Where the last turn ends. By a division, since the product of a count and a size need not fit.
+// Where the last turn ends: at the end of the list where the product of the count and the size does not fit.
 fn turns_end(len: usize, from: usize, to: usize, n: u64) -> usize
     requires { Block len from to n }
     ensures { TurnsEnd len from to n result }
 {
-    let size = to - from;
-    if size == 0 {
-        return to;
-    }
-    let more = (n - 1) as usize;
-    if (len - to) / size < more {
-        return len;
-    }
-    to + more * size
+    let turns = (n as usize).saturating_mul(to - from);
+    len.min(from.saturating_add(turns))
 }
 
 // The block from `from` to `to` again and again, until it stands there n times or the list is full; the place after it.
@@ -25,10 +18,8 @@ pub fn repeat(list: &mut [u64], from: usize, to: usize, n: u64) -> usize
 {
     let end = turns_end(list.len(), from, to, n);
     let size = to - from;
-    let mut next = to;
-    while next < end {
+    for next in to..end {
         list[next] = list[next - size];
-        next += 1;
     }
     end
 }

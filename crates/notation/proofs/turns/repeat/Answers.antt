@@ -1,4 +1,4 @@
--- `notation::turns::repeat`: the loop's invariant is that the block stands again up to `next`.
+-- `notation::turns::repeat`: the block stands again up to `next`.
 use Rattle.notation.proofs.BlockLaws.{copied_none, copied_more, copied_all}
 use Rattle.notation.proofs.turns.repeat.Goals as goal
 
