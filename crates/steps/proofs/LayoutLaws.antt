@@ -1,6 +1,6 @@
 -- The words that a step moves are lent: of one record alone, and of each step that is ready.
 use mathlib.Core.Path.{◌≡◌, ap, ◌∙◌}
-use Prim.Native.Nat.{ℕ, ◌+◌, ◌*◌, ◌/◌, ◌<◌, ◌≤◌}
+use Prim.Native.Nat.{ℕ, ◌+◌, ◌*◌, ◌<◌, ◌≤◌}
 use mathlib.Core.List.{List}
 use native.Mathlib.Nat.{mul-le-mul_right}
 use native.Mathlib.Omega.{arith}
@@ -9,7 +9,7 @@ use Rattle.model.specs.declared.BufferNumber.{BufferNumber}
 use Rattle.llsc.specs.declared.ProcessNumber.{ProcessNumber}
 use Rattle.model.specs.declared.Process.{Process}
 use Rattle.llsc.specs.declared.Order.{Order}
-use Rattle.model.specs.Sizes.{buffers, halves}
+use Rattle.model.specs.Sizes.{buffers}
 use Rattle.model.specs.Words.{buffer_in, return_in, offer_in, word_of}
 use Rattle.words.specs.declared.layouts.FirstRows.{FirstRows}
 use Rattle.words.specs.Layouts.{layout_from, one_rows}
