@@ -10,6 +10,7 @@ use lines::points;
 use llsc::ProcessNumber;
 use model::Process;
 use taken::Taken;
+use words::word_places;
 
 // What stands for no access: none is made, or none is shown.
 pub fn no_access() -> Access
@@ -26,6 +27,7 @@ pub fn no_access() -> Access
 
 // From the memory before the step: the places taken out for it and the words. An idle process and a line that is none
 // are never stepped.
+// Kept: each line by its own number, as Figure 2 has it; 7, 12 and 14 stand for two points each.
 pub fn access_of(
     n: usize,
     w: usize,
@@ -37,8 +39,8 @@ pub fn access_of(
     requires { Ready n w process p words.now }
     ensures { result ≡ access_on (point_of process.line) p n w taken process words.now }
 {
-    let line = process.line;
-    match line {
+    let k = process.word / 2;
+    match process.line {
         points::LINE_1 => on_help::write(p, process),
         points::LINE_2 => on_x::ll(2, taken.x),
         points::LINE_3 => on_words::read(3, process.x.buf, w, process, words),
@@ -50,14 +52,20 @@ pub fn access_of(
         points::LINE_8 => on_help::ll(8, p, taken.help),
         points::LINE_9 => on_help::sc(9, p, p, process.c, taken.help),
         points::LINE_10 => on_help::read(p, taken.help),
-        points::LINE_11 => on_words::write_returned(n, w, p, process, words),
+        points::LINE_11 => {
+            let from = word_places::return_word(n, w, p, k);
+            on_words::write(11, from, process, words)
+        }
         points::LINE_12 => on_bank::ll(taken.bank, process.x),
         points::LINE_12_VALID => on_x::vl(12, p, taken.x),
         points::LINE_13 => on_bank::sc(p, taken.bank, process.x),
         points::LINE_14 => on_help::ll_helped(n, taken.help, process),
         points::LINE_14_VALID => on_x::vl(14, p, taken.x),
         points::LINE_15 => on_help::sc_helped(n, p, taken.help, process),
-        points::LINE_17 => on_words::write_offered(n, w, p, process, words),
+        points::LINE_17 => {
+            let from = word_places::offer_word(n, w, p, k);
+            on_words::write(17, from, process, words)
+        }
         points::LINE_18 => on_bank::read(n, taken.bank, process.x),
         points::LINE_19 => on_x::sc(n, p, taken.x, process),
         points::LINE_23 => on_x::vl(23, p, taken.x),

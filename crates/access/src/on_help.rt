@@ -15,13 +15,12 @@ use model::{BufferNumber, HelpContent, HelpPlace, Process};
 fn on_help(line: u8, i: ProcessNumber, act: Act, content: HelpContent) -> Access
     ensures { result ≡ help_access line i act content }
 {
-    let buf = content.buf;
     Access {
         line,
         item: Item::Help(i),
         act,
         first: content.flag as u64,
-        second: buf.0 as u64,
+        second: content.buf.0 as u64,
     }
 }
 

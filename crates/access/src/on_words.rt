@@ -1,13 +1,11 @@
-// The accesses to a half word of BUF. n is N, w is W, p the process that steps.
+// The accesses to a half word of BUF. w is W.
 ghost use Rattle.std.specs.Prelude.{◌≡◌, ◌<◌, ◌≤◌, length, get_or};
 ghost use Rattle.model.specs.Sizes.{halves};
-ghost use Rattle.model.specs.Words.{buffer_word, return_word, offer_word, word_of, half};
-ghost use Rattle.taken.specs.Ranges.{Ready};
+ghost use Rattle.model.specs.Words.{buffer_word, word_of, half};
 ghost use Rattle.access.specs.AccessOn.{half_access, read_half, write_half};
 
 use crate::{Access, Act};
 use doings::Item;
-use llsc::ProcessNumber;
 use model::{BufferNumber, Process};
 use words::word_places;
 
@@ -35,34 +33,17 @@ pub fn read(line: u8, f: BufferNumber, w: usize, process: Process, words: &[u64]
     on_half(line, f, k, Act::Read, from, words)
 }
 
-// Line 11: a half word of the return area.
-pub fn write_returned(
-    n: usize,
-    w: usize,
-    p: ProcessNumber,
-    process: Process,
-    words: &[u64],
-) -> Access
-    requires { Ready n w process p words.now }
-    ensures { result ≡ write_half 11 (return_word n w p (word_of process.word)) process words.now }
+// Lines 11 and 17: a half of the word at `from`, of the return area or of the offer area, to BUF[mybuf].
+pub fn write(line: u8, from: usize, process: Process, words: &[u64]) -> Access
+    requires { from < length words.now }
+    ensures { result ≡ write_half line from process words.now }
 {
-    let k = process.word;
-    let from = word_places::return_word(n, w, p, k / 2);
-    on_half(11, process.mybuf, k, Act::Write, from, words)
-}
-
-// Line 17: a half word of the offer area.
-pub fn write_offered(
-    n: usize,
-    w: usize,
-    p: ProcessNumber,
-    process: Process,
-    words: &[u64],
-) -> Access
-    requires { Ready n w process p words.now }
-    ensures { result ≡ write_half 17 (offer_word n w p (word_of process.word)) process words.now }
-{
-    let k = process.word;
-    let from = word_places::offer_word(n, w, p, k / 2);
-    on_half(17, process.mybuf, k, Act::Write, from, words)
+    on_half(
+        line,
+        process.mybuf,
+        process.word,
+        Act::Write,
+        from,
+        words,
+    )
 }

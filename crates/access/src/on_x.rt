@@ -14,14 +14,12 @@ use model::{Process, XContent, XPlace};
 fn on_x(line: u8, act: Act, content: XContent) -> Access
     ensures { result ≡ x_access line act content }
 {
-    let buf = content.buf;
-    let seq = content.seq;
     Access {
         line,
         item: Item::X,
         act,
-        first: buf.0 as u64,
-        second: seq.0 as u64,
+        first: content.buf.0 as u64,
+        second: content.seq.0 as u64,
     }
 }
 
@@ -51,9 +49,8 @@ pub fn sc(n: usize, p: ProcessNumber, x: XPlace, process: Process) -> Access
     requires { (p.0 < 16) × Sized n }
     ensures { result ≡ x_access 19 (Act.Sc (linked x.links p)) (record { buf = process.mybuf; seq = next n process.x.seq }) }
 {
-    let read = process.x;
     let buf = process.mybuf;
-    let seq = sequence::following(n, read.seq);
+    let seq = sequence::following(n, process.x.seq);
     let done = places::is_linked(x.links, p);
     on_x(19, Act::Sc(done), XContent { buf, seq })
 }

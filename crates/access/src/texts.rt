@@ -63,10 +63,8 @@ fn values(list: &mut [u8], at: usize, item: Item, first: u64, second: u64) -> us
     ensures { Wrote list.old at (values_text item first second) list.new result }
 {
     match item {
-        Item::X => pair(list, at, first, second),
-        Item::Bank(_) => trace_parts::spaced(list, at, first),
-        Item::Help(_) => pair(list, at, first, second),
-        Item::Half(_, _) => trace_parts::spaced(list, at, first),
+        Item::X | Item::Help(_) => pair(list, at, first, second),
+        Item::Bank(_) | Item::Half(_, _) => trace_parts::spaced(list, at, first),
     }
 }
 
@@ -87,10 +85,8 @@ fn written(list: &mut [u8], at: usize, item: Item) -> usize
     ensures { Wrote list.old at (written_text item) list.new result }
 {
     match item {
-        Item::X => listing::plain(list, at, b" links cleared"),
-        Item::Bank(_) => listing::plain(list, at, b" links cleared"),
-        Item::Help(_) => listing::plain(list, at, b" links cleared"),
         Item::Half(_, _) => at,
+        _ => listing::plain(list, at, b" links cleared"),
     }
 }
 

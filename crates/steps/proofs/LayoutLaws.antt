@@ -1,6 +1,5 @@
 -- The words that a step moves are lent: of one record alone, and of each step that is ready.
-use mathlib.Core.Path.{◌≡◌, ap, ◌∙◌}
-use Prim.Native.Nat.{ℕ, ◌+◌, ◌*◌, ◌/◌, ◌<◌, ◌≤◌}
+use Prim.Native.Nat.{ℕ, ◌+◌, ◌*◌, ◌<◌, ◌≤◌}
 use mathlib.Core.List.{List}
 use native.Mathlib.Nat.{mul-le-mul_right}
 use native.Mathlib.Omega.{arith}
@@ -8,17 +7,14 @@ use lib.ListN.{length}
 use Rattle.model.specs.declared.BufferNumber.{BufferNumber}
 use Rattle.llsc.specs.declared.ProcessNumber.{ProcessNumber}
 use Rattle.model.specs.declared.Process.{Process}
-use Rattle.llsc.specs.declared.Order.{Order}
-use Rattle.model.specs.Sizes.{buffers, halves}
+use Rattle.model.specs.Sizes.{buffers}
 use Rattle.model.specs.Words.{buffer_in, return_in, offer_in, word_of}
 use Rattle.words.specs.declared.layouts.FirstRows.{FirstRows}
 use Rattle.words.specs.Layouts.{layout_from, one_rows}
 use Rattle.words.proofs.WordLaws.{within}
-use Rattle.words.proofs.LayoutLaws.{one_few, one_layout}
-use Rattle.taken.specs.declared.Taken.{Taken}
+use Rattle.words.proofs.LayoutLaws.{one_few}
 use Rattle.taken.specs.Ranges.{Lent, Ready}
 use Rattle.steps.specs.Layouts.{Placed, ReadyIn, Moves}
-use Rattle.steps.specs.Steps.{obey_on, obey_on_in}
 
 -- the rows of one record alone are among the 5N that are lent
 one_placed : {n w : ℕ} {p : ProcessNumber} {ws : List ℕ} → Lent n w p ws → Placed (one_rows n) n w ws
@@ -28,11 +24,6 @@ one_placed {n} {w} {p} {ws} l =
 
 pub one_ready : {n w : ℕ} {q : Process} {p : ProcessNumber} {ws : List ℕ} → Ready n w q p ws → ReadyIn (one_rows n) n w q p ws
 one_ready r = record { ready = r; placed = one_placed r.lent }
-
--- an order obeyed in the layout of one record alone
-pub one_obeyed_on : {f : FirstRows} (o : Order) (p : ProcessNumber) (n w : ℕ) (t : Taken) (q : Process) (ws : List ℕ) → f ≡ one_rows n
-    → obey_on_in (layout_from f) o p n w t q ws ≡ obey_on o p n w t q ws
-one_obeyed_on o p n w t q ws e = ap (λ l. obey_on_in l o p n w t q ws) (ap layout_from e ∙ one_layout n)
 
 module _ {f : FirstRows} {n w : ℕ} {q : Process} {p : ProcessNumber} {ws : List ℕ} (r : ReadyIn f n w q p ws) where
   in_word : word_of q.word < w
@@ -59,7 +50,3 @@ module _ {f : FirstRows} {n w : ℕ} {q : Process} {p : ProcessNumber} {ws : Lis
 
   pub writes_offer : Moves f w q (offer_in (layout_from f) w p (word_of q.word)) (buffer_in (layout_from f) w q.mybuf (word_of q.word)) ws
   writes_offer = move _ _ offer_lies (buffer_lies q.mybuf r.ready.mybuf)
-
-  -- the whole offer area
-  pub offer_row : {v : ℕ} → v ≡ w → offer_in (layout_from f) w p 0 + v ≤ length ws
-  offer_row e = omega (arith, mul-le-mul_right {m = f.offers + p.0 + 1} {n = f.offers + n} w (omega (arith, r.ready.lent.process)), r.placed.offers_lent, e)

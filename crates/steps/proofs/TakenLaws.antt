@@ -1,10 +1,8 @@
 -- To take the places that a step could touch, to step on them and to put them back is `model`'s step.
-use mathlib.Core.Path.{◌≡◌, refl, sym, ap, ◌∙◌}
+use mathlib.Core.Path.{◌≡◌, sym, ap, ◌∙◌}
 use mathlib.Core.List.{List}
 use Prim.Native.Nat.{ℕ}
-use native.Mathlib.Omega.{arith}
-use lib.ListN.{length}
-use lib.Seq.{sets, set-get_or, length-sets}
+use lib.Seq.{sets, set-get_or}
 use Rattle.model.specs.declared.SequenceNumber.{SequenceNumber}
 use Rattle.llsc.specs.declared.ProcessNumber.{ProcessNumber}
 use Rattle.model.specs.Places.{XPlace, BankPlace, HelpPlace}
@@ -29,33 +27,8 @@ use Rattle.model.specs.Records.{begin}
 use Rattle.model.specs.Machine.{stepped_in, obey_in, obey, on_x, on_bank, on_help}
 use Rattle.taken.specs.declared.Taken.{Taken}
 use Rattle.taken.specs.declared.Stepped.{Stepped}
-use Rattle.words.specs.declared.layouts.FirstRows.{FirstRows}
 use Rattle.taken.specs.Taken.{bank_index, help_index, taken_at, taken_from, put_back, restored, after_x, after_bank, after_help, after_word}
-use Rattle.steps.specs.Layouts.{ReadyIn}
 use Rattle.steps.specs.Steps.{step_on_in, offered_in, obey_on_in, offered, obey_on}
-
--- offering keeps the number of lent words
-pub offered_length : (l : Layout) (o : Order) (p : ProcessNumber) (w : ℕ) (value ws : List ℕ) → length (offered_in l o p w value ws) ≡ length ws
-offered_length l StartLl p w value ws = refl
-offered_length l StartSc p w value ws = length-sets ws (offer_in l w p 0) value
-offered_length l StartVl p w value ws = refl
-offered_length l Step p w value ws = refl
-
-pub ready_same : {f : FirstRows} {n w : ℕ} {q : Process} {p : ProcessNumber} {ws ws' : List ℕ} → ReadyIn f n w q p ws → length ws' ≡ length ws → ReadyIn f n w q p ws'
-ready_same r e =
-    let b = r.ready in let l = b.lent in let a = r.placed in
-    record {
-      ready = record {
-        lent = record { n_some = l.n_some; n_most = l.n_most; w_most = l.w_most; process = l.process; words = omega (arith, l.words, e) };
-        mybuf = b.mybuf;
-        x_buf = b.x_buf;
-        x_seq = b.x_seq;
-        b_buf = b.b_buf;
-        word = b.word;
-        count = b.count;
-      };
-      placed = record { few = a.few; buffers_lent = omega (arith, a.buffers_lent, e); returns_lent = omega (arith, a.returns_lent, e); offers_lent = omega (arith, a.offers_lent, e) };
-    }
 
 module _ (l : Layout) (p : ProcessNumber) (b : Bench) (q : Process) (ws : List ℕ) where
   -- the two indices of a step at a point, and what it made of the places put back there

@@ -5,29 +5,17 @@ ghost use Rattle.words.specs.Layouts.{layout_from};
 ghost use Rattle.taken.specs.Ranges.{Ready};
 ghost use Rattle.steps.specs.Layouts.{ReadyIn, ObeyableIn};
 ghost use Rattle.steps.specs.Steps.{offered_in, obey_on, obey_on_in};
-ghost use Rattle.model.specs.declared.Reply.TheVariants.{Accepted};
-ghost use Rattle.model.specs.Records.{begin_line};
 
 use crate::step;
 use lines::{points, records};
 use llsc::{Order, ProcessNumber};
-use model::{Bench, Moved, Process, Reply};
+use model::{Bench, Moved, Process};
 use taken::{Stepped, Taken};
 use words::layouts::FirstRows;
-use words::{layouts, word_runs};
-
-// A start at a call's first line. It touches nothing shared.
-fn begun(line: u8, process: Process, taken: Taken) -> Stepped
-    ensures { result ≡ record { taken = taken; process = begin_line line process; reply = Accepted } }
-{
-    Stepped {
-        taken,
-        process: records::begun(line, process),
-        reply: Reply::Accepted,
-    }
-}
+use words::word_runs;
 
 // LL begins at line 1, SC at line 12, with its words in the offer area already, VL at line 23.
+#[tactic(auto, unfolding(crate::specs::Steps::obey_on_in))]
 pub fn obey_taken_in(
     rows: FirstRows,
     order: Order,
@@ -41,12 +29,13 @@ pub fn obey_taken_in(
     requires { ReadyIn rows n w process p words.old }
     ensures { (result, words.new) ≡ obey_on_in (layout_from rows) order p n w taken process words.old }
 {
-    match order {
-        Order::StartLl => begun(points::LINE_1, process, taken),
-        Order::StartSc => begun(points::LINE_12, process, taken),
-        Order::StartVl => begun(points::LINE_23, process, taken),
-        Order::Step => step::on_taken(rows, n, w, p, process, taken, words),
-    }
+    let first = match order {
+        Order::StartLl => points::LINE_1,
+        Order::StartSc => points::LINE_12,
+        Order::StartVl => points::LINE_23,
+        Order::Step => return step::on_taken(rows, n, w, p, process, taken, words),
+    };
+    Stepped::accepted(taken, records::begun(first, process))
 }
 
 // The same where one record stands alone.
@@ -63,7 +52,7 @@ pub fn obey_taken(
     ensures { (result, words.new) ≡ obey_on order p n w taken process words.old }
 {
     obey_taken_in(
-        layouts::one_record(n),
+        FirstRows::one_record(n),
         order,
         n,
         w,
@@ -87,11 +76,9 @@ fn offer(
     requires { ObeyableIn rows order p value.now bench process words.old }
     ensures { words.new ≡ offered_in (layout_from rows) order p bench.w value.now words.old }
 {
-    let Order::StartSc = order else {
-        return;
-    };
-    let at = layouts::offer_in(rows, bench.w, p, 0);
-    word_runs::copy_in(words, at, value);
+    if let Order::StartSc = order {
+        word_runs::copy_in(words, rows.offer_in(bench.w, p, 0), value);
+    }
 }
 
 // The places that the order could touch are taken out, it is obeyed on them, and all are put back.

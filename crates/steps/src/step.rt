@@ -1,7 +1,6 @@
 // One step of a process, by its line.
 ghost use Rattle.std.specs.Prelude.{◌≡◌};
 ghost use Rattle.model.specs.Points.{point_of};
-ghost use Rattle.model.specs.declared.Reply.TheVariants.{Accepted};
 ghost use Rattle.words.specs.Layouts.{layout_from};
 ghost use Rattle.steps.specs.Layouts.{ReadyIn};
 ghost use Rattle.steps.specs.Steps.{step_on_in};
@@ -11,22 +10,12 @@ use crate::word_steps::read_word;
 use lines::points::*;
 use lines::{on_bank, on_help, on_x};
 use llsc::ProcessNumber;
-use model::{Process, Reply};
+use model::Process;
 use taken::{Stepped, Taken, after_bank, after_help, after_word, after_x};
 use words::layouts::FirstRows;
 
-// The process and the places as they are.
-fn unmoved(taken: Taken, process: Process) -> Stepped
-    ensures { result ≡ record { taken = taken; process = process; reply = Accepted } }
-{
-    Stepped {
-        taken,
-        process,
-        reply: Reply::Accepted,
-    }
-}
-
 // An idle process, and a line that is none (row 9 refuses it), stay as they are.
+#[tactic(auto, unfolding(crate::specs::Steps::step_on_in), using(crate::proofs::LayoutLaws::reads, crate::proofs::LayoutLaws::writes_back, crate::proofs::LayoutLaws::writes_offer))]
 pub fn on_taken(
     rows: FirstRows,
     n: usize,
@@ -39,9 +28,8 @@ pub fn on_taken(
     requires { ReadyIn rows n w process p words.old }
     ensures { (result, words.new) ≡ step_on_in (layout_from rows) (point_of process.line) p n w taken process words.old }
 {
-    let line = process.line;
     let from = process.x.buf;
-    match line {
+    match process.line {
         LINE_1 => after_help(taken, on_help::do_line_1(taken.help, process)),
         LINE_2 => after_x(taken, on_x::do_line_2(LINE_3, p, taken.x, process)),
         LINE_3 => after_word(taken, read_word(rows, w, p, from, LINE_4, process, words)),
@@ -67,6 +55,6 @@ pub fn on_taken(
         LINE_18 => after_bank(taken, on_bank::do_line_18(taken.bank, process)),
         LINE_19 => after_x(taken, on_x::do_line_19(n, p, taken.x, process)),
         LINE_23 => after_x(taken, on_x::do_line_23(p, taken.x, process)),
-        _ => unmoved(taken, process),
+        _ => Stepped::accepted(taken, process),
     }
 }

@@ -3,8 +3,7 @@ ghost use Rattle.std.specs.Prelude.{◌≡◌};
 ghost use Rattle.model.specs.Points.{line18};
 ghost use Rattle.model.specs.Sizes.{halves};
 ghost use Rattle.model.specs.Words.{buffer_in, return_in, offer_in, word_of};
-ghost use Rattle.model.specs.Lines.{do_word, do_line11};
-ghost use Rattle.model.specs.Lines.{do_word_then};
+ghost use Rattle.model.specs.Lines.{do_word, do_word_then, do_line11};
 ghost use Rattle.words.specs.Layouts.{layout_from};
 ghost use Rattle.steps.specs.Layouts.{Moves};
 ghost use Rattle.steps.specs.Steps.{read_word, written_word};
@@ -13,7 +12,7 @@ use lines::{on_words, points};
 use llsc::ProcessNumber;
 use model::{BufferNumber, Process, WordStep, sizes};
 use words::layouts::FirstRows;
-use words::{layouts, word_places};
+use words::word_places;
 
 // Lines 3, 6 and 7's copy: a half word of BUF[from] into the return area of p. `line` follows the last half.
 pub fn read_word(
@@ -29,8 +28,8 @@ pub fn read_word(
     ensures { (result, words.new) ≡ read_word (layout_from rows) w p from (do_word_then (halves w) line process) process words.old }
 {
     let k = process.word;
-    let source = layouts::buffer_in(rows, w, from, k / 2);
-    let target = layouts::return_in(rows, w, p, k / 2);
+    let source = rows.buffer_in(w, from, k / 2);
+    let target = rows.return_in(w, p, k / 2);
     word_places::copy_half(words, k, source, target);
     on_words::do_word(sizes::halves(w), line, process)
 }
@@ -47,8 +46,8 @@ pub fn step_11(
     ensures { (result, words.new) ≡ written_word (layout_from rows) w (return_in (layout_from rows) w p (word_of process.word)) (do_line11 (halves w) process) process words.old }
 {
     let k = process.word;
-    let source = layouts::return_in(rows, w, p, k / 2);
-    let target = layouts::buffer_in(rows, w, process.mybuf, k / 2);
+    let source = rows.return_in(w, p, k / 2);
+    let target = rows.buffer_in(w, process.mybuf, k / 2);
     word_places::copy_half(words, k, source, target);
     on_words::do_line_11(sizes::halves(w), process)
 }
@@ -65,8 +64,8 @@ pub fn step_17(
     ensures { (result, words.new) ≡ written_word (layout_from rows) w (offer_in (layout_from rows) w p (word_of process.word)) (do_word (halves w) line18 process) process words.old }
 {
     let k = process.word;
-    let source = layouts::offer_in(rows, w, p, k / 2);
-    let target = layouts::buffer_in(rows, w, process.mybuf, k / 2);
+    let source = rows.offer_in(w, p, k / 2);
+    let target = rows.buffer_in(w, process.mybuf, k / 2);
     word_places::copy_half(words, k, source, target);
     on_words::do_word(sizes::halves(w), points::LINE_18, process)
 }

@@ -30,8 +30,7 @@ pub fn bank_at(bench: Bench, i: SequenceNumber) -> BankPlace
     requires { i.0 < 32 }
     ensures { result ≡ bank_at bench i }
 {
-    let k = i.0 as usize;
-    bench.bank[k]
+    bench.bank[bank_place(i)]
 }
 
 // Help[i].
@@ -39,17 +38,14 @@ pub fn help_at(bench: Bench, i: ProcessNumber) -> HelpPlace
     requires { i.0 < 16 }
     ensures { result ≡ help_at bench i }
 {
-    let k = i.0 as usize;
-    bench.help[k]
+    bench.help[help_place(i)]
 }
 
 // The bench with another X.
 pub fn put_x(bench: Bench, x: XPlace) -> Bench
     ensures { result ≡ put_x bench x }
 {
-    let mut next = bench;
-    next.x = x;
-    next
+    Bench { x, ..bench }
 }
 
 // The bench with another Bank[i].
@@ -57,10 +53,9 @@ pub fn put_bank(bench: Bench, i: SequenceNumber, place: BankPlace) -> Bench
     requires { i.0 < 32 }
     ensures { result ≡ put_bank bench i place }
 {
-    let k = i.0 as usize;
-    let mut next = bench;
-    next.bank[k] = place;
-    next
+    let mut bench = bench;
+    bench.bank[bank_place(i)] = place;
+    bench
 }
 
 // The bench with another Help[i].
@@ -68,8 +63,7 @@ pub fn put_help(bench: Bench, i: ProcessNumber, place: HelpPlace) -> Bench
     requires { i.0 < 16 }
     ensures { result ≡ put_help bench i place }
 {
-    let k = i.0 as usize;
-    let mut next = bench;
-    next.help[k] = place;
-    next
+    let mut bench = bench;
+    bench.help[help_place(i)] = place;
+    bench
 }

@@ -5,10 +5,10 @@ use Rattle.model.specs.declared.SequenceNumber.{SequenceNumber}
 use Rattle.llsc.specs.declared.ProcessNumber.{ProcessNumber}
 use Rattle.model.specs.declared.Bench.{Bench}
 use Rattle.model.specs.declared.Process.{Process}
-use Rattle.model.specs.declared.Reply.TheVariants.{Accepted}
 use Rattle.model.specs.declared.LineStep.{LineStep}
 use Rattle.model.specs.declared.WordStep.{WordStep}
 use Rattle.model.specs.declared.Moved.{Moved}
+use Rattle.model.specs.Places.{XPlace, BankPlace, HelpPlace}
 use Rattle.model.specs.Tables.{bank_at, help_at, put_x, put_bank, put_help, next, helped}
 use Rattle.model.specs.Points.{Point, line_number, line14, line15, line18}
 use Rattle.taken.specs.declared.Taken.{Taken}
@@ -51,10 +51,10 @@ abbrev pub after_x : Taken → LineStep XPlace → Stepped
 after_x t s = record { taken = record { x = s.place; bank = t.bank; help = t.help }; process = s.process; reply = s.reply }
 
 abbrev pub after_bank : Taken → LineStep BankPlace → Stepped
-after_bank t s = record { taken = record { x = t.x; bank = s.place; help = t.help }; process = s.process; reply = Accepted }
+after_bank t s = record { taken = record { x = t.x; bank = s.place; help = t.help }; process = s.process; reply = s.reply }
 
 abbrev pub after_help : Taken → LineStep HelpPlace → Stepped
-after_help t s = record { taken = record { x = t.x; bank = t.bank; help = s.place }; process = s.process; reply = Accepted }
+after_help t s = record { taken = record { x = t.x; bank = t.bank; help = s.place }; process = s.process; reply = s.reply }
 
 -- a word is no part of the three places
 abbrev pub after_word : Taken → WordStep → Stepped

@@ -5,14 +5,14 @@
 
 ghost use Rattle.std.specs.Prelude.{◌≡◌, ◌<◌};
 ghost use Rattle.model.specs.Points.{point_of};
+ghost use Rattle.model.specs.declared.Reply.TheVariants.{Accepted};
 ghost use Rattle.lines.specs.Ranges.{Sized};
 ghost use Rattle.taken.specs.Taken.{bank_index, help_index, taken_at, put_back, after_x, after_bank, after_help, after_word};
 
 use lines::{points, sequence};
 use llsc::ProcessNumber;
 use model::{
-    BankPlace, BankStep, Bench, HelpPlace, HelpStep, Moved, Process, Reply, SequenceNumber,
-    WordStep, XPlace, XStep,
+    BankPlace, Bench, HelpPlace, LineStep, Moved, Process, Reply, SequenceNumber, WordStep, XPlace,
 };
 
 // The shared places that a step could touch, taken out of the bench record: X, one place of Bank and one of Help.
@@ -31,17 +31,28 @@ pub struct Stepped {
     pub reply: Reply,
 }
 
+impl Stepped {
+    // What a step that does not answer leaves.
+    pub fn accepted(taken: Taken, process: Process) -> Stepped
+        ensures { result ≡ record { taken = taken; process = process; reply = Accepted } }
+    {
+        Stepped {
+            taken,
+            process,
+            reply: Reply::Accepted,
+        }
+    }
+}
+
 // Which place of Bank: line 18 reads the one after x.seq.
 pub fn bank_index(n: usize, process: Process) -> SequenceNumber
     requires { Sized n }
     ensures { result ≡ bank_index (point_of process.line) n process }
 {
-    let x = process.x;
-    let line = process.line;
-    if line == points::LINE_18 {
-        return sequence::following(n, x.seq);
+    if process.line == points::LINE_18 {
+        return sequence::following(n, process.x.seq);
     }
-    x.seq
+    process.x.seq
 }
 
 // Which place of Help: lines 14 and 15 that of the process that is helped, the others the own one.
@@ -49,15 +60,10 @@ pub fn help_index(n: usize, p: ProcessNumber, process: Process) -> ProcessNumber
     requires { Sized n }
     ensures { result ≡ help_index (point_of process.line) n p process }
 {
-    let x = process.x;
-    let line = process.line;
-    if line == points::LINE_14 {
-        return sequence::helped_by(n, x.seq);
+    match process.line {
+        points::LINE_14 | points::LINE_15 => sequence::helped_by(n, process.x.seq),
+        _ => p,
     }
-    if line == points::LINE_15 {
-        return sequence::helped_by(n, x.seq);
-    }
-    p
 }
 
 // A place of each kind, together.
@@ -72,9 +78,8 @@ pub fn take(bench: Bench, i: SequenceNumber, j: ProcessNumber) -> Taken
     requires { (i.0 < 32) × (j.0 < 16) }
     ensures { result ≡ taken_at bench i j }
 {
-    let x = bench.x;
     Taken {
-        x,
+        x: bench.x,
         bank: tables::bank_at(bench, i),
         help: tables::help_at(bench, j),
     }
@@ -85,66 +90,61 @@ pub fn put_back(bench: Bench, i: SequenceNumber, j: ProcessNumber, stepped: Step
     requires { (i.0 < 32) × (j.0 < 16) }
     ensures { result ≡ put_back bench i j stepped }
 {
-    let taken = stepped.taken;
-    let x = taken.x;
-    let bank = taken.bank;
-    let help = taken.help;
-    let process = stepped.process;
-    let reply = stepped.reply;
-    let mut next = bench;
-    next.x = x;
-    next.bank[tables::bank_place(i)] = bank;
-    next.help[tables::help_place(j)] = help;
+    let Stepped {
+        taken,
+        process,
+        reply,
+    } = stepped;
+    let mut bench = bench;
+    bench.x = taken.x;
+    bench.bank[tables::bank_place(i)] = taken.bank;
+    bench.help[tables::help_place(j)] = taken.help;
     Moved {
-        bench: next,
+        bench,
         process,
         reply,
     }
 }
 
 // What a line made of X.
-pub fn after_x(taken: Taken, step: XStep) -> Stepped
+pub fn after_x(taken: Taken, step: LineStep<XPlace>) -> Stepped
     ensures { result ≡ after_x taken step }
 {
-    let x = step.place;
-    let process = step.process;
-    let reply = step.reply;
-    let mut next = taken;
-    next.x = x;
     Stepped {
-        taken: next,
-        process,
-        reply,
+        taken: Taken {
+            x: step.place,
+            ..taken
+        },
+        process: step.process,
+        reply: step.reply,
     }
 }
 
 // What a line made of the place of Bank.
-pub fn after_bank(taken: Taken, step: BankStep) -> Stepped
+pub fn after_bank(taken: Taken, step: LineStep<BankPlace>) -> Stepped
     ensures { result ≡ after_bank taken step }
 {
-    let bank = step.place;
-    let process = step.process;
-    let mut next = taken;
-    next.bank = bank;
     Stepped {
-        taken: next,
-        process,
-        reply: Reply::Accepted,
+        taken: Taken {
+            bank: step.place,
+            ..taken
+        },
+        process: step.process,
+        reply: step.reply,
     }
 }
 
 // What a line made of the place of Help.
-pub fn after_help(taken: Taken, step: HelpStep) -> Stepped
+pub fn after_help(taken: Taken, step: LineStep<HelpPlace>) -> Stepped
     ensures { result ≡ after_help taken step }
 {
-    let help = step.place;
-    let process = step.process;
-    let mut next = taken;
-    next.help = help;
     Stepped {
-        taken: next,
-        process,
-        reply: Reply::Accepted,
+        taken: Taken {
+            help: step.place,
+            ..taken
+        },
+        process: step.process,
+        reply: step.reply,
     }
 }
 
@@ -152,11 +152,9 @@ pub fn after_help(taken: Taken, step: HelpStep) -> Stepped
 pub fn after_word(taken: Taken, step: WordStep) -> Stepped
     ensures { result ≡ after_word taken step }
 {
-    let process = step.process;
-    let reply = step.reply;
     Stepped {
         taken,
-        process,
-        reply,
+        process: step.process,
+        reply: step.reply,
     }
 }
