@@ -1,23 +1,23 @@
 -- Laws of adding a listing: for each `return` of the code, that this is what `added` says.
-use Prim.Native.Nat.{ℕ, ◌+◌, ◌≤◌, ◌<◌}
+use Prim.Native.Nat.{ℕ, ◌+◌, ◌-◌, ◌≤◌, ◌<◌}
 use mathlib.Core.Path.{◌≡◌, refl, sym, ap, ◌∙◌}
 use mathlib.Core.List.{List, []}
 use mathlib.Core.Bool.{Bool, true, false, ◌&&◌, cond}
-use native.Mathlib.Omega.{arith}
-use borrow.Author.Tests.{lt-ltb, le-ltb, le-leb, lt-leb, ne_eqb}
+use borrow.Author.Tests.{lt-ltb, le-ltb, le-leb, lt-leb, ne_eqb, eqb-false}
 use lib.Dec.{eqb, leb}
-use lib.ListN.{length, length-drop}
-use Rattle.answers.specs.declared.Reading.{Reading}
+use lib.ListN.{length}
+use Rattle.llsc.specs.declared.refusals.Refusal.{Refusal}
+use Rattle.llsc.specs.Refusals.{refusal_number}
+use Rattle.answers.specs.declared.Sum.{Sum}
 use Rattle.answers.specs.Shape.{longest_listing}
-use Rattle.answers.specs.Readers.{Read, listing_in, read_at}
+use Rattle.answers.specs.Readers.{Read, listing_in}
 use Rattle.answers.specs.Ranges.{Readable}
 use Rattle.answers.proofs.Theorems.{same_right, same_rest}
 use Rattle.sums.specs.declared.Sums.{Sums}
-use Rattle.sums.specs.declared.Added.{Added}
-use Rattle.sums.specs.Season.{most_listings, all_small, sums_refusal, is_right, add_refusal, taking, break_in, added}
-use Rattle.sums.proofs.RefusalLaws.{passes, small_below}
+use Rattle.sums.specs.Season.{most_listings, all_small, sums_refusal, is_right, add_refusal, taking, break_in, Added, added}
+use Rattle.sums.proofs.RefusalLaws.{some_number, passes, small_below}
 
-abbrev gives : ℕ → ℕ → Sums → Added
+abbrev pub gives : ℕ → ℕ → Sums → Added
 gives number at sums = record { number = number; at = at; sums = sums }
 
 -- what `added` is, by its number
@@ -47,8 +47,8 @@ module _ (s : Sums) (bs : List ℕ) where
       pick true false c = refl
       pick false b c = refl
 
-  pub refused : (k : ℕ) → k ≡ sums_refusal s → (k ≡ 0 → ⊥) → gives k 0 s ≡ added s bs
-  refused k e h = early k e h (eqb k 18) refl (ap (λ (x : ℕ). eqb x 18) e ∙ early_number)
+  pub refused : (r : Refusal) → refusal_number r ≡ sums_refusal s → gives (refusal_number r) 0 s ≡ added s bs
+  refused r e = let k : ℕ = refusal_number r in early k e (eqb-false k 0 (some_number r)) (eqb k 18) refl (ap (λ (x : ℕ). eqb x 18) e ∙ early_number)
 
   module _ (z : sums_refusal s ≡ 0) where
     pub full : most_listings ≤ s.taken → gives 19 0 s ≡ added s bs
@@ -64,26 +64,27 @@ module _ (s : Sums) (bs : List ℕ) where
     pub readable : length bs ≤ longest_listing → Readable s.n s.each bs
     readable k = let p = passes s z in record { few = p.few; short = k; below = small_below s.n s.each p.small }
 
-    module _ (h : s.taken < most_listings) (k : length bs ≤ longest_listing) (r : Reading)
-        (e : read_at bs r ≡ listing_in s.n s.w s.each bs) where
-      right_of : {t : Bool} → r.right ≡ t → is_right s.n s.w bs ≡ t
+    module _ (h : s.taken < most_listings) (k : length bs ≤ longest_listing) where
+      abbrev read : Read
+      read = listing_in s.n s.w s.each bs
+
+      right_of : {t : Bool} → read.right ≡ t → is_right s.n s.w bs ≡ t
       unfolding is_right
-      right_of q =
-          simp (le-leb (length bs) longest_listing k)
-          (same_right s.n s.w [] s.each bs ∙ ap (λ (x : Read). x.right) (sym e) ∙ q)
+      right_of q = simp (le-leb (length bs) longest_listing k) (same_right s.n s.w [] s.each bs ∙ q)
 
-      broken : r.next ≤ length bs → r.next ≡ break_in s.n s.w bs
+      broken : length bs - length read.rest ≡ break_in s.n s.w bs
       unfolding break_in
-      broken i =
-          let f = same_rest s.n s.w [] s.each bs ∙ ap (λ (x : Read). x.rest) (sym e) in
-          simp (le-leb (length bs) longest_listing k, f, length-drop r.next bs) (omega arith)
+      broken =
+          simp (le-leb (length bs) longest_listing k)
+          (ap (λ (r : List ℕ). length bs - length r) (sym (same_rest s.n s.w [] s.each bs)))
 
-      pub wrong : r.right ≡ false → r.next ≤ length bs → gives 18 r.next s ≡ added s bs
+      pub wrong : {at : ℕ} → (read.right ≡ false) × (at ≡ length bs - length read.rest) → gives 18 at s ≡ added s bs
       unfolding add_refusal
-      wrong q i = as_refused s bs 18 r.next (simp (z, lt-ltb s.taken most_listings h, right_of q)) refl (broken i)
+      wrong {at} e = as_refused s bs 18 at (simp (z, lt-ltb s.taken most_listings h, right_of e.0)) refl (e.1 ∙ broken)
 
-      pub right : r.right ≡ true → gives 0 0 (record { n = s.n; w = s.w; taken = s.taken + 1; each = r.each }) ≡ added s bs
+      pub right : {each : List Sum} → read ≡ record { right = true; each = each; rest = [] }
+          → gives 0 0 (record { n = s.n; w = s.w; taken = s.taken + 1; each = each }) ≡ added s bs
       unfolding add_refusal taking
-      right q =
-          ap (λ (x : Read). gives 0 0 (record { n = s.n; w = s.w; taken = s.taken + 1; each = x.each })) e
-          ∙ as_taken s bs (simp (z, lt-ltb s.taken most_listings h, right_of q))
+      right e =
+          ap (λ (x : Read). gives 0 0 (record { n = s.n; w = s.w; taken = s.taken + 1; each = x.each })) (sym e)
+          ∙ as_taken s bs (simp (z, lt-ltb s.taken most_listings h, right_of (ap (λ (x : Read). x.right) e)))

@@ -1,42 +1,129 @@
 -- Laws of rows 1, 2 and 9.
-use Prim.Native.Nat.{ℕ, zero, suc, ◌-◌, ◌≤◌, ◌<◌}
+use Prim.Native.Nat.{ℕ, zero, suc, ◌≤◌, ◌<◌}
 use mathlib.Core.Path.{◌≡◌, refl, sym, ap, subst, ◌∙◌}
 use mathlib.Core.List.{List}
-use mathlib.Core.Bool.{Bool, true, false, ◌&&◌, cond, true≢false}
+use mathlib.Core.Bool.{Bool, true, false, not, ◌&&◌, cond, true≢false}
 use native.Mathlib.Omega.{arith}
 use borrow.Author.Tests.{leb-true, ltb-true, ltb-false, lt-ltb}
-use lib.Dec.{leb, ltb}
-use lib.ListN.{get_or}
+use lib.Dec.{eqb, leb, ltb}
+use lib.ListN.{length, take, get_or}
+use Rattle.std.specs.Prelude.{◌↔◌, Result, Ok, Err}
+use Rattle.std.specs.Result.{is_ok}
+use Rattle.std.specs.List.{AllPass}
+use Rattle.std.proofs.lemmas.List.{get_or-take, length-take-le, get_or_default}
+use Rattle.llsc.specs.declared.refusals.Refusal.{Refusal}
+use Rattle.llsc.specs.declared.refusals.Refusal.TheVariants as refusal
+use Rattle.llsc.specs.Refusals.{refusal_number, number_told, refused_if}
 use Rattle.answers.specs.declared.Sum.{Sum}
 use Rattle.answers.specs.Gains.{no_sum}
 use Rattle.answers.specs.Ranges.{Below, AllBelow}
 use Rattle.sums.specs.declared.Sums.{Sums}
 use Rattle.sums.specs.Season.{sum_limit, small_sum, all_small, sums_refusal}
 
--- the loop over the processes, from the last to the first
-suc_small : (k : ℕ) (l : List Sum) {t : Bool} → small_sum (get_or l k no_sum) ≡ t → all_small (suc k) l ≡ cond t (all_small k l) false
+pub and_true : (a b : Bool) → (a && b) ≡ true → (a ≡ true) × (b ≡ true)
+and_true true b e = (refl, e)
+and_true false b e = absurd (true≢false (sym e))
+
+-- a row that holds refuses, one that does not leaves the rows behind it
+error_of : Refusal → Result (Unit {0}) Refusal → Refusal
+error_of r (Ok u) = r
+error_of r (Err e) = e
+
+pub held : (t : Bool) (r : Refusal) {e : Refusal} → refused_if t r ≡ Err e → (t ≡ true) × (e ≡ r)
+unfolding error_of
+held true r h = (refl, ap (error_of r) (sym h))
+held false r h = absurd (true≢false (ap is_ok h))
+
+pub not_held : (t : Bool) (r : Refusal) {u : Unit {0}} → refused_if t r ≡ Ok u → t ≡ false
+not_held true r h = absurd (true≢false (sym (ap is_ok h)))
+not_held false r h = refl
+
+pub refuses : (t : Bool) (r : Refusal) {e : Refusal} (x : ℕ) → refused_if (not t) r ≡ Err e → refusal_number e ≡ cond t x (refusal_number r)
+refuses true r x h = absurd (true≢false (ap is_ok h))
+refuses false r x h = ap number_told (sym h)
+
+pub lets_pass : (t : Bool) (r : Refusal) (x : ℕ) {u : Unit {0}} → refused_if (not t) r ≡ Ok u → x ≡ cond t x (refusal_number r)
+lets_pass true r x h = refl
+lets_pass false r x h = absurd (true≢false (sym (ap is_ok h)))
+
+pub last_told : (t : Bool) (r : Refusal) → number_told (refused_if (not t) r) ≡ cond t 0 (refusal_number r)
+last_told true r = refl
+last_told false r = refl
+
+pub in_range : (x most : ℕ) (r : Refusal) {u : Unit {0}} → refused_if (not (leb 1 x && leb x most)) r ≡ Ok u → x ≤ most
+in_range x most r h = leb-true x most (and_true (leb 1 x) (leb x most) (pick (leb 1 x && leb x most) h)).1
+  where
+    pick : (t : Bool) {u : Unit {0}} → refused_if (not t) r ≡ Ok u → t ≡ true
+    pick true h = refl
+    pick false h = absurd (true≢false (sym (ap is_ok h)))
+
+-- every refusal has a number
+pub some_number : (r : Refusal) → eqb (refusal_number r) 0 ≡ false
+some_number refusal.NOutOfRange = refl
+some_number refusal.WOutOfRange = refl
+some_number refusal.TooLittleLent = refl
+some_number refusal.NoSuchProcess = refl
+some_number refusal.StartAtBusy = refl
+some_number refusal.StepAtIdle = refl
+some_number refusal.NeverLinked = refl
+some_number refusal.ValueNotWWords = refl
+some_number refusal.NumberOutOfRange = refl
+some_number refusal.TextBroken = refl
+some_number refusal.TooDeep = refl
+some_number refusal.TooMuch = refl
+some_number refusal.NoRoom = refl
+some_number refusal.NoSuchSuccess = refl
+some_number refusal.TooManyCalls = refl
+some_number refusal.AnswerNotAfterStart = refl
+some_number refusal.NoListing = refl
+some_number refusal.SeasonFull = refl
+some_number refusal.TooManyTurns = refl
+some_number refusal.NoSuchNumber = refl
+some_number refusal.NotASchedule = refl
+some_number refusal.ROutOfRange = refl
+some_number refusal.NoSuchRecord = refl
+some_number refusal.BadTrailer = refl
+some_number refusal.BadRecord = refl
+some_number refusal.ProcessInBoth = refl
+some_number refusal.TooLittleRoom = refl
+
+-- all processes
+cond_true : (t u : Bool) → cond t u false ≡ true → (t ≡ true) × (u ≡ true)
+cond_true true u e = (refl, e)
+cond_true false u e = absurd (true≢false (sym e))
+
+at_or_below : (q k : ℕ) (t : Bool) → ltb q k ≡ t → q < suc k → (P : ℕ → Type 0) → P k → (q < k → P q) → P q
+at_or_below q k true e h P a f = f (ltb-true q k e)
+at_or_below q k false e h P a f = subst P (omega (arith, ltb-false q k e)) a
+
+all_from : (k : ℕ) (l : List Sum) → ((q : ℕ) → q < k → small_sum (get_or l q no_sum) ≡ true) → all_small k l ≡ true
 unfolding all_small
-suc_small k l e = ap (λ (t : Bool). cond t (all_small k l) false) e
+all_from zero l h = refl
+all_from (suc k) l h =
+    ap (λ (t : Bool). cond t (all_small k l) false) (h k (omega arith)) ∙ all_from k l (λ q r. h q (omega arith))
 
-pub small_step : (k : ℕ) (l : List Sum) → 0 < k → small_sum (get_or l (k - 1) no_sum) ≡ true → all_small k l ≡ all_small (k - 1) l
-small_step k l h e = ap (λ (x : ℕ). all_small x l) (omega arith) ∙ suc_small (k - 1) l e
-
-pub small_stop : (k : ℕ) (l : List Sum) → 0 < k → small_sum (get_or l (k - 1) no_sum) ≡ false → all_small k l ≡ false
-small_stop k l h e = ap (λ (x : ℕ). all_small x l) (omega arith) ∙ suc_small (k - 1) l e
-
-pub small_end : (k : ℕ) (l : List Sum) → k ≤ 0 → all_small k l ≡ true
+each_small : (k : ℕ) (l : List Sum) → all_small k l ≡ true → (q : ℕ) → q < k → small_sum (get_or l q no_sum) ≡ true
 unfolding all_small
-small_end zero l h = refl
-small_end (suc k) l h = absurd (omega arith)
+each_small zero l e q h = absurd (omega arith)
+each_small (suc k) l e q h =
+    let a = cond_true (small_sum (get_or l k no_sum)) (all_small k l) e in
+    at_or_below q k (ltb q k) refl h (λ x. small_sum (get_or l x no_sum) ≡ true) a.0 (λ r. each_small k l a.1 q r)
+
+pub small_decided : (t : Bool) (k : ℕ) (l : List Sum) → k ≤ length l → (t ≡ true ↔ AllPass small_sum (take k l)) → t ≡ all_small k l
+small_decided true k l h e =
+    sym (all_from k l (λ q r. ap small_sum (sym (get_or-take k l q no_sum r)) ∙ e.0 refl q no_sum (omega (arith, length-take-le k l h))))
+small_decided false k l h e = pick (all_small k l) refl
+  where
+    pick : (u : Bool) → all_small k l ≡ u → false ≡ u
+    pick false q = refl
+    pick true q = e.1 (λ i d r.
+        let s : i < k = omega (arith, length-take-le k l h) in
+        ap small_sum (get_or-take k l i d s ∙ get_or_default l i d no_sum (omega (arith, s))) ∙ each_small k l q i s)
 
 -- what these rows leave
 cond_zero : (t : Bool) (x k : ℕ) → (k ≡ 0 → ⊥) → cond t x k ≡ 0 → (t ≡ true) × (x ≡ 0)
 cond_zero true x k h e = (refl, e)
 cond_zero false x k h e = absurd (h e)
-
-pub and_true : (a b : Bool) → (a && b) ≡ true → (a ≡ true) × (b ≡ true)
-and_true true b e = (refl, e)
-and_true false b e = absurd (true≢false (sym e))
 
 pub record Passes (s : Sums) : Type 0 where
   pub few : s.n ≤ 16
@@ -64,14 +151,6 @@ small_one s e =
       steps = omega (arith, ltb-true s.steps sum_limit d.0);
       lls = omega (arith, ltb-true s.lls sum_limit d.1);
     }
-
-cond_true : (t u : Bool) → cond t u false ≡ true → (t ≡ true) × (u ≡ true)
-cond_true true u e = (refl, e)
-cond_true false u e = absurd (true≢false (sym e))
-
-at_or_below : (q k : ℕ) (t : Bool) → ltb q k ≡ t → q < suc k → (P : ℕ → Type 0) → P k → (q < k → P q) → P q
-at_or_below q k true e h P a f = f (ltb-true q k e)
-at_or_below q k false e h P a f = subst P (omega (arith, ltb-false q k e)) a
 
 pub small_below : (k : ℕ) (l : List Sum) → all_small k l ≡ true → AllBelow k 72057594037927935 l
 unfolding all_small

@@ -1,12 +1,13 @@
 -- The table of a season: two fractions in lowest terms for each process (CR 2).
-use Rattle.std.specs.Prelude.{ℕ, zero, suc, ◌*◌, ◌/◌, ◌%◌, ◌<◌, ◌≡◌, List, cond, eqb, get_or, set, replicate}
+use Rattle.std.specs.Prelude.{ℕ, zero, suc, ◌*◌, ◌/◌, ◌%◌, ◌<◌, ◌≡◌, List, cond, eqb, get_or, set, replicate, Result, Ok, Err}
 use Rattle.std.specs.Int.{◌∣◌}
+use Rattle.llsc.specs.declared.refusals.Refusal.{Refusal}
+use Rattle.llsc.specs.Refusals.{refusal_number}
 use Rattle.answers.specs.declared.Sum.{Sum}
 use Rattle.answers.specs.Gains.{no_sum}
 use Rattle.sums.specs.declared.Sums.{Sums}
 use Rattle.sums.specs.declared.Fraction.{Fraction}
 use Rattle.sums.specs.declared.Row.{Row}
-use Rattle.sums.specs.declared.Table.{Table}
 use Rattle.sums.specs.Season.{sums_refusal}
 
 -- Euclid's greatest common divisor of a and b, b below the fuel
@@ -47,8 +48,18 @@ unfoldable pub rows_of : List Sum → ℕ → List Row
 rows_of l zero = replicate 16 no_row
 rows_of l (suc k) = set (rows_of l k) k (row_of (get_or l k no_sum))
 
+-- the number of the refusal, 0 for none, and a row for each process below n; the others are 0 over 0
+pub record Table : Type 0 where
+  pub number : ℕ
+  pub rows : List Row
+
 -- rows 1, 2 and 9 for the table too
 unfoldable pub table : Sums → Table
 table s =
     let number : ℕ = sums_refusal s in
     record { number = number; rows = cond (eqb number 0) (rows_of s.each s.n) (replicate 16 no_row) }
+
+-- what the code returns: the rows, or a refusal
+abbrev pub told_table : Result (List Row) Refusal → Table
+told_table (Ok rows) = record { number = 0; rows = rows }
+told_table (Err r) = record { number = refusal_number r; rows = replicate 16 no_row }

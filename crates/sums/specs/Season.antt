@@ -1,12 +1,15 @@
 -- The sums of a season, and what adding a listing does to them (CR 2). Each definition cites the sentence that it
 -- states.
-use Rattle.std.specs.Prelude.{ℕ, zero, suc, ◌+◌, ◌-◌, List, [], ◌∷◌, Bool, true, false, ◌&&◌, cond, eqb, ltb, leb, length, get_or, replicate}
+use Rattle.std.specs.Prelude.{ℕ, zero, suc, ◌+◌, ◌-◌, List, [], ◌∷◌, Bool, true, false, ◌&&◌, cond, eqb, ltb, leb, length, get_or, replicate, Result, Ok, Err}
 use Rattle.answers.specs.declared.Sum.{Sum}
 use Rattle.answers.specs.Shape.{longest_listing}
 use Rattle.answers.specs.Gains.{no_sum}
 use Rattle.answers.specs.Readers.{listing_in}
+use Rattle.llsc.specs.declared.refusals.Refusal.TheVariants as refusal
+use Rattle.llsc.specs.Refusals.{refusal_number}
 use Rattle.sums.specs.declared.Sums.{Sums}
-use Rattle.sums.specs.declared.Added.{Added}
+use Rattle.sums.specs.declared.NotAdded.{NotAdded}
+use Rattle.sums.specs.declared.NotAdded.TheVariants.{Refused, NoListing}
 
 -- "empty sums"
 unfoldable pub empty_sums : ℕ → ℕ → Sums
@@ -55,6 +58,12 @@ unfoldable pub break_in : ℕ → ℕ → List ℕ → ℕ
 break_in n w bs =
     cond (leb (length bs) longest_listing) (length bs - length (listing_in n w [] bs).rest) longest_listing
 
+-- the number of the refusal, 0 for none; at 18 the place of the first wrong byte, else 0; and the sums after it
+pub record Added : Type 0 where
+  pub number : ℕ
+  pub at : ℕ
+  pub sums : Sums
+
 -- "the sums stay" at a refusal; `at` is told at 18, and 0 otherwise
 unfoldable pub added : Sums → List ℕ → Added
 added s bs =
@@ -64,6 +73,19 @@ added s bs =
       at = cond (eqb number 18) (break_in s.n s.w bs) 0;
       sums = cond (eqb number 0) (taking s bs) s;
     }
+
+-- what the code returns for the sums s: other sums, or why they stay
+abbrev pub not_added_number : NotAdded → ℕ
+not_added_number (Refused r) = refusal_number r
+not_added_number (NoListing at) = refusal_number refusal.NoListing
+
+abbrev pub broken_at : NotAdded → ℕ
+broken_at (Refused r) = 0
+broken_at (NoListing at) = at
+
+abbrev pub told_added : Sums → Result Sums NotAdded → Added
+told_added s (Ok t) = record { number = 0; at = 0; sums = t }
+told_added s (Err e) = record { number = not_added_number e; at = broken_at e; sums = s }
 
 -- a season: listing after listing, whatever becomes of each
 unfoldable pub add_all : Sums → List (List ℕ) → Sums

@@ -2,9 +2,8 @@
 use Rattle.std.specs.Prelude.{ℕ, ◌+◌, ◌≤◌, ◌<◌, ◌≡◌, List, [], ◌∷◌, ◌++◌, cond, eqb, length, get_or}
 use Rattle.answers.specs.Shape.{Answer, ll, sc, vl, Right}
 use Rattle.answers.specs.Gains.{bit, process_of}
-use Rattle.sums.specs.declared.Table.{Table}
 use Rattle.sums.specs.Season.{empty_sums, most_listings, add_all}
-use Rattle.sums.specs.Fractions.{Exact, no_row, table}
+use Rattle.sums.specs.Fractions.{Exact, no_row, Table, table}
 
 -- a listing of N and W that row 18 leaves: its bytes, and what they are
 pub record Listing (n w : ℕ) : Type 0 where

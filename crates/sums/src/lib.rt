@@ -4,11 +4,15 @@
 #![tactic(auto)]
 
 ghost use Rattle.std.specs.Prelude.{◌≡◌};
-ghost use Rattle.sums.specs.Season.{empty_sums, added};
-ghost use Rattle.sums.specs.Fractions.{table};
+ghost use Rattle.sums.specs.declared.NotAdded.TheVariants.{Refused};
+ghost use Rattle.sums.specs.Season.{empty_sums, not_added_number, told_added, added};
+ghost use Rattle.sums.specs.Fractions.{told_table, table};
 
 mod refusals;
 mod table_rows;
+
+use answers::NO_SUM;
+use llsc::refusals::Refusal;
 
 // The sums of the listings taken so far, of n processes and w words. Those of processes not below n are never looked
 // at.
@@ -20,12 +24,31 @@ pub struct Sums {
     pub each: [answers::Sum; 16],
 }
 
-// The number of the refusal, 0 for none; at 18 the place of the first wrong byte, else 0; and the sums after it.
-#[derive(Clone, Copy)]
-pub struct Added {
-    pub number: u8,
-    pub at: usize,
-    pub sums: Sums,
+// Why a listing is not added: a row of the refusals, or that it is no listing, with the place of its first wrong byte.
+#[derive(Clone, Copy, PartialEq, Eq)]
+pub enum NotAdded {
+    Refused(Refusal),
+    NoListing { at: usize },
+}
+
+impl NotAdded {
+    // The number that users are told.
+    pub fn number(self) -> u8
+        ensures { result ≡ not_added_number self }
+    {
+        match self {
+            NotAdded::Refused(refusal) => refusal.number(),
+            NotAdded::NoListing { at: _ } => Refusal::NoListing.number(),
+        }
+    }
+}
+
+impl From<Refusal> for NotAdded {
+    ghost from_gives = { λ r n. n ≡ Refused r };
+
+    fn from(refusal: Refusal) -> NotAdded {
+        NotAdded::Refused(refusal)
+    }
 }
 
 // `over` parts of `under`.
@@ -42,18 +65,7 @@ pub struct Row {
     pub steps: Fraction,
 }
 
-// The number of the refusal, 0 for none, and a row for each process below n; the others are 0 over 0.
-#[derive(Clone, Copy)]
-pub struct Table {
-    pub number: u8,
-    pub rows: [Row; 16],
-}
-
-// CR 2's numbers and limits.
-const FULL: u8 = 19;
-
-const NO_LISTING: u8 = 18;
-
+// CR 2's limits.
 const MOST_LISTINGS: u64 = 4096;
 
 const LONGEST_LISTING: usize = 65536;
@@ -63,79 +75,41 @@ const LONGEST_LISTING: usize = 65536;
 pub fn empty_sums(n: u64, w: u64) -> Sums
     ensures { result ≡ empty_sums n w }
 {
-    let none = answers::no_sum();
     Sums {
         n,
         w,
         taken: 0,
-        each: [none; 16],
+        each: [NO_SUM; 16],
     }
 }
 
-// A listing added to the sums.
-pub fn add_listing(sums: Sums, listing: &[u8]) -> Added
-    ensures { result ≡ added sums listing.now }
+// The sums with a listing added. Where it is not added, the caller's sums stay.
+pub fn add_listing(sums: Sums, listing: &[u8]) -> Result<Sums, NotAdded>
+    ensures { told_added sums result ≡ added sums listing.now }
 {
-    let number = refusals::sums_refusal(sums);
-    if number != 0 {
-        return Added {
-            number,
-            at: 0,
-            sums,
-        };
-    }
-    let taken = sums.taken;
-    if MOST_LISTINGS <= taken {
-        return Added {
-            number: FULL,
-            at: 0,
-            sums,
-        };
-    }
+    refusals::sums_refusal(sums)?;
+    Refusal::SeasonFull.if_holds(MOST_LISTINGS <= sums.taken)?;
     if LONGEST_LISTING < listing.len() {
-        return Added {
-            number: NO_LISTING,
+        return Err(NotAdded::NoListing {
             at: LONGEST_LISTING,
-            sums,
-        };
+        });
     }
-    let each = sums.each;
-    let read = answers::read_listing(sums.n, sums.w, each, listing);
-    if !read.right {
-        return Added {
-            number: NO_LISTING,
-            at: read.next,
-            sums,
-        };
-    }
-    let after = read.each;
-    let next = Sums {
-        n: sums.n,
-        w: sums.w,
-        taken: taken + 1,
-        each: after,
-    };
-    Added {
-        number: 0,
-        at: 0,
-        sums: next,
+    match answers::read_listing(sums.n, sums.w, sums.each, listing) {
+        Ok(each) => Ok(Sums {
+            n: sums.n,
+            w: sums.w,
+            taken: sums.taken + 1,
+            each,
+        }),
+        Err(at) => Err(NotAdded::NoListing { at }),
     }
 }
 
-// The table.
+// The table: a row for each process below n, and 0 over 0 for the others.
 #[tactic(auto, unfolding(crate::specs::Fractions::table))]
-pub fn table_of(sums: Sums) -> Table
-    ensures { result ≡ table sums }
+pub fn table_of(sums: Sums) -> Result<[Row; 16], Refusal>
+    ensures { told_table result ≡ table sums }
 {
-    let number = refusals::sums_refusal(sums);
-    if number != 0 {
-        let none = table_rows::no_row();
-        return Table {
-            number,
-            rows: [none; 16],
-        };
-    }
-    let each = sums.each;
-    let rows = table_rows::rows_of(each, sums.n as usize);
-    Table { number: 0, rows }
+    refusals::sums_refusal(sums)?;
+    Ok(table_rows::rows_of(sums.each, sums.n as usize))
 }

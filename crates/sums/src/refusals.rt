@@ -1,9 +1,12 @@
 // Rows 1, 2 and 9.
-ghost use Rattle.std.specs.Prelude.{◌≡◌, ◌≤◌};
-ghost use Rattle.sums.specs.Season.{small_sum, all_small, sums_refusal};
+ghost use Rattle.std.specs.Prelude.{◌≡◌, ◌↔◌, true, not, ◌&&◌, leb};
+ghost use Rattle.std.specs.List.{AllPass};
+ghost use Rattle.llsc.specs.Refusals.{number_told};
+ghost use Rattle.sums.specs.Season.{small_sum, sums_refusal};
 
 use crate::Sums;
 use answers::Sum;
+use llsc::refusals::Refusal;
 
 // CR 2: "2 to the 56th".
 const SUM_LIMIT: u64 = 72057594037927936;
@@ -12,60 +15,29 @@ const SUM_LIMIT: u64 = 72057594037927936;
 fn small_sum(s: Sum) -> bool
     ensures { result ≡ small_sum s }
 {
-    if SUM_LIMIT <= s.successes {
-        return false;
-    }
-    if SUM_LIMIT <= s.scs {
-        return false;
-    }
-    if SUM_LIMIT <= s.steps {
-        return false;
-    }
-    if SUM_LIMIT <= s.lls {
-        return false;
-    }
-    true
+    s.successes < SUM_LIMIT && s.scs < SUM_LIMIT && s.steps < SUM_LIMIT && s.lls < SUM_LIMIT
 }
 
-// Whether those of the first n processes are.
-fn all_small(each: [Sum; 16], n: usize) -> bool
-    requires { n ≤ 16 }
-    ensures { result ≡ all_small n each }
+// Whether those of all these processes are.
+fn all_small(sums: &[Sum]) -> bool
+    ensures { result ≡ true ↔ AllPass small_sum sums.now }
 {
-    let mut k = n;
-    while 0 < k {
-        let last = k - 1;
-        let ok = small_sum(each[last]);
-        if !ok {
-            return false;
-        }
-        k = last;
-    }
-    true
+    sums.iter().all(|s| small_sum(*s))
 }
 
-// The first of the rows that holds, 0 for none.
-pub fn sums_refusal(sums: Sums) -> u8
-    ensures { result ≡ sums_refusal sums }
+// Whether a number is 0 or more than the most.
+fn out_of_range(x: u64, most: u64) -> bool
+    ensures { result ≡ not (leb 1 x && leb x most) }
 {
-    let n = sums.n;
-    let w = sums.w;
-    if n < 1 {
-        return 1;
-    }
-    if 16 < n {
-        return 1;
-    }
-    if w < 1 {
-        return 2;
-    }
-    if 64 < w {
-        return 2;
-    }
-    let each = sums.each;
-    let ok = all_small(each, n as usize);
-    if ok {
-        return 0;
-    }
-    9
+    x < 1 || most < x
+}
+
+// The first of the rows that holds.
+pub fn sums_refusal(sums: Sums) -> Result<(), Refusal>
+    ensures { number_told result ≡ sums_refusal sums }
+{
+    Refusal::NOutOfRange.if_holds(out_of_range(sums.n, 16))?;
+    Refusal::WOutOfRange.if_holds(out_of_range(sums.w, 64))?;
+    let small = all_small(&sums.each[..sums.n as usize]);
+    Refusal::NumberOutOfRange.if_holds(!small)
 }

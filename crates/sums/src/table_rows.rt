@@ -1,6 +1,6 @@
 // The rows of the table.
 ghost use Rattle.std.specs.Prelude.{◌≡◌, ◌≤◌};
-ghost use Rattle.sums.specs.Fractions.{gcd, lowest, row_of, no_row, rows_of};
+ghost use Rattle.sums.specs.Fractions.{gcd, lowest, row_of, rows_of};
 
 use crate::{Fraction, Row};
 use answers::Sum;
@@ -19,37 +19,51 @@ fn gcd_of(a: u64, b: u64) -> u64
     x
 }
 
-// A fraction in lowest terms.
-fn lowest_terms(a: u64, b: u64) -> Fraction
-    ensures { result ≡ lowest a b }
-{
-    if b == 0 {
-        return Fraction { over: 0, under: 0 };
+impl Fraction {
+    // 0 over 0.
+    const NONE: Fraction = Fraction { over: 0, under: 0 };
+
+    // The fraction in lowest terms, 0 over 0 where it is of no call.
+    fn lowest(self) -> Fraction
+        ensures { result ≡ lowest self.over self.under }
+    {
+        if self.under == 0 {
+            return Fraction::NONE;
+        }
+        let g = gcd_of(self.over, self.under);
+        Fraction {
+            over: self.over / g,
+            under: self.under / g,
+        }
     }
-    let g = gcd_of(a, b);
-    Fraction {
-        over: a / g,
-        under: b / g,
-    }
+}
+
+impl Row {
+    // A row of 0 over 0.
+    const NONE: Row = Row {
+        successes: Fraction::NONE,
+        steps: Fraction::NONE,
+    };
 }
 
 // The row of a process.
-#[tactic(auto, unfolding(crate::specs::Fractions::row_of))]
-fn row_of(s: Sum) -> Row
-    ensures { result ≡ row_of s }
-{
-    let successes = lowest_terms(s.successes, s.scs);
-    let steps = lowest_terms(s.steps, s.lls);
-    Row { successes, steps }
-}
+impl From<Sum> for Row {
+    ghost from_gives = { λ s r. r ≡ row_of s };
 
-// A row of 0 over 0.
-pub fn no_row() -> Row
-    ensures { result ≡ no_row }
-{
-    Row {
-        successes: Fraction { over: 0, under: 0 },
-        steps: Fraction { over: 0, under: 0 },
+    #[tactic(auto, unfolding(crate::specs::Fractions::row_of))]
+    fn from(s: Sum) -> Row {
+        let successes = Fraction {
+            over: s.successes,
+            under: s.scs,
+        };
+        let steps = Fraction {
+            over: s.steps,
+            under: s.lls,
+        };
+        Row {
+            successes: successes.lowest(),
+            steps: steps.lowest(),
+        }
     }
 }
 
@@ -58,13 +72,9 @@ pub fn rows_of(each: [Sum; 16], n: usize) -> [Row; 16]
     requires { n ≤ 16 }
     ensures { result ≡ rows_of each n }
 {
-    let none = no_row();
-    let mut rows = [none; 16];
-    let mut k = 0;
-    while k < n {
-        let row = row_of(each[k]);
-        rows[k] = row;
-        k += 1;
+    let mut rows = [Row::NONE; 16];
+    for k in 0..n {
+        rows[k] = Row::from(each[k]);
     }
     rows
 }
