@@ -6,7 +6,9 @@ use mathlib.Core.Bool.{true, false}
 use lib.ListN.{replicate}
 use Rattle.verdicts.specs.declared.Verdict.TheVariants.{Refused, Yes, No}
 use Rattle.verdicts.specs.declared.Judgement.{Judgement as Said}
-use Rattle.enumeration.specs.declared.Found.{Found}
+use Rattle.std.specs.Prelude.{Result, Ok}
+use Rattle.llsc.specs.declared.refusals.Refusal.{Refusal}
+use Rattle.enumeration.specs.declared.Schedule.{Schedule}
 use Rattle.besklaun.specs.Judgements.{judgement_of, reasoned_of}
 use Rattle.besklaun.specs.TurnBytes.{schedule_into}
 
@@ -29,8 +31,8 @@ unfolding overlap
 both_calls = refl
 
 -- the turns 1 and 0 in three bytes, in two, which suffice, and in one, which stays
-found : Found
-found = record { refusal = 0; schedule = record { count = 2; turns = 1 ∷ 0 ∷ replicate 62 0 } }
+found : Result Schedule Refusal
+found = Ok (record { count = 2; turns = 1 ∷ 0 ∷ replicate 62 0 })
 
 record Turns : Type 0 where
   byte_behind : schedule_into found (9 ∷ 9 ∷ 9 ∷ []) ≡ (record { refusal = 0; count = 2 }, 1 ∷ 0 ∷ 9 ∷ [])

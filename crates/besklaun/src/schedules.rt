@@ -34,11 +34,9 @@ fn write(schedule: Schedule, turns: &mut [u8])
     ensures { turns.new ≡ written schedule turns.old }
 {
     let count = schedule.count;
-    if count > turns.len() {
-        return;
+    if count <= turns.len() {
+        turns[..count].copy_from_slice(&schedule.turns[..count]);
     }
-    let all = schedule.turns;
-    listing::plain(turns, 0, &all[..count]);
 }
 
 // The schedule for a number, in the bytes lent.
@@ -47,11 +45,18 @@ fn write(schedule: Schedule, turns: &mut [u8])
 pub fn besklaun_schedule_for(a: usize, b: usize, number: u64, turns: &mut [u8]) -> FoundTurns
     ensures { (result, turns.new) ≡ schedule_into (found_for a b number) turns.old }
 {
-    let found = enumeration::schedule_for(a, b, number);
-    write(found.schedule, turns);
-    FoundTurns {
-        refusal: found.refusal,
-        count: found.schedule.count,
+    match enumeration::schedule_for(a, b, number) {
+        Ok(schedule) => {
+            write(schedule, turns);
+            FoundTurns {
+                refusal: 0,
+                count: schedule.count,
+            }
+        }
+        Err(refusal) => FoundTurns {
+            refusal: refusal.number(),
+            count: 0,
+        },
     }
 }
 
@@ -59,10 +64,12 @@ pub fn besklaun_schedule_for(a: usize, b: usize, number: u64, turns: &mut [u8]) 
 pub fn besklaun_number_for(a: usize, b: usize, turns: &[u8]) -> TurnsNumber
     ensures { result ≡ number_told (numbered_for a b turns.now) }
 {
-    let numbered = enumeration::number_for(a, b, turns);
-    TurnsNumber {
-        refusal: numbered.refusal,
-        number: numbered.number,
+    match enumeration::number_for(a, b, turns) {
+        Ok(number) => TurnsNumber { refusal: 0, number },
+        Err(refusal) => TurnsNumber {
+            refusal: refusal.number(),
+            number: 0,
+        },
     }
 }
 
@@ -71,10 +78,21 @@ pub fn besklaun_number_for(a: usize, b: usize, turns: &[u8]) -> TurnsNumber
 pub fn besklaun_schedule_after(a: usize, b: usize, turns: &mut [u8]) -> TurnsAfter
     ensures { (result, turns.new) ≡ after_into (following_for a b turns.old) turns.old }
 {
-    let following = enumeration::schedule_after(a, b, turns);
-    write(following.schedule, turns);
-    TurnsAfter {
-        refusal: following.refusal,
-        last: following.last,
+    match enumeration::schedule_after(a, b, turns) {
+        Ok(Some(schedule)) => {
+            write(schedule, turns);
+            TurnsAfter {
+                refusal: 0,
+                last: false,
+            }
+        }
+        Ok(None) => TurnsAfter {
+            refusal: 0,
+            last: true,
+        },
+        Err(refusal) => TurnsAfter {
+            refusal: refusal.number(),
+            last: false,
+        },
     }
 }

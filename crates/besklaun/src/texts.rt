@@ -11,16 +11,18 @@ pub struct TextRun {
     pub written: usize,
 }
 
-// A whole text run, whose listing goes to the bytes lent.
-// Wrong programs that this rules out: one that blanks the bytes after the last line; one whose bench has too few words
-// for sixteen processes and 64 words, so that it refuses with 3.
-pub fn besklaun_run_text(text: &[u8], listing: &mut [u8]) -> TextRun
-    ensures { (result, listing.new) ≡ text_run false text.now listing.old }
+// A run on a bench of its own, of its listing or, where `traced`, of its trace.
+fn own_run(traced: bool, text: &[u8], into: &mut [u8]) -> TextRun
+    ensures { (result, into.new) ≡ text_run traced text.now into.old }
 {
     let mut words = [0; 5120];
     let bench = model::empty_bench();
     let all = tables::records::records_of(tables::records::no_process());
-    let out = run::text_run::run_by_value(bench, all, 16, &mut words, text, listing);
+    let out = if traced {
+        run::text_run::trace_by_value(bench, all, 16, &mut words, text, into)
+    } else {
+        run::text_run::run_by_value(bench, all, 16, &mut words, text, into)
+    };
     TextRun {
         number: out.number,
         entries: out.entries,
@@ -28,17 +30,18 @@ pub fn besklaun_run_text(text: &[u8], listing: &mut [u8]) -> TextRun
     }
 }
 
+// A whole text run, whose listing goes to the bytes lent.
+// Wrong programs that this rules out: one that blanks the bytes after the last line; one whose bench has too few words
+// for sixteen processes and 64 words, so that it refuses with 3.
+pub fn besklaun_run_text(text: &[u8], listing: &mut [u8]) -> TextRun
+    ensures { (result, listing.new) ≡ text_run false text.now listing.old }
+{
+    own_run(false, text, listing)
+}
+
 // The same run, with the trace in place of the listing.
 pub fn besklaun_trace_text(text: &[u8], trace: &mut [u8]) -> TextRun
     ensures { (result, trace.new) ≡ text_run true text.now trace.old }
 {
-    let mut words = [0; 5120];
-    let bench = model::empty_bench();
-    let all = tables::records::records_of(tables::records::no_process());
-    let out = run::text_run::trace_by_value(bench, all, 16, &mut words, text, trace);
-    TextRun {
-        number: out.number,
-        entries: out.entries,
-        written: out.written,
-    }
+    own_run(true, text, trace)
 }

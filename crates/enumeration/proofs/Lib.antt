@@ -1,7 +1,6 @@
 pub mod ScheduleFacts
 pub mod Theorems
 pub mod TurnLaws
-pub mod BranchLaws
 pub mod LoopLaws
 pub mod ReplyLaws
 pub mod ReplyTheorems

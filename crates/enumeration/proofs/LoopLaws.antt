@@ -1,23 +1,23 @@
 -- The two loops: the turns of a schedule written one after the other, and a list of turns counted through.
-use mathlib.Core.Path.{◌≡◌, refl, sym, ap, ap₂, ◌∙◌}
+use mathlib.Core.Path.{◌≡◌, refl, sym, ap, ap₂, subst, ◌∙◌}
 use Prim.Native.Nat.{ℕ, zero, suc, ◌+◌, ◌-◌, ◌^◌, ◌≤◌, ◌<◌}
 use mathlib.Core.List.{List, [], ◌∷◌, ◌++◌}
-use mathlib.Core.Bool.{Bool, true, false, ◌&&◌, cond}
+use mathlib.Core.Bool.{Bool, false, ◌&&◌, cond}
 use native.Mathlib.Omega.{arith}
 use native.Mathlib.Nat.{zero-add, two-pow-succ, one-le-pow, pow-le-pow_right}
 use lib.Dec.{eqb}
 use lib.ListN.{length, get_or, set, drop, replicate, drop_of_length-le}
 use lib.Seq.{sets, sets-eq, drop-cons}
 use borrow.Author.Tests.{eq-eqb, ne_eqb}
+use Rattle.std.specs.Prelude.{Option, Some, None}
 use Rattle.enumeration.specs.declared.turns.Chosen.{Chosen}
 use Rattle.enumeration.specs.declared.turns.Taken.{Taken}
-use Rattle.enumeration.specs.declared.Numbered.{Numbered}
 use Rattle.ways.specs.Ways.{ways}
 use Rattle.dictionary.specs.Schedules.{is_schedule, schedule_for, number_for}
 use Rattle.enumeration.specs.Replies.{padded}
-use Rattle.enumeration.specs.Turns.{chosen, taken, not_a_schedule, placed}
+use Rattle.enumeration.specs.Turns.{chosen, taken, placed}
 use Rattle.enumeration.proofs.ScheduleFacts.{turns_length, schedule_built}
-use Rattle.enumeration.proofs.TurnLaws.{ways_edge, Begins, begins, Takes, takes}
+use Rattle.enumeration.proofs.TurnLaws.{ways_edge, Begins, begins, Fits, Takes, takes}
 
 -- a number fits in 64 bits
 few_ways : (a b : ℕ) → ways a (suc b) ≤ 2 ^ (a + b)
@@ -45,7 +45,7 @@ pub record Filling (a b number : ℕ) (turns : List ℕ) (i x y k : ℕ) : Type 
   pub below : k < ways x y
   pub less_a : x ≤ 32
   pub less_b : y ≤ 32
-  pub room : i + (x + y) ≤ 64
+  pub left : i + (x + y) ≡ a + b
 
 zeros : ℕ → List ℕ
 zeros n = replicate n 0
@@ -67,7 +67,7 @@ fill_begins a b number ha hb h =
       below = h;
       less_a = ha;
       less_b = hb;
-      room = omega arith;
+      left = omega arith;
     }
 
 module _ (a b number : ℕ) (turns : List ℕ) (i x y k : ℕ) (v : Filling a b number turns i x y k) where
@@ -80,7 +80,7 @@ module _ (a b number : ℕ) (turns : List ℕ) (i x y k : ℕ) (v : Filling a b 
       let x1 = s.one_less in
       let x2 = s.less_a in
       let x3 = s.less_b in
-      let x4 = v.room in
+      let x4 = v.left in
       let x5 = v.less_a in
       let x6 = v.less_b in
       record {
@@ -88,14 +88,8 @@ module _ (a b number : ℕ) (turns : List ℕ) (i x y k : ℕ) (v : Filling a b 
         below = s.below;
         less_a = omega arith;
         less_b = omega arith;
-        room = omega arith;
+        left = omega arith;
       }
-
-  pub fill_less : 0 < x + y → (r : Chosen) → r ≡ chosen x y k → r.a + r.b < x + y
-  fill_less some r e =
-      let z = begins x y k some v.below in
-      let s : Begins x y k r = rw e z in
-      omega (arith, s.one_less)
 
   none : (k : ℕ) → schedule_for 0 0 k ≡ []
   unfolding schedule_for
@@ -122,18 +116,15 @@ count_begins a b turns ha hb =
     record { low = omega arith; less_a = ha; less_b = hb; below = omega arith; test = refl; number = omega arith }
 
 module _ (a b : ℕ) (turns : List ℕ) (i x y k : ℕ) (v : Counting a b turns i x y k) where
-  abbrev verdict : Bool → Numbered
-  verdict t = cond t (record { refusal = 0; number = number_for a b turns }) not_a_schedule
+  abbrev verdict : Bool → Option ℕ
+  verdict t = cond t (Some (number_for a b turns)) None
 
-  no_schedule_is : is_schedule a b turns ≡ false → not_a_schedule ≡ placed a b turns
+  no_schedule_is : is_schedule a b turns ≡ false → None ≡ placed a b turns
   no_schedule_is e = sym (ap verdict e)
 
-  module _ (h : i < length turns) (r : Taken) (e : r ≡ taken x y (get_or turns i 0)) where
+  module _ (h : i < length turns) where
     abbrev rest : List ℕ
     rest = drop (suc i) turns
-
-    one : Takes x y (get_or turns i 0) r
-    one = let z = takes x y (get_or turns i 0) in rw e z
 
     begun : drop i turns ≡ get_or turns i 0 ∷ rest
     begun = drop-cons turns i 0 h
@@ -141,38 +132,44 @@ module _ (a b : ℕ) (turns : List ℕ) (i x y k : ℕ) (v : Counting a b turns 
     next : suc i ≡ i + 1
     next = omega arith
 
-    pub count_fits : r.misfits ≡ false → k + r.skipped ≤ ways a b
-    count_fits f = omega (arith, one.below f, v.below)
+    module _ (r : Taken) (e : Some r ≡ taken x y (get_or turns i 0)) where
+      one : Fits x y (get_or turns i 0) r
+      one = subst (Takes x y (get_or turns i 0)) (sym e) (takes x y (get_or turns i 0))
 
-    pub count_goes_on : r.misfits ≡ false → Counting a b turns (i + 1) r.a r.b (k + r.skipped)
-    count_goes_on f =
-        let x1 = one.below f in
-        let x2 = v.below in
-        let x3 = one.less_a in
-        let x4 = one.less_b in
-        let x5 = v.less_a in
-        let x6 = v.less_b in
-        let n1 = one.number f rest in
-        let n2 = v.number in
-        let n3 = ap (number_for x y) begun in
-        let n4 = ap (λ j. number_for r.a r.b (drop j turns)) next in
-        record {
-          low = omega arith;
-          less_a = omega arith;
-          less_b = omega arith;
-          below = omega arith;
-          test = ap (λ j. is_schedule r.a r.b (drop j turns)) (sym next) ∙ sym (ap (is_schedule x y) begun ∙ one.fits f rest) ∙ v.test;
-          number = omega arith;
-        }
+      pub count_fits : k + r.skipped ≤ ways a b
+      count_fits = omega (arith, one.below, v.below)
 
-    pub count_stops : r.misfits ≡ true → not_a_schedule ≡ placed a b turns
-    count_stops f = no_schedule_is (sym v.test ∙ ap (is_schedule x y) begun ∙ one.misfits f rest)
+      pub count_goes_on : Counting a b turns (i + 1) r.a r.b (k + r.skipped)
+      count_goes_on =
+          let x1 = one.below in
+          let x2 = v.below in
+          let x3 = one.less_a in
+          let x4 = one.less_b in
+          let x5 = v.less_a in
+          let x6 = v.less_b in
+          let n1 = one.number rest in
+          let n2 = v.number in
+          let n3 = ap (number_for x y) begun in
+          let n4 = ap (λ j. number_for r.a r.b (drop j turns)) next in
+          record {
+            low = omega arith;
+            less_a = omega arith;
+            less_b = omega arith;
+            below = omega arith;
+            test = ap (λ j. is_schedule r.a r.b (drop j turns)) (sym next) ∙ sym (ap (is_schedule x y) begun ∙ one.fits rest) ∙ v.test;
+            number = omega arith;
+          }
+
+    pub count_stops : None ≡ taken x y (get_or turns i 0) → None ≡ placed a b turns
+    count_stops e =
+        let none : Takes x y (get_or turns i 0) None = subst (Takes x y (get_or turns i 0)) (sym e) (takes x y (get_or turns i 0)) in
+        no_schedule_is (sym v.test ∙ ap (is_schedule x y) begun ∙ none rest)
 
   module _ (h : length turns ≤ i) where
     over : drop i turns ≡ []
     over = drop_of_length-le turns {i = i} h
 
-    pub count_short : 0 < x + y → not_a_schedule ≡ placed a b turns
+    pub count_short : 0 < x + y → None ≡ placed a b turns
     count_short p = no_schedule_is (sym v.test ∙ ap (is_schedule x y) over ∙ some_left x y p)
       where
         some_left : (x y : ℕ) → 0 < x + y → (eqb 0 x && eqb 0 y) ≡ false
@@ -185,8 +182,8 @@ module _ (a b : ℕ) (turns : List ℕ) (i x y k : ℕ) (v : Counting a b turns 
     none_left zero y ts p = refl
     none_left (suc x) y ts p = absurd (omega arith)
 
-    pub count_ends : x + y ≡ 0 → record { refusal = 0; number = k } ≡ placed a b turns
+    pub count_ends : x + y ≡ 0 → Some k ≡ placed a b turns
     count_ends p =
         let z : k ≡ number_for a b turns = omega (arith, v.number, none_left x y (drop i turns) p) in
-        ap (λ j. record { refusal = 0; number = j }) z
+        ap Some z
         ∙ sym (ap verdict (sym v.test ∙ ap (is_schedule x y) over ∙ ap₂ ◌&&◌ (eq-eqb 0 x (omega arith)) (eq-eqb 0 y (omega arith))))

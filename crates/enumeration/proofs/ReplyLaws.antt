@@ -1,99 +1,133 @@
 -- The replies of the three entries, at each place where the code returns.
-use mathlib.Core.Path.{◌≡◌, refl, sym, ap, ap₂, ◌∙◌}
+use mathlib.Core.Path.{◌≡◌, refl, sym, ap, ap₂, subst, ◌∙◌}
 use Prim.Native.Nat.{ℕ, ◌+◌, ◌≤◌, ◌<◌}
-use mathlib.Core.List.{List, [], ◌∷◌}
+use mathlib.Core.List.{List}
+use mathlib.Core.Logic.{◌⊎◌, inl, inr}
 use mathlib.Core.Bool.{Bool, true, false, not, ◌||◌, cond}
 use native.Mathlib.Omega.{arith}
-use lib.Dec.{eqb, ltb}
-use borrow.Author.Tests.{ne_eqb, lt-ltb, le-ltb, le-leb, lt-leb, ltb-false}
-use Rattle.llsc.specs.Rows.{Row, first}
+use lib.Dec.{ltb, leb}
+use borrow.Author.Tests.{lt-ltb, le-ltb, le-leb, lt-leb, ltb-false, ltb-true, leb-false}
+use Rattle.std.specs.Prelude.{Option, Some, None, Result, Ok, Err, MatchResult, ok_or}
+use Rattle.std.proofs.lemmas.Option.{none-some, same_Some}
+use Rattle.llsc.specs.declared.refusals.Refusal.{Refusal}
+use Rattle.llsc.specs.declared.refusals.Refusal.TheVariants.{TooManyTurns, NoSuchNumber, NotASchedule}
 use Rattle.enumeration.specs.declared.Schedule.{Schedule}
-use Rattle.enumeration.specs.declared.Found.{Found}
-use Rattle.enumeration.specs.declared.Numbered.{Numbered}
-use Rattle.enumeration.specs.declared.Following.{Following}
 use Rattle.ways.specs.Ways.{ways}
-use Rattle.dictionary.specs.Schedules.{is_schedule, schedule_for, number_for, Next, schedule, was_last, schedule_after}
-use Rattle.enumeration.specs.Replies.{row20, row21, row22, number_refusal, turns_refusal}
-use Rattle.enumeration.specs.Replies.{padded, kept, no_schedule, found_for, numbered_for, following_of, following_for}
-use Rattle.enumeration.specs.Turns.{not_a_schedule, placed}
+use Rattle.dictionary.specs.Schedules.{is_schedule, schedule_for, number_for, schedule_after}
+use Rattle.enumeration.specs.Replies.{row20, row21, row22, number_refusal, turns_refusal, refusal_of}
+use Rattle.enumeration.specs.Replies.{kept, found_for, numbered_for, following_of, following_for}
+use Rattle.enumeration.specs.Turns.{placed}
 use Rattle.enumeration.proofs.Theorems.{number_of_schedule}
 
--- row 20, whatever rows follow
-module _ (a b : ℕ) (rest : List Row) where
-  abbrev row20_then : Bool → ℕ
-  row20_then t = cond t 20 (first rest)
+-- the refusals are the rows' numbers, in their order
+pub found_refusal : (a b k : ℕ) → refusal_of (found_for a b k) ≡ number_refusal a b k
+unfolding found_for
+found_refusal a b k = go (row20 a b).holds (row21 a b k).holds
+  where
+    go : (x y : Bool) → refusal_of (cond x (Err TooManyTurns) (cond y (Err NoSuchNumber) (Ok (kept a b (schedule_for a b k)))))
+        ≡ cond x 20 (cond y 21 0)
+    go true y = refl
+    go false true = refl
+    go false false = refl
 
+after_rows : {A : Type 0} (x y : Bool) (r : A)
+    → refusal_of (cond x (Err TooManyTurns) (cond y (Err NotASchedule) (Ok r))) ≡ cond x 20 (cond y 22 0)
+after_rows true y r = refl
+after_rows false true r = refl
+after_rows false false r = refl
+
+pub numbered_refusal : (a b : ℕ) (ts : List ℕ) → refusal_of (numbered_for a b ts) ≡ turns_refusal a b ts
+unfolding numbered_for
+numbered_refusal a b ts = after_rows (row20 a b).holds (row22 a b ts).holds (number_for a b ts)
+
+pub following_refusal : (a b : ℕ) (ts : List ℕ) → refusal_of (following_for a b ts) ≡ turns_refusal a b ts
+unfolding following_for
+following_refusal a b ts = after_rows (row20 a b).holds (row22 a b ts).holds (following_of a b (schedule_after a b ts))
+
+-- row 20
+module _ (a b : ℕ) where
   or_true : (t : Bool) → (t || true) ≡ true
   or_true true = refl
   or_true false = refl
 
-  over_a : 32 < a → first (row20 a b ∷ rest) ≡ 20
-  over_a h = ap (λ x. row20_then (x || ltb 32 b)) (lt-ltb 32 a h)
+  over_a : 32 < a → (row20 a b).holds ≡ true
+  over_a h = ap (λ x. x || ltb 32 b) (lt-ltb 32 a h)
 
-  over_b : 32 < b → first (row20 a b ∷ rest) ≡ 20
-  over_b h = ap (λ x. row20_then (ltb 32 a || x)) (lt-ltb 32 b h) ∙ ap row20_then (or_true (ltb 32 a))
+  over_b : 32 < b → (row20 a b).holds ≡ true
+  over_b h = ap (λ x. ltb 32 a || x) (lt-ltb 32 b h) ∙ or_true (ltb 32 a)
 
-  not_over : a ≤ 32 → b ≤ 32 → first (row20 a b ∷ rest) ≡ first rest
-  not_over ha hb = ap₂ (λ x y. row20_then (x || y)) (le-ltb 32 a ha) (le-ltb 32 b hb)
+  pub over : (32 < a) ⊎ ((a ≤ 32) × (32 < b)) → (row20 a b).holds ≡ true
+  over (inl h) = over_a h
+  over (inr h) = over_b h.1
+
+  pub not_over : a ≤ 32 → b ≤ 32 → (row20 a b).holds ≡ false
+  not_over ha hb = ap₂ ◌||◌ (le-ltb 32 a ha) (le-ltb 32 b hb)
 
 -- the schedule for a number
 module _ (a b k : ℕ) where
-  abbrev found : ℕ → Found
-  found r = record { refusal = r; schedule = cond (eqb r 0) (kept a b (schedule_for a b k)) no_schedule }
-
-  is_found : (r : ℕ) → number_refusal a b k ≡ r → found_for a b k ≡ found r
+  pub found_20 : (row20 a b).holds ≡ true → Err TooManyTurns ≡ found_for a b k
   unfolding found_for
-  is_found r e = ap found e
+  found_20 e = rw e
 
-  module _ (none : Schedule) (e : none ≡ no_schedule) where
-    abbrev refused : ℕ → Found
-    refused r = record { refusal = r; schedule = none }
+  module _ (ha : a ≤ 32) (hb : b ≤ 32) where
+    abbrev given : Bool → Result Schedule Refusal
+    given t = cond t (Err NoSuchNumber) (Ok (kept a b (schedule_for a b k)))
 
-    as_none : (r : ℕ) → refused r ≡ record { refusal = r; schedule = no_schedule }
-    as_none r = ap (λ s. record { refusal = r; schedule = s }) e
+    found_given : found_for a b k ≡ given (leb (ways a b) k)
+    unfolding found_for
+    found_given = ap (λ x. cond x (Err TooManyTurns) (given (leb (ways a b) k))) (not_over a b ha hb)
 
-    pub found_a : 32 < a → refused 20 ≡ found_for a b k
-    found_a h = as_none 20 ∙ sym (is_found 20 (over_a a b (row21 a b k ∷ []) h))
+    pub found_21 : ways a b ≤ k → Err NoSuchNumber ≡ found_for a b k
+    found_21 h = sym (found_given ∙ ap given (le-leb (ways a b) k h))
 
-    pub found_b : 32 < b → refused 20 ≡ found_for a b k
-    found_b h = as_none 20 ∙ sym (is_found 20 (over_b a b (row21 a b k ∷ []) h))
+    pub found_0 : k < ways a b → Ok (kept a b (schedule_for a b k)) ≡ found_for a b k
+    found_0 h = sym (found_given ∙ ap given (lt-leb (ways a b) k h))
 
-    pub found_21 : a ≤ 32 → b ≤ 32 → (count : ℕ) → count ≡ ways a b → count ≤ k → refused 21 ≡ found_for a b k
-    found_21 ha hb count w h =
-        let z : number_refusal a b k ≡ 21 =
-        not_over a b (row21 a b k ∷ []) ha hb ∙ ap (λ t. cond t 21 0) (le-leb (ways a b) k (omega arith)) in
-        as_none 21 ∙ sym (is_found 21 z)
+err_ok : {A : Type 0} {r : Refusal} {x : A} → Err r ≡ Ok x → ⊥
+err_ok e = subst (λ z. MatchResult z (λ _. ⊥) (λ _. Unit {0})) e tt
 
-  pub found_0 : a ≤ 32 → b ≤ 32 → (count : ℕ) → count ≡ ways a b → k < count → (ts : List ℕ) → ts ≡ padded (schedule_for a b k)
-      → record { refusal = 0; schedule = record { count = a + b; turns = ts } } ≡ found_for a b k
-  found_0 ha hb count w h ts e =
-      let z : number_refusal a b k ≡ 0 =
-      not_over a b (row21 a b k ∷ []) ha hb ∙ ap (λ t. cond t 21 0) (lt-leb (ways a b) k (omega arith)) in
-      ap (λ us. record { refusal = 0; schedule = record { count = a + b; turns = us } }) e ∙ sym (is_found 0 z)
+same_ok : {A : Type 0} {x y : A} → ◌≡◌ {A = Result A Refusal} (Ok x) (Ok y) → x ≡ y
+same_ok {x = x} e = subst (λ z. MatchResult z (λ v. x ≡ v) (λ _. Unit {0})) e refl
+
+same_err : {A : Type 0} {r q : Refusal} → ◌≡◌ {A = Result A Refusal} (Err r) (Err q) → r ≡ q
+same_err {r = r} e = subst (λ z. MatchResult z (λ _. Unit {0}) (λ v. r ≡ v)) e refl
+
+-- nothing is refused
+pub record Given (a b k : ℕ) : Type 0 where
+  pub less_a : a ≤ 32
+  pub less_b : b ≤ 32
+  pub below : k < ways a b
+
+pub found_is : (a b k : ℕ) (s : Schedule) → found_for a b k ≡ Ok s → Given a b k × (kept a b (schedule_for a b k) ≡ s)
+unfolding found_for
+found_is a b k s e = go (ltb 32 a) refl (ltb 32 b) refl (leb (ways a b) k) refl e
+  where
+    go : (x : Bool) → ltb 32 a ≡ x → (y : Bool) → ltb 32 b ≡ y → (t : Bool) → leb (ways a b) k ≡ t
+        → cond (x || y) (Err TooManyTurns) (cond t (Err NoSuchNumber) (Ok (kept a b (schedule_for a b k)))) ≡ Ok s
+        → Given a b k × (kept a b (schedule_for a b k) ≡ s)
+    go true ex y ey t et e = absurd (err_ok e)
+    go false ex true ey t et e = absurd (err_ok e)
+    go false ex false ey true et e = absurd (err_ok e)
+    go false ex false ey false et e = (
+      record { less_a = ltb-false 32 a ex; less_b = ltb-false 32 b ey; below = leb-false (ways a b) k et },
+      same_ok e,
+    )
 
 -- the number for a schedule
 module _ (a b : ℕ) (ts : List ℕ) where
-  abbrev numbered : ℕ → Numbered
-  numbered r = record { refusal = r; number = cond (eqb r 0) (number_for a b ts) 0 }
-
-  is_numbered : (r : ℕ) → turns_refusal a b ts ≡ r → numbered_for a b ts ≡ numbered r
+  pub numbered_20 : (row20 a b).holds ≡ true → Err TooManyTurns ≡ numbered_for a b ts
   unfolding numbered_for
-  is_numbered r e = ap numbered e
+  numbered_20 e = rw e
 
-  pub refusal_is : (numbered_for a b ts).refusal ≡ turns_refusal a b ts
+  pub numbered_placed : a ≤ 32 → b ≤ 32 → ok_or (placed a b ts) NotASchedule ≡ numbered_for a b ts
   unfolding numbered_for
-  refusal_is = refl
-
-  pub numbered_a : 32 < a → record { refusal = 20; number = 0 } ≡ numbered_for a b ts
-  numbered_a h = sym (is_numbered 20 (over_a a b (row22 a b ts ∷ []) h))
-
-  pub numbered_b : 32 < b → record { refusal = 20; number = 0 } ≡ numbered_for a b ts
-  numbered_b h = sym (is_numbered 20 (over_b a b (row22 a b ts ∷ []) h))
-
-  pub numbered_placed : a ≤ 32 → b ≤ 32 → placed a b ts ≡ numbered_for a b ts
-  numbered_placed ha hb = sym (is_numbered _ (not_over a b (row22 a b ts ∷ []) ha hb) ∙ tested (is_schedule a b ts))
+  numbered_placed ha hb =
+      tested (is_schedule a b ts) ∙ sym (ap (λ x. cond x (Err TooManyTurns) (replied (is_schedule a b ts))) (not_over a b ha hb))
     where
-      tested : (t : Bool) → numbered (cond (not t) 22 0) ≡ cond t (numbered 0) not_a_schedule
+      replied : Bool → Result ℕ Refusal
+      replied t = cond (not t) (Err NotASchedule) (Ok (number_for a b ts))
+
+      tested : (t : Bool) → ok_or (cond t (Some (number_for a b ts)) None) NotASchedule ≡ replied t
       tested true = refl
       tested false = refl
 
@@ -103,62 +137,80 @@ module _ (a b : ℕ) (ts : List ℕ) where
     pub less_b : b ≤ 32
     pub test : is_schedule a b ts ≡ true
 
-  pub none_refused : turns_refusal a b ts ≡ 0 → Taken
-  none_refused e = go (ltb 32 a) refl (ltb 32 b) refl (is_schedule a b ts) refl e
+  pub numbered_is : (k : ℕ) → numbered_for a b ts ≡ Ok k → Taken × (number_for a b ts ≡ k)
+  unfolding numbered_for
+  numbered_is k e = go (ltb 32 a) refl (ltb 32 b) refl (is_schedule a b ts) refl e
     where
       go : (x : Bool) → ltb 32 a ≡ x → (y : Bool) → ltb 32 b ≡ y → (t : Bool) → is_schedule a b ts ≡ t
-          → ◌≡◌ {A = ℕ} (cond (x || y) 20 (cond (not t) 22 0)) 0 → Taken
-      go true ex y ey t et e = absurd (omega arith)
-      go false ex true ey t et e = absurd (omega arith)
-      go false ex false ey false et e = absurd (omega arith)
-      go false ex false ey true et e = record { less_a = ltb-false 32 a ex; less_b = ltb-false 32 b ey; test = et }
+          → cond (x || y) (Err TooManyTurns) (cond (not t) (Err NotASchedule) (Ok (number_for a b ts))) ≡ Ok k
+          → Taken × (number_for a b ts ≡ k)
+      go true ex y ey t et e = absurd (err_ok e)
+      go false ex true ey t et e = absurd (err_ok e)
+      go false ex false ey false et e = absurd (err_ok e)
+      go false ex false ey true et e =
+          (record { less_a = ltb-false 32 a ex; less_b = ltb-false 32 b ey; test = et }, same_ok e)
 
 -- the schedule after a given one
-module _ (a b : ℕ) (ts : List ℕ) (this : Numbered) (n : this ≡ numbered_for a b ts) where
-  abbrev following : ℕ → Following
-  following r =
-      cond (eqb r 0) (following_of a b (schedule_after a b ts)) (record { refusal = r; last = false; schedule = no_schedule })
+module _ (a b : ℕ) (ts : List ℕ) where
+  pub following_refused : (r : Refusal) → numbered_for a b ts ≡ Err r → Err r ≡ following_for a b ts
+  unfolding numbered_for following_for
+  following_refused r e = go (row20 a b).holds (row22 a b ts).holds e
+    where
+      go : (x y : Bool) → cond x (Err TooManyTurns) (cond y (Err NotASchedule) (Ok (number_for a b ts))) ≡ Err r
+          → Err r ≡ cond x (Err TooManyTurns) (cond y (Err NotASchedule) (Ok (following_of a b (schedule_after a b ts))))
+      go true y e = ap Err (sym (same_err e))
+      go false true e = ap Err (sym (same_err e))
+      go false false e = absurd (err_ok (sym e))
 
-  refusal : this.refusal ≡ turns_refusal a b ts
-  refusal = ap (λ (m : Numbered). m.refusal) n ∙ refusal_is a b ts
-
-  is_following : following_for a b ts ≡ following this.refusal
-  unfolding following_for
-  is_following = ap following (sym refusal)
-
-  pub following_refused : (none : Schedule) → none ≡ no_schedule → (this.refusal ≡ 0 → ⊥)
-      → record { refusal = this.refusal; last = false; schedule = none } ≡ following_for a b ts
-  following_refused none e z = rw (e, is_following, ne_eqb this.refusal 0 z)
-
-  module _ (z : this.refusal ≡ 0) where
+  module _ (k : ℕ) (e : numbered_for a b ts ≡ Ok k) where
     pub taken : Taken a b ts
-    taken = none_refused a b ts (sym refusal ∙ z)
+    taken = (numbered_is a b ts k e).0
 
-    pub number_is : this.number ≡ number_for a b ts
-    number_is = ap (λ (m : Numbered). m.number) (n ∙ is_numbered a b ts 0 (sym refusal ∙ z))
+    pub below : k < ways a b
+    below = omega (arith, (numbered_is a b ts k e).1, number_of_schedule a b ts taken.test)
 
-    pub number_below : this.number < ways a b
-    number_below = omega (arith, number_is, number_of_schedule a b ts taken.test)
+    abbrev next : Bool → Option (List ℕ)
+    next t = cond t (Some (schedule_for a b (k + 1))) None
 
-    abbrev next : Bool → Next
-    next t = cond t (schedule (schedule_for a b (this.number + 1))) was_last
+    abbrev checked : Bool → Bool → Result (Option Schedule) Refusal
+    checked x t = cond x (Err TooManyTurns) (cond (not t) (Err NotASchedule) (Ok (following_of a b (schedule_after a b ts))))
 
-    after_is : schedule_after a b ts ≡ next (ltb (this.number + 1) (ways a b))
+    after_is : schedule_after a b ts ≡ next (ltb (k + 1) (ways a b))
     unfolding schedule_after
-    after_is = ap (λ k. cond (ltb (k + 1) (ways a b)) (schedule (schedule_for a b (k + 1))) was_last) (sym number_is)
+    after_is = ap (λ k. cond (ltb (k + 1) (ways a b)) (Some (schedule_for a b (k + 1))) None) (numbered_is a b ts k e).1
 
-    then : (t : Bool) → ltb (this.number + 1) (ways a b) ≡ t → following_for a b ts ≡ following_of a b (next t)
-    then t e = is_following ∙ ap following z ∙ ap (following_of a b) (after_is ∙ ap next e)
+    then : (t : Bool) → ltb (k + 1) (ways a b) ≡ t → Ok (following_of a b (next t)) ≡ following_for a b ts
+    unfolding following_for
+    then t f =
+        sym (ap₂ checked (not_over a b taken.less_a taken.less_b) taken.test
+        ∙ ap (λ n. Ok (following_of a b n)) (after_is ∙ ap next f))
 
-    pub following_last : (none : Schedule) → none ≡ no_schedule → (count : ℕ) → count ≡ ways a b → count ≤ this.number + 1
-        → record { refusal = 0; last = true; schedule = none } ≡ following_for a b ts
-    following_last none e count w h =
-        ap (λ s. record { refusal = 0; last = true; schedule = s }) e
-        ∙ sym (then false (le-ltb (this.number + 1) (ways a b) (omega arith)))
+    pub following_last : ways a b ≤ k + 1 → Ok None ≡ following_for a b ts
+    following_last h = then false (le-ltb (k + 1) (ways a b) h)
 
-    pub following_next : (count : ℕ) → count ≡ ways a b → this.number + 1 < count → (us : List ℕ)
-        → us ≡ padded (schedule_for a b (this.number + 1))
-        → record { refusal = 0; last = false; schedule = record { count = a + b; turns = us } } ≡ following_for a b ts
-    following_next count w h us e =
-        ap (λ us. record { refusal = 0; last = false; schedule = record { count = a + b; turns = us } }) e
-        ∙ sym (then true (lt-ltb (this.number + 1) (ways a b) (omega arith)))
+    pub following_next : k + 1 < ways a b → Ok (Some (kept a b (schedule_for a b (k + 1)))) ≡ following_for a b ts
+    following_next h = then true (lt-ltb (k + 1) (ways a b) h)
+
+-- a schedule that follows is the one for a number
+pub record Followed (a b : ℕ) (s : Schedule) : Type 0 where
+  pub number : ℕ
+  pub below : number < ways a b
+  pub is : kept a b (schedule_for a b number) ≡ s
+
+pub following_is : (a b : ℕ) (ts : List ℕ) (s : Schedule) → following_for a b ts ≡ Ok (Some s) → Followed a b s
+unfolding following_for schedule_after
+following_is a b ts s e = go (row20 a b).holds (row22 a b ts).holds (ltb (k + 1) (ways a b)) refl e
+  where
+    k : ℕ
+    k = number_for a b ts
+
+    next : Bool → Option (List ℕ)
+    next t = cond t (Some (schedule_for a b (k + 1))) None
+
+    go : (x y t : Bool) → ltb (k + 1) (ways a b) ≡ t
+        → cond x (Err TooManyTurns) (cond y (Err NotASchedule) (Ok (following_of a b (next t)))) ≡ Ok (Some s) → Followed a b s
+    go true y t et e = absurd (err_ok e)
+    go false true t et e = absurd (err_ok e)
+    go false false false et e = absurd (none-some s (same_ok e))
+    go false false true et e =
+        record { number = k + 1; below = ltb-true (k + 1) (ways a b) et; is = same_Some _ _ (same_ok e) }

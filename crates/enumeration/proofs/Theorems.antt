@@ -8,8 +8,9 @@ use native.Mathlib.Omega.{arith}
 use lib.Dec.{ltb}
 use borrow.Author.Tests.{ltb-true, ltb-false, lt-ltb, le-ltb}
 use Rattle.laws.proofs.Updates.{by_test}
+use Rattle.std.specs.Prelude.{Some, None}
 use Rattle.ways.specs.Ways.{ways}
-use Rattle.dictionary.specs.Schedules.{is_schedule, before, schedule_for, number_for, schedule, was_last, schedule_after, ComesOnce, Follows}
+use Rattle.dictionary.specs.Schedules.{is_schedule, before, schedule_for, number_for, schedule_after, ComesOnce, Follows}
 use Rattle.enumeration.proofs.ScheduleFacts.{built, is_schedule_lem, schedule_built, number_schedule, number_below, schedule_number, in_order}
 
 -- each number below the count has a schedule, whose number it is;
@@ -47,7 +48,7 @@ after_follows a b ts e = by_test (Follows a b ts) (ltb (k + 1) (ways a b)) there
     k : ℕ
     k = number_for a b ts
 
-    there : ltb (k + 1) (ways a b) ≡ true → Follows a b ts (schedule (schedule_for a b (k + 1)))
+    there : ltb (k + 1) (ways a b) ≡ true → Follows a b ts (Some (schedule_for a b (k + 1)))
     there t =
         let us = schedule_for a b (k + 1) in
         let h = ltb-true (k + 1) (ways a b) t in
@@ -64,7 +65,7 @@ after_follows a b ts e = by_test (Follows a b ts) (ltb (k + 1) (ways a b)) there
           ),
         )
 
-    none : ltb (k + 1) (ways a b) ≡ false → Follows a b ts was_last
+    none : ltb (k + 1) (ways a b) ≡ false → Follows a b ts None
     none t vs i =
         let h = ltb-false (k + 1) (ways a b) t in
         let z = number_of_schedule a b vs i in

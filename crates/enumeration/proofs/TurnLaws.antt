@@ -8,13 +8,14 @@ use native.Mathlib.Decide.{ℕ_discrete}
 use lib.Dec.{eqb, ltb, leb}
 use lib.ListN.{replicate}
 use borrow.Author.Tests.{eq-eqb, ne_eqb, ltb-true, ltb-false, lt-ltb, le-ltb, lt-leb}
+use Rattle.std.specs.Prelude.{Option, Some, None}
 use Rattle.llsc.specs.Rows.{every}
-use Rattle.laws.proofs.Updates.{by_test, contra}
+use Rattle.laws.proofs.Updates.{by_test}
 use Rattle.enumeration.specs.declared.turns.Chosen.{Chosen}
 use Rattle.enumeration.specs.declared.turns.Taken.{Taken}
 use Rattle.ways.specs.Ways.{ways}
 use Rattle.dictionary.specs.Schedules.{turns_of, is_schedule, schedule_for, number_for}
-use Rattle.enumeration.specs.Turns.{zero_first, chosen, misfit, taken}
+use Rattle.enumeration.specs.Turns.{zero_first, chosen, taken}
 
 -- at an edge there is one way, and its number is 0
 ways_0 : (b : ℕ) → ways 0 b ≡ 1
@@ -116,13 +117,16 @@ one_there (suc a) zero k zeros z l p h = absurd (omega (arith, zero_first_lem a 
 one_there a (suc b) k zeros z l p h = omega arith
 
 -- The turn t taken from a list, or one with which no schedule begins.
-pub record Takes (a b t : ℕ) (r : Taken) : Type 0 where
-  pub fits : r.misfits ≡ false → (ts : List ℕ) → is_schedule a b (t ∷ ts) ≡ is_schedule r.a r.b ts
-  pub misfits : r.misfits ≡ true → (ts : List ℕ) → is_schedule a b (t ∷ ts) ≡ false
-  pub number : r.misfits ≡ false → (ts : List ℕ) → number_for a b (t ∷ ts) ≡ r.skipped + number_for r.a r.b ts
-  pub below : r.misfits ≡ false → r.skipped + ways r.a r.b ≤ ways a b
+pub record Fits (a b t : ℕ) (r : Taken) : Type 0 where
+  pub fits : (ts : List ℕ) → is_schedule a b (t ∷ ts) ≡ is_schedule r.a r.b ts
+  pub number : (ts : List ℕ) → number_for a b (t ∷ ts) ≡ r.skipped + number_for r.a r.b ts
+  pub below : r.skipped + ways r.a r.b ≤ ways a b
   pub less_a : r.a ≤ a
   pub less_b : r.b ≤ b
+
+abbrev pub Takes : ℕ → ℕ → ℕ → Option Taken → Type 0
+Takes a b t (Some r) = Fits a b t r
+Takes a b t None = (ts : List ℕ) → is_schedule a b (t ∷ ts) ≡ false
 
 -- a schedule's test, without its first turn
 eqb_suc : (x y : ℕ) → eqb (1 + x) (suc y) ≡ eqb x y
@@ -163,17 +167,6 @@ none_2 a b t ts =
     let third = suc (suc t) ∷ ts in
     ap (λ x. (x && known ts) && (eqb (turns_of 0 third) a && eqb (turns_of 1 third) b)) (lt-leb (suc (suc t)) 1 (omega arith))
 
-no_fit : (a b t : ℕ) → ((ts : List ℕ) → is_schedule a b (t ∷ ts) ≡ false) → Takes a b t misfit
-no_fit a b t f =
-    record {
-      fits = λ e. absurd (contra refl e);
-      misfits = λ _. f;
-      number = λ e. absurd (contra refl e);
-      below = λ e. absurd (contra refl e);
-      less_a = omega arith;
-      less_b = omega arith;
-    }
-
 ways_less : (a b : ℕ) → ways a b ≤ ways (suc a) b
 unfolding ways
 ways_less zero zero = omega arith
@@ -202,28 +195,26 @@ skipped_1 (suc a) b = omega (arith, zero_first_lem a (suc b), ways_sum a b)
 
 pub takes : (a b t : ℕ) → Takes a b t (taken a b t)
 unfolding taken
-takes zero b zero = no_fit 0 b 0 (none_0 b)
+takes zero b zero = none_0 b
 takes (suc a) b zero =
     rw (some a, pred a)
     (record {
-      fits = λ _. test_0 a b;
-      misfits = λ e. absurd (contra e refl);
-      number = λ _. number_0 a b;
-      below = λ _. omega (arith, ways_less a b);
+      fits = test_0 a b;
+      number = number_0 a b;
+      below = omega (arith, ways_less a b);
       less_a = omega arith;
       less_b = omega arith;
     })
-takes a zero (suc zero) = no_fit a 0 1 (none_1 a)
+takes a zero (suc zero) = none_1 a
 takes a (suc b) (suc zero) =
     rw (some b, pred b)
     (record {
-      fits = λ _. test_1 a b;
-      misfits = λ e. absurd (contra e refl);
-      number = λ _. number_1 a b;
-      below = λ _. skipped_1 a b;
+      fits = test_1 a b;
+      number = number_1 a b;
+      below = skipped_1 a b;
       less_a = omega arith;
       less_b = omega arith;
     })
 takes a b (suc (suc t)) =
     let third = suc (suc t) in
-    rw (ne_eqb third 0 (λ z. omega arith), ne_eqb third 1 (λ z. omega arith)) (no_fit a b third (none_2 a b t))
+    rw (ne_eqb third 0 (λ z. omega arith), ne_eqb third 1 (λ z. omega arith)) (none_2 a b t)

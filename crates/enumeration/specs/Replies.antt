@@ -1,12 +1,12 @@
 -- What the three entries reply (02, CR 5); "nothing changed": they are lent no memory but the turns, to read.
-use Rattle.std.specs.Prelude.{ℕ, ◌+◌, ◌-◌, List, [], ◌∷◌, ◌++◌, true, false, not, ◌||◌, cond, eqb, ltb, leb, length, replicate, take}
+use Rattle.std.specs.Prelude.{ℕ, ◌+◌, ◌-◌, List, [], ◌∷◌, ◌++◌, not, ◌||◌, cond, ltb, leb, length, replicate, take}
+use Rattle.std.specs.Prelude.{Option, Some, None, Result, Ok, Err}
+use Rattle.llsc.specs.Refusals.{refusal_number}
+use Rattle.llsc.specs.declared.refusals.Refusal.{Refusal}
+use Rattle.llsc.specs.declared.refusals.Refusal.TheVariants.{TooManyTurns, NoSuchNumber, NotASchedule}
 use Rattle.llsc.specs.Rows.{Row, first}
 use Rattle.enumeration.specs.declared.Schedule.{Schedule}
-use Rattle.enumeration.specs.declared.Found.{Found}
-use Rattle.enumeration.specs.declared.Numbered.{Numbered}
-use Rattle.enumeration.specs.declared.Following.{Following}
 use Rattle.ways.specs.Ways.{ways}
-use Rattle.dictionary.specs.Schedules.{Next, schedule, was_last}
 use Rattle.dictionary.specs.Schedules.{is_schedule, schedule_for, number_for, schedule_after}
 
 -- "20 for a or b above 32, 21 for a number not below the count, 22 for a turn list with other totals or a third
@@ -37,28 +37,27 @@ kept a b ts = record { count = a + b; turns = padded ts }
 abbrev pub turns_in : Schedule → List ℕ
 turns_in s = take s.count s.turns
 
-abbrev pub no_schedule : Schedule
-no_schedule = record { count = 0; turns = replicate 64 0 }
-
 -- "We want the schedule for a number,
-unfoldable pub found_for : ℕ → ℕ → ℕ → Found
+unfoldable pub found_for : ℕ → ℕ → ℕ → Result Schedule Refusal
 found_for a b k =
-    let refusal : ℕ = number_refusal a b k in
-    record { refusal = refusal; schedule = cond (eqb refusal 0) (kept a b (schedule_for a b k)) no_schedule }
+    cond (row20 a b).holds (Err TooManyTurns) (cond (row21 a b k).holds (Err NoSuchNumber) (Ok (kept a b (schedule_for a b k))))
 
 -- the number for a schedule,
-unfoldable pub numbered_for : ℕ → ℕ → List ℕ → Numbered
+unfoldable pub numbered_for : ℕ → ℕ → List ℕ → Result ℕ Refusal
 numbered_for a b ts =
-    let refusal : ℕ = turns_refusal a b ts in
-    record { refusal = refusal; number = cond (eqb refusal 0) (number_for a b ts) 0 }
+    cond (row20 a b).holds (Err TooManyTurns) (cond (row22 a b ts).holds (Err NotASchedule) (Ok (number_for a b ts)))
 
 -- and the schedule after a given one, or word that it was the last."
-abbrev pub following_of : ℕ → ℕ → Next → Following
-following_of a b (schedule ts) = record { refusal = 0; last = false; schedule = kept a b ts }
-following_of a b was_last = record { refusal = 0; last = true; schedule = no_schedule }
+abbrev pub following_of : ℕ → ℕ → Option (List ℕ) → Option Schedule
+following_of a b (Some ts) = Some (kept a b ts)
+following_of a b None = None
 
-unfoldable pub following_for : ℕ → ℕ → List ℕ → Following
+unfoldable pub following_for : ℕ → ℕ → List ℕ → Result (Option Schedule) Refusal
 following_for a b ts =
-    let refusal : ℕ = turns_refusal a b ts in
-    cond (eqb refusal 0) (following_of a b (schedule_after a b ts))
-    (record { refusal = refusal; last = false; schedule = no_schedule })
+    cond (row20 a b).holds (Err TooManyTurns)
+    (cond (row22 a b ts).holds (Err NotASchedule) (Ok (following_of a b (schedule_after a b ts))))
+
+-- the number of a reply's refusal, 0 for none
+abbrev pub refusal_of : {A : Type 0} → Result A Refusal → ℕ
+refusal_of (Ok reply) = 0
+refusal_of (Err r) = refusal_number r

@@ -1,9 +1,8 @@
 -- Inner: a schedule turn by turn, as the code goes through it. proofs/TurnLaws ties it to `schedule_for`, `is_schedule`
 -- and `number_for`, proofs/ReplyLaws `placed` to `numbered_for`.
-use Rattle.std.specs.Prelude.{ℕ, ◌-◌, List, true, false, cond, eqb, ltb}
+use Rattle.std.specs.Prelude.{ℕ, ◌-◌, List, cond, eqb, ltb, Option, Some, None}
 use Rattle.enumeration.specs.declared.turns.Chosen.{Chosen}
 use Rattle.enumeration.specs.declared.turns.Taken.{Taken}
-use Rattle.enumeration.specs.declared.Numbered.{Numbered}
 use Rattle.ways.specs.Ways.{ways}
 use Rattle.dictionary.specs.Schedules.{is_schedule, number_for}
 
@@ -18,20 +17,11 @@ chosen a b k =
     (record { turn = 1; a = a; b = b - 1; number = k - zero_first a b })
 
 -- turn t taken, with what is left and how many schedules come before all that begin with it; or no schedule does
-abbrev pub misfit : Taken
-misfit = record { misfits = true; a = 0; b = 0; skipped = 0 }
-
-abbrev pub fit : ℕ → ℕ → ℕ → Taken
-fit a b skipped = record { misfits = false; a = a; b = b; skipped = skipped }
-
-unfoldable pub taken : ℕ → ℕ → ℕ → Taken
+unfoldable pub taken : ℕ → ℕ → ℕ → Option Taken
 taken a b t =
-    cond (eqb t 0) (cond (eqb a 0) misfit (fit (a - 1) b 0))
-    (cond (eqb t 1) (cond (eqb b 0) misfit (fit a (b - 1) (zero_first a b))) misfit)
+    cond (eqb t 0) (cond (eqb a 0) None (Some (record { a = a - 1; b = b; skipped = 0 })))
+    (cond (eqb t 1) (cond (eqb b 0) None (Some (record { a = a; b = b - 1; skipped = zero_first a b }))) None)
 
--- the number for a list of turns, or 22
-abbrev pub not_a_schedule : Numbered
-not_a_schedule = record { refusal = 22; number = 0 }
-
-abbrev pub placed : ℕ → ℕ → List ℕ → Numbered
-placed a b ts = cond (is_schedule a b ts) (record { refusal = 0; number = number_for a b ts }) not_a_schedule
+-- the number for a list of turns, or none
+abbrev pub placed : ℕ → ℕ → List ℕ → Option ℕ
+placed a b ts = cond (is_schedule a b ts) (Some (number_for a b ts)) None
