@@ -1,6 +1,5 @@
 pub mod FarLaws
 pub mod EntryLaws
-pub mod LineLaws
 pub mod LastLaws
 pub mod TurnLaws
 pub mod LoopLaws

@@ -22,6 +22,7 @@ use Rattle.moir_model.specs.Records.{no_process}
 use Rattle.moir_model.specs.Machine.{Memory}
 use Rattle.moir_model.specs.Refusals.{set_up_rows_of}
 use Rattle.moir_model.specs.SetUp.{empty_bench, bench_at_set_up, words_at_set_up, at_set_up, set_up_refusal, set_up}
+use Rattle.llsc.specs.Refusals.{number_told}
 use Rattle.moir_machine.specs.SetUpByValue.{set_up_number, set_up_number_lem, Accepted}
 use Rattle.moir_machine.proofs.SetUpLaws.{set_up_fits}
 use Rattle.moir_semantics.specs.TextRun.{figure6, Progress}
@@ -36,17 +37,17 @@ use Rattle.moir_run.proofs.EntryLaws.{first_words}
 use Rattle.moir_run.proofs.TurnLaws.{first_small}
 
 -- a sound run has room for its last line
-pub sound_closable : {r : Run} {ws list : List ℕ} → Sound (progress r ws list) → Closable r list
+pub sound_closable : {r : Run} {k : ℕ} {ws list : List ℕ} → Sound (progress r k ws list) → Closable r k list
 sound_closable s = record { entries = s.entries; stop = s.stop; room = s.room }
 
 -- with its last line a run is ended
-pub closed_seen : {report : StopReport} {list' : List ℕ} {out : Finished} (r : Run) (ws list : List ℕ)
-    → ◌≡◌ {A = Finished × List ℕ} (out, list') (closed r report list) → returned out list' ≡ seen (ended figure6 (progress r ws list))
-closed_seen r ws list e = ap (λ (x : Finished × List ℕ). returned x.0 x.1) e
+pub closed_seen : {report : StopReport} {list' : List ℕ} {out : Finished} (r : Run) (k : ℕ) (ws list : List ℕ)
+    → ◌≡◌ {A = Finished × List ℕ} (out, list') (closed r k report list) → returned out list' ≡ seen (ended figure6 (progress r k ws list))
+closed_seen r k ws list e = ap (λ (x : Finished × List ℕ). returned x.0 x.1) e
 
-pub closed_report : {report : StopReport} {list' : List ℕ} {out : Finished} (r : Run) (list : List ℕ)
-    → ◌≡◌ {A = Finished × List ℕ} (out, list') (closed r report list) → out.report ≡ report
-closed_report r list e = ap (λ (x : Finished × List ℕ). x.0.report) e
+pub closed_report : {report : StopReport} {list' : List ℕ} {out : Finished} (r : Run) (k : ℕ) (list : List ℕ)
+    → ◌≡◌ {A = Finished × List ℕ} (out, list') (closed r k report list) → out.report ≡ report
+closed_report r k list e = ap (λ (x : Finished × List ℕ). x.0.report) e
 
 pub number_few : (n w : ℕ) {k : ℕ} → k ≡ set_up_number n w 16 3136 w → k ≤ 15
 unfolding set_up_number
@@ -70,10 +71,10 @@ pub room_left : (t : Bool) (list : List ℕ) {k : ℕ} → k ≡ room_needed t �
 room_left t list e l = omega (arith, e, l)
 
 -- "A refusal 14 at the start writes nothing."
-pub no_room : {r : Finished} {run : Run} {b : Bench} {report : StopReport} (t : Bool) (text list : List ℕ) → r ≡ finished_of run report 0 → report ≡ at_place 0 → run ≡ fresh_run b 14 t
+pub no_room : {r : Finished} {run : Run} {b : Bench} {report : StopReport} (t : Bool) (text list : List ℕ) → r ≡ finished_of run 14 report 0 → report ≡ at_place 0 → run ≡ fresh_run b t
     → length list < room_needed t → TextRan t text list r list
 no_room {r} {report = report} t text list er ep eu l = record {
-  same = ap (λ (x : Finished). returned x list) er ∙ ap (λ (x : Run). returned (finished_of x report 0) list) eu ∙ ap seen (run_14 figure6 t at_start text list l);
+  same = ap (λ (x : Finished). returned x list) er ∙ ap (λ (x : Run). returned (finished_of x 14 report 0) list) eu ∙ ap seen (run_14 figure6 t at_start text list l);
   stops = subst (StopsAt figure6 t at_start text list) (sym (ap (λ (x : Finished). x.report) er ∙ ep)) (stops_14 figure6 l);
 }
 
@@ -98,7 +99,7 @@ set_up_same n w k =
 module _ (t : Bool) (n w v : ℕ) (list : List ℕ) where
   -- what the code holds before the first entry
   abbrev pub first_state : Progress
-  first_state = progress (fresh_run (bench_at_set_up empty_bench n w) 0 t) (words_at_set_up at_start.words n w (replicate w v)) list
+  first_state = progress (fresh_run (bench_at_set_up empty_bench n w) t) 0 (words_at_set_up at_start.words n w (replicate w v)) list
 
   begun_same : first_state ≡ begun figure6 t (at_set_up at_start n w (replicate w v)) list 0
   begun_same =
@@ -117,8 +118,8 @@ module _ (t : Bool) (n w v : ℕ) (list : List ℕ) where
   pub accepted : set_up_number n w 16 3136 w ≡ 0 → Accepted n w 3136 w
   accepted z = set_up_fits n w 16 3136 w z
 
-  pub first_state_is : {r : Run} {b₀ b : Bench} {ws₀ ws value : List ℕ} → w ≤ 64 → r ≡ fresh_run b 0 t → b ≡ bench_at_set_up b₀ n w → b₀ ≡ empty_bench
-      → ws ≡ words_at_set_up ws₀ n w (take w value) → ws₀ ≡ replicate 3136 0 → value ≡ replicate 64 v → progress r ws list ≡ first_state
+  pub first_state_is : {r : Run} {b₀ b : Bench} {ws₀ ws value : List ℕ} → w ≤ 64 → r ≡ fresh_run b t → b ≡ bench_at_set_up b₀ n w → b₀ ≡ empty_bench
+      → ws ≡ words_at_set_up ws₀ n w (take w value) → ws₀ ≡ replicate 3136 0 → value ≡ replicate 64 v → progress r 0 ws list ≡ first_state
   first_state_is {value = value} few er eb e₀ ew ez ev =
       let is : take w value ≡ replicate w v = ap (take w) ev ∙ first_words w v few in
       rw (er, eb, e₀, ew, ez, is)
@@ -158,9 +159,11 @@ module _ (t : Bool) (n w v : ℕ) (list : List ℕ) where
           ∙ sym (is_begun (set_up_refusal at_start n w value) (λ (m : Memory). item_report figure6 n w es ps (begun figure6 t m list 0)) (at_set_up at_start n w value) at_start (at_no_item n w) (sym same_number ∙ z))
 
 -- the entries carried out, with the last line
-pub carried_closed : (t : Bool) (n w v : ℕ) (list ps : List ℕ) {k : ℕ} → k ≡ set_up_number n w 16 3136 w → k ≡ 0
-    → {kept ws l ws' l' l'' : List ℕ} {count : ℕ} {run : Run} {out : Carried} {report : StopReport} {fin : Finished}
-    → Carries kept count run ws l out ws' l' → progress run ws l ≡ first_state t n w v list → ◌≡◌ {A = Finished × List ℕ} (fin, l'') (closed out.run report l')
+pub carried_closed : (t : Bool) (n w v : ℕ) (list ps : List ℕ) → 0 ≡ set_up_number n w 16 3136 w
+    → {kept ws l ws' l' l'' : List ℕ} {count j : ℕ} {run : Run} {out : Carried} {report : StopReport} {fin : Finished}
+    → Carries kept count run ws l out ws' l' → progress run 0 ws l ≡ first_state t n w v list → j ≡ number_told out.outcome
+    → ◌≡◌ {A = Finished × List ℕ} (fin, l'') (closed out.run j report l')
     → returned fin l'' ≡ seen (started_with figure6 t n w v (entries_in count kept) at_start list)
-carried_closed t n w v list ps e z {kept = kept} {ws' = ws'} {l' = l'} {count = count} {out = out} x q c =
-    closed_seen out.run ws' l' c ∙ carried_start t n w v list (entries_in count kept) ps e z q x.over
+carried_closed t n w v list ps e {kept = kept} {ws' = ws'} {l' = l'} {count = count} {j = j} {out = out} x q m c =
+    closed_seen out.run j ws' l' c ∙ ap (λ (i : ℕ). seen (ended figure6 (progress out.run i ws' l'))) m
+    ∙ carried_start t n w v list (entries_in count kept) ps e refl q x.over

@@ -7,11 +7,15 @@ use native.Mathlib.Omega.{arith}
 use lib.Dec.{eqb, ltb, leb}
 use lib.ListN.{length, set, take, replicate, length-set}
 use lib.Seq.{sets, length-sets}
-use borrow.Author.Tests.{eq-eqb, ne_eqb, eqb-true, eqb-false, le-leb, lt-leb, lt-ltb, le-ltb, leb-false, leb-true, ltb-false}
+use borrow.Author.Tests.{eq-eqb, ne_eqb, eqb-true, eqb-false, le-leb, lt-leb, lt-ltb, le-ltb, leb-false, leb-true, ltb-false, ltb-true}
 use Rattle.llsc.specs.declared.ProcessNumber.{ProcessNumber}
 use Rattle.llsc.specs.declared.Order.{Order}
 use Rattle.llsc.specs.declared.Order.TheVariants.{StartLl, StartSc, StartVl, Step}
 use Rattle.llsc.specs.Rows.{Row, first, every}
+use Rattle.std.specs.Prelude.{Option, Result, Ok, Err}
+use Rattle.llsc.specs.declared.refusals.Refusal.{Refusal}
+use Rattle.llsc.specs.declared.refusals.Refusal.TheVariants.{TooMuch, NoRoom}
+use Rattle.llsc.specs.Refusals.{number_told}
 use Rattle.laws.proofs.AndLaws.{left, right}
 use Rattle.notation.specs.declared.Entry.{Entry}
 use Rattle.notation.specs.Stretches as S
@@ -19,6 +23,7 @@ use Rattle.listing.specs.Writing.{Room, Wrote}
 use Rattle.listing.proofs.WritingLaws.{then, room_first, room_then}
 use Rattle.text_runs.specs.TextRun.{most_entries, room_needed, process_of, order_of, value_of}
 use Rattle.text_runs.specs.TextRun as T
+use Rattle.text_runs.specs.Parts.{before_entry}
 use Rattle.text_runs.proofs.SingleEntries.{outcome, made_commanded}
 use Rattle.text_runs.proofs.KeptLaws.{either}
 use Rattle.moir_model.specs.declared.Bench.{Bench}
@@ -42,9 +47,7 @@ use Rattle.moir_semantics.specs.TextRun.{figure6, Progress, line_of}
 use Rattle.moir_semantics.proofs.AcceptedRows.{unrefused}
 use Rattle.moir_semantics.proofs.SmallWords.{Small, SmallValue, Plain, accepted, wll, named, sc, vl, leaves, small_command}
 use Rattle.moir_semantics.proofs.LineLengths.{value_small, lines_fit}
-use Rattle.moir_rows.specs.declared.records.Records.{Records}
-use Rattle.moir_run.specs.declared.turns.Run.{Run}
-use Rattle.moir_run.specs.RunState.{progress, stopped_run, Sound, Free}
+use Rattle.moir_run.specs.RunState.{Sound, Free}
 use Rattle.moir_run.specs.Turned.{brought_by, words_brought, Listable, answer_line, access_seen, shown_line}
 use Rattle.moir_run.proofs.EntryLaws.{value_same, value_count, brought_few}
 
@@ -150,12 +153,12 @@ module _ (e : Entry) {s : Progress} (sound : Sound s) (z : s.stop ≡ 0) (se : S
       room r = omega (arith, r, sound.room)
 
   -- "before each entry 12, then 14", then the rows
-  pub turn_12 : most_entries ≤ s.entries → T.stopped figure6 12 s ≡ T.single figure6 e s
+  turn_12 : most_entries ≤ s.entries → T.stopped figure6 12 s ≡ T.single figure6 e s
   unfolding T.single
   turn_12 l = simp (eq-eqb s.stop 0 z, le-leb most_entries s.entries l)
 
   module _ (l : s.entries < most_entries) where
-    pub turn_14 : length s.listing - s.written < room_needed s.traced → T.stopped figure6 14 s ≡ T.single figure6 e s
+    turn_14 : length s.listing - s.written < room_needed s.traced → T.stopped figure6 14 s ≡ T.single figure6 e s
     unfolding T.single
     turn_14 r = simp (eq-eqb s.stop 0 z, lt-leb most_entries s.entries l, lt-ltb (length s.listing - s.written) (room_needed s.traced) r)
 
@@ -178,6 +181,32 @@ module _ (e : Entry) {s : Progress} (sound : Sound s) (z : s.stop ≡ 0) (se : S
         fits = omega (arith, lines_fit s e small se (accepts q) l (omega (arith, r, sound.room)));
       }
 
+  -- what is found before an entry
+  module _ {k : ℕ} (q : k ≡ number_told (before_entry s.entries (length s.listing - s.written) (room_needed s.traced))) where
+    abbrev full : Bool
+    full = leb most_entries s.entries
+
+    abbrev narrow : Bool
+    narrow = ltb (length s.listing - s.written) (room_needed s.traced)
+
+    -- it stops with that number
+    pub turn_before : (k ≡ 0 → ⊥) → T.stopped figure6 k s ≡ T.single figure6 e s
+    turn_before n = by full narrow refl refl q
+      where
+        by : (t u : Bool) → full ≡ t → narrow ≡ u → k ≡ number_told (cond {A = Result (Unit {0}) Refusal} t (Err TooMuch) (cond u (Err NoRoom) (Ok tt))) → T.stopped figure6 k s ≡ T.single figure6 e s
+        by true u l r x = rw x (turn_12 (leb-true most_entries s.entries l))
+        by false true l r x = rw x (turn_14 (leb-false most_entries s.entries l) (ltb-true (length s.listing - s.written) (room_needed s.traced) r))
+        by false false l r x = absurd (n x)
+
+    -- or nothing refuses it
+    pub turn_through : k ≡ 0 → (s.entries < most_entries) × (room_needed s.traced ≤ length s.listing - s.written)
+    turn_through n = by full narrow refl refl q
+      where
+        by : (t u : Bool) → full ≡ t → narrow ≡ u → k ≡ number_told (cond {A = Result (Unit {0}) Refusal} t (Err TooMuch) (cond u (Err NoRoom) (Ok tt))) → (s.entries < most_entries) × (room_needed s.traced ≤ length s.listing - s.written)
+        by true u l r x = absurd (omega (arith, n, x))
+        by false true l r x = absurd (omega (arith, n, x))
+        by false false l r x = (leb-false most_entries s.entries l, ltb-false (length s.listing - s.written) (room_needed s.traced) r)
+
 -- the number that the code finds, by what it finds of the entry
 pub number_as : (e : Entry) {s : Progress} → Sound s → {k p count : ℕ} {o : Order} → k ≡ decision_number s.memory.bench s.memory.records 16 p o count (length s.memory.words)
     → p ≡ process_of e → o ≡ order_of e → count ≡ words_brought e s.memory.bench.w → k ≡ refusal s.memory (process_of e) (order_of e) (value_of s.memory.bench.w e)
@@ -185,11 +214,6 @@ number_as e {s} x {p = p} {count = count} {o = o} q ep eo ec =
     let w = s.memory.bench.w in
     let c : count ≡ length (value_of w e) = ec ∙ value_count e w in
     q ∙ rw (ep, eo) (number_same s.memory (process_of e) (order_of e) (value_of w e) x.sixteen c)
-
--- a run that is stopped
-pub stop_turn : (e : Entry) {r : Run} {k : ℕ} (run : Run) (ws list : List ℕ) → r ≡ stopped_run run k
-    → T.stopped figure6 k (progress run ws list) ≡ T.single figure6 e (progress run ws list) → progress r ws list ≡ T.single figure6 e (progress run ws list)
-stop_turn e run ws list q x = ap (λ (y : Run). progress y ws list) q ∙ x
 
 -- what a step leaves of N, W and the number of words
 pub record Kept (b : Bench) (ws : List ℕ) (x : Moved × List ℕ) : Type 0 where
@@ -298,12 +322,12 @@ module _ {e : Entry} {s : Progress} (f : Free e s) where
   abbrev pub made : Moved × List ℕ
   made = obey (order_of e) own v₁ m₁.bench q₁ m₁.words
 
-  abbrev seen : Access
+  abbrev seen : Option Access
   seen = access_seen s.traced own m₁.bench q₁ m₁.words
 
   -- and its lines
   abbrev pub lines_by : Moved × List ℕ → List ℕ
-  lines_by x = shown_line s.traced (s.entries + 1) seen e x.0.reply ++ answer_line x.0.bench x.1 (process_of e) x.0.reply
+  lines_by x = shown_line (s.entries + 1) seen e x.0.reply ++ answer_line x.0.bench x.1 (process_of e) x.0.reply
 
   abbrev out_by : Moved × List ℕ → Reply × Memory
   out_by x = (x.0.reply, record { bench = x.0.bench; records = set m₁.records (process_of e) x.0.process; words = x.1 })
@@ -311,7 +335,7 @@ module _ {e : Entry} {s : Progress} (f : Free e s) where
   out_is : outcome figure6 e s ≡ out_by made
   out_is = obeys m₁ (process_of e) (order_of e) v₁ unhindered
 
-  shown_same : (t : Bool) (r : Reply) → shown_line t (s.entries + 1) (access_seen t own m₁.bench q₁ m₁.words) e r ≡ cond t (T.trace_line figure6 (s.entries + 1) m₁ e r) []
+  shown_same : (t : Bool) (r : Reply) → shown_line (s.entries + 1) (access_seen t own m₁.bench q₁ m₁.words) e r ≡ cond t (T.trace_line figure6 (s.entries + 1) m₁ e r) []
   shown_same true r = refl
   shown_same false r = refl
 
@@ -328,7 +352,7 @@ module _ {e : Entry} {s : Progress} (f : Free e s) where
     kept : Kept m₁.bench m₁.words x
     kept = subst (Kept m₁.bench m₁.words) (sym d) (obey_kept own m₁.bench q₁ m₁.words (order_of e) v₁)
 
-    pub listable : {l : List ℕ} {at : ℕ} → Wrote s.listing s.written (shown_line s.traced (s.entries + 1) seen e x.0.reply) l at
+    pub listable : {l : List ℕ} {at : ℕ} → Wrote s.listing s.written (shown_line (s.entries + 1) seen e x.0.reply) l at
         → Listable x.0.reply (process_of e) x.0.bench x.1 l at
     listable w =
         let r = entry_obeyable.ready in
@@ -341,7 +365,7 @@ module _ {e : Entry} {s : Progress} (f : Free e s) where
           room = room_then _ lines_room w;
         }
 
-    pub carried : {l₁ l : List ℕ} {at₁ at : ℕ} → Wrote s.listing s.written (shown_line s.traced (s.entries + 1) seen e x.0.reply) l₁ at₁
+    pub carried : {l₁ l : List ℕ} {at₁ at : ℕ} → Wrote s.listing s.written (shown_line (s.entries + 1) seen e x.0.reply) l₁ at₁
         → Wrote l₁ at₁ (answer_line x.0.bench x.1 (process_of e) x.0.reply) l at
         → record { memory = (out_by x).1; listing = l; written = at; entries = s.entries + 1; stop = 0; traced = s.traced } ≡ T.commanded figure6 e s
     carried {l = l} {at = at} a b =
@@ -386,26 +410,26 @@ module _ {e : Entry} {s : Progress} (f : Free e s) where
         is_made : ◌≡◌ {A = Moved × List ℕ} (moved, ws) made
         is_made = d ∙ rw (value_is, own_record, ep, eo)
 
-        module _ {a : Access} (ea : a ≡ access_seen s.traced (record { 0 = p }) m₁.bench q m₁.words) where
+        module _ {a : Option Access} (ea : a ≡ access_seen s.traced (record { 0 = p }) m₁.bench q m₁.words) where
           is_seen : a ≡ seen
           is_seen = ea ∙ rw (own_record, ep)
 
-          pub shown_room : Room s.listing s.written (shown_line s.traced (s.entries + 1) a e moved.reply)
+          pub shown_room : Room s.listing s.written (shown_line (s.entries + 1) a e moved.reply)
           shown_room = rw is_seen (room_first _ _ (lines_room is_made))
 
-          module _ {l₁ : List ℕ} {at₁ : ℕ} (w : Wrote s.listing s.written (shown_line s.traced (s.entries + 1) a e moved.reply) l₁ at₁) where
-            shown_seen : Wrote s.listing s.written (shown_line s.traced (s.entries + 1) seen e moved.reply) l₁ at₁
-            shown_seen = subst (λ (y : Access). Wrote s.listing s.written (shown_line s.traced (s.entries + 1) y e moved.reply) l₁ at₁) is_seen w
+          module _ {l₁ : List ℕ} {at₁ : ℕ} (w : Wrote s.listing s.written (shown_line (s.entries + 1) a e moved.reply) l₁ at₁) where
+            shown_seen : Wrote s.listing s.written (shown_line (s.entries + 1) seen e moved.reply) l₁ at₁
+            shown_seen = subst (λ (y : Option Access). Wrote s.listing s.written (shown_line (s.entries + 1) y e moved.reply) l₁ at₁) is_seen w
 
             pub listable_as : Listable moved.reply p moved.bench ws l₁ at₁
             listable_as = rw ep (listable is_made shown_seen)
 
-            pub carried_as : {l : List ℕ} {at : ℕ} {next : Records} → Wrote l₁ at₁ (answer_line moved.bench ws p moved.reply) l at
-                → next ≡ record { list = set m₁.records p moved.process }
-                → record { memory = record { bench = moved.bench; records = next.list; words = ws }; listing = l; written = at; entries = s.entries + 1; stop = 0; traced = s.traced }
+            pub carried_as : {l : List ℕ} {at : ℕ} {next : List Process} → Wrote l₁ at₁ (answer_line moved.bench ws p moved.reply) l at
+                → next ≡ set m₁.records p moved.process
+                → record { memory = record { bench = moved.bench; records = next; words = ws }; listing = l; written = at; entries = s.entries + 1; stop = 0; traced = s.traced }
                 ≡ T.commanded figure6 e s
             carried_as {l} {at} y n =
-                let records_are = ap (λ (x : Records). x.list) n ∙ ap (λ (i : ℕ). set m₁.records i moved.process) ep in
+                let records_are = n ∙ ap (λ (i : ℕ). set m₁.records i moved.process) ep in
                 ap (λ (x : List Process). record {
                   memory = record { bench = moved.bench; records = x; words = ws };
                   listing = l;

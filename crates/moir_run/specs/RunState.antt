@@ -1,6 +1,8 @@
 -- The run as the code holds it, and what holds of it at every moment.
 -- Inner: `progress` gives `text_runs`' run of it; `TurnLaws` proves that a turn of the loop is `single` and keeps it sound.
-use Rattle.std.specs.Prelude.{◌≡◌, ℕ, ◌+◌, ◌≤◌, ◌<◌, List, length}
+use Rattle.std.specs.Prelude.{◌≡◌, ℕ, ◌+◌, ◌≤◌, ◌<◌, List, Result, Ok, Err, length}
+use Rattle.llsc.specs.declared.refusals.Refusal.{Refusal}
+use Rattle.llsc.specs.Refusals.{refusal_number}
 use Rattle.notation.specs.declared.Entry.{Entry}
 use Rattle.text_runs.specs.TextRun.{most_entries, lines_of}
 use Rattle.text_runs.proofs.SingleEntries.{outcome}
@@ -8,19 +10,21 @@ use Rattle.moir_semantics.specs.TextRun.{figure6, Progress}
 use Rattle.moir_semantics.proofs.SmallWords.{Small}
 use Rattle.moir_run.specs.declared.turns.Run.{Run}
 
--- the run, with the lent words and the listing
-abbrev pub progress : Run → List ℕ → List ℕ → Progress
-progress r words listing = record {
-  memory = record { bench = r.bench; records = r.all.list; words = words };
+-- the run, with the number that it stops with, 0 while it goes on, the lent words and the listing
+abbrev pub progress : Run → ℕ → List ℕ → List ℕ → Progress
+progress r k words listing = record {
+  memory = record { bench = r.bench; records = r.all; words = words };
   listing = listing;
   written = r.written;
   entries = r.entries;
-  stop = r.stop;
+  stop = k;
   traced = r.traced;
 }
 
-abbrev pub stopped_run : Run → ℕ → Run
-stopped_run r k = record { bench = r.bench; all = r.all; written = r.written; entries = r.entries; stop = k; traced = r.traced }
+-- after an entry: the run goes on, or it is refused where it stands
+abbrev pub turned : Run → Result Run Refusal → List ℕ → List ℕ → Progress
+turned r (Ok next) words listing = progress next 0 words listing
+turned r (Err f) words listing = progress r (refusal_number f) words listing
 
 -- the longest last line has 17 bytes
 abbrev pub last_room : ℕ

@@ -27,7 +27,7 @@ seen e = record { number = e.number; entries = e.entries; written = e.written; r
 
 -- what a run returns, with the listing after it
 abbrev pub returned : Finished → List ℕ → Seen
-returned r list = record { number = r.number; entries = r.entries; written = r.written; records = r.all.list; listing = list }
+returned r list = record { number = r.number; entries = r.entries; written = r.written; records = r.all; listing = list }
 
 -- What a text run answers (02, CR 8): it is the text run of `text_runs` on the machine of Figure 6, in the listing's style
 -- or the trace's, and it stopped where the report says.

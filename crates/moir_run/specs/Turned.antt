@@ -1,6 +1,6 @@
 -- One entry carried out, as the code does it.
 -- Inner: `TurnLaws` proves that such an entry is `single` of `text_runs/specs/TextRun`.
-use Rattle.std.specs.Prelude.{ℕ, ◌≤◌, ◌<◌, List, [], Bool, false, not, cond, length}
+use Rattle.std.specs.Prelude.{ℕ, ◌≤◌, ◌<◌, List, [], Bool, false, not, cond, Option, Some, None, length}
 use Rattle.llsc.specs.declared.ProcessNumber.{ProcessNumber}
 use Rattle.notation.specs.declared.Entry.{Entry}
 use Rattle.notation.specs.declared.Entry.TheVariants.{StartLl, StartVl, StartSc, Step, Finish}
@@ -14,7 +14,7 @@ use Rattle.moir_model.specs.Points.{point_of}
 use Rattle.moir_model.specs.Records.{record_at}
 use Rattle.moir_model.specs.Refusals.{is_idle}
 use Rattle.moir_access.specs.declared.Access.{Access}
-use Rattle.moir_access.specs.Accesses.{no_access, access_of}
+use Rattle.moir_access.specs.Accesses.{access_of}
 use Rattle.moir_semantics.specs.TextRun.{figure6, line_of}
 
 -- "The value k has k in all W words": k, and as many words as an entry brings
@@ -53,9 +53,10 @@ pub record Listable (r : Reply) (p : ℕ) (b : Bench) (ws list : List ℕ) (at :
   pub room : Room list at (answer_line b ws p r)
 
 -- the access that a trace shows of an entry; a listing shows none
-abbrev pub access_seen : Bool → ProcessNumber → Bench → Process → List ℕ → Access
-access_seen t p b q ws = cond t (access_of (point_of q.line) p b q ws) no_access
+abbrev pub access_seen : Bool → ProcessNumber → Bench → Process → List ℕ → Option Access
+access_seen t p b q ws = cond t (Some (access_of (point_of q.line) p b q ws)) None
 
--- the trace's line of an accepted entry, none in a run that is not traced
-abbrev pub shown_line : Bool → ℕ → Access → Entry → Reply → List ℕ
-shown_line t k a e r = cond t (T.entry_line figure6 k a e r) []
+-- the trace's line of an accepted entry, none where no access is shown
+abbrev pub shown_line : ℕ → Option Access → Entry → Reply → List ℕ
+shown_line k (Some a) e r = T.entry_line figure6 k a e r
+shown_line k None e r = []

@@ -1,17 +1,19 @@
 // The one loop of a run: the list of a text's entries carried out on the bench that it holds.
-ghost use Rattle.std.specs.Prelude.{◌≤◌, ◌≡◌, length};
+ghost use Rattle.std.specs.Prelude.{◌≤◌, length};
 ghost use Rattle.moir_run.specs.RunState.{progress, Sound};
 ghost use Rattle.moir_run.specs.Finished.{Carries};
 
 use crate::turns::Run;
 use crate::{entries, turns};
+use llsc::refusals::Refusal;
 use notation::entry_words;
 
-// The run after its list, and its place in it: that of the entry that stopped the run, or the end.
+// The run after its list, its place in it, that of the entry that was refused, or the end; and why it was refused.
 #[derive(Clone, Copy)]
 pub struct Carried {
     pub run: Run,
     pub at: usize,
+    pub outcome: Result<(), Refusal>,
 }
 
 // An entry that is refused stops the run; `!` stays at its place in the list until its call answers.
@@ -22,21 +24,31 @@ pub fn carry_out(
     words: &mut [u64],
     list: &mut [u8],
 ) -> Carried
-    requires { (count ≤ length kept.now) × (Sound (progress run words.old list.old)) × (run.stop ≡ 0) }
+    requires { (count ≤ length kept.now) × (Sound (progress run 0 words.old list.old)) }
     ensures { Carries kept.now count run words.old list.old result words.new list.new }
 {
     let mut now = run;
     let mut at = 0;
+    // Kept: a while, since `!` takes several turns at one place of the list.
     while at < count {
         let e = entry_words::entry_in(kept[at]);
-        now = turns::turn(now, e, list, words);
-        if now.stop != 0 {
-            break;
+        match turns::turn(now, e, list, words) {
+            Ok(next) => now = next,
+            Err(refusal) => {
+                return Carried {
+                    run: now,
+                    at,
+                    outcome: Err(refusal),
+                };
+            }
         }
-        if entries::stays(e, now.all) {
-            continue;
+        if !entries::stays(e, now.all) {
+            at += 1;
         }
-        at += 1;
     }
-    Carried { run: now, at }
+    Carried {
+        run: now,
+        at,
+        outcome: Ok(()),
+    }
 }

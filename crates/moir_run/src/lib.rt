@@ -5,8 +5,6 @@
 
 mod entries;
 mod entry_loop;
-mod last_lines;
-mod reports;
 pub mod texts;
 mod turns;
 mod written_lines;

@@ -1,6 +1,7 @@
 // A whole text: "A text run takes 14 at its start, then 12 for length, then 10 and 11 over the whole text, then 1, 2, 3, then
 // the set-up, then the entries".
-ghost use Rattle.std.specs.Prelude.{◌≡◌, false, ◌≤◌, length, replicate};
+ghost use Rattle.std.specs.Prelude.{◌≡◌, ◌≤◌, length, replicate};
+ghost use Rattle.llsc.specs.Refusals.{refusal_number};
 ghost use Rattle.notation.specs.Grammar.{largest};
 ghost use Rattle.text_runs.specs.StopPlaces.{at_no_entry, StopInText};
 ghost use Rattle.text_runs.specs.KeptEntries.{entries_in, places_in, refused_with, started_with, report_with, says_after};
@@ -8,63 +9,49 @@ ghost use Rattle.moir_semantics.specs.TextRun.{figure6};
 ghost use Rattle.moir_run.specs.TextRan.{at_start, seen, returned, TextRan};
 ghost use Rattle.moir_run.specs.Finished.{fresh_run, finished_of, closed, Closable, Headed, Roomy};
 
+use crate::entry_loop;
 use crate::turns::Run;
-use crate::{entry_loop, last_lines, reports, turns};
+use llsc::refusals;
+use llsc::refusals::Refusal;
 use moir_machine::setting_up;
-use moir_model::Bench;
-use moir_rows::records;
-use moir_rows::records::Records;
+use moir_model::{Bench, Process};
 use notation::items::Items;
-use notation::{Header, items};
+use notation::{First, items};
 use positions::StopReport;
-
-pub const LONGEST_TEXT: usize = 16384;
-
-pub const DEEPEST: usize = 8;
+use text_runs::{last_lines, limits, lists, reports};
 
 // What a text run leaves of the records, and what it returns: its number, 0 at `end`, the entries done, the bytes written
 // of the listing or of the trace, and where it stopped.
 #[derive(Clone, Copy)]
 pub struct Finished {
-    pub all: Records,
+    pub all: [Process; 16],
     pub number: u8,
     pub entries: usize,
     pub written: usize,
     pub report: StopReport,
 }
 
-// The first line's numbers, and where the items begin.
-#[derive(Clone, Copy)]
-pub struct First {
-    pub n: u64,
-    pub w: u64,
-    pub initial: u64,
-    pub items: usize,
-}
-
 // A run before its first entry, or one that a refusal keeps from it.
-fn fresh(bench: Bench, number: u8, traced: bool) -> Run
-    ensures { result ≡ fresh_run bench number traced }
+fn fresh(bench: Bench, traced: bool) -> Run
+    ensures { result ≡ fresh_run bench traced }
 {
-    let all = records::records_of(records::no_process());
     Run {
         bench,
-        all,
+        all: [moir_model::process_at_set_up(); 16],
         written: 0,
         entries: 0,
-        stop: number,
         traced,
     }
 }
 
-// What a run returns that has written so many bytes.
-fn returned(run: Run, report: StopReport, written: usize) -> Finished
-    ensures { result ≡ finished_of run report written }
+// What a run returns that ends with a number and has written so many bytes.
+fn returned(run: Run, number: u8, report: StopReport, written: usize) -> Finished
+    ensures { result ≡ finished_of run number report written }
 {
     let all = run.all;
     Finished {
         all,
-        number: run.stop,
+        number,
         entries: run.entries,
         written,
         report,
@@ -72,23 +59,23 @@ fn returned(run: Run, report: StopReport, written: usize) -> Finished
 }
 
 // A run with its last line.
-fn ended(run: Run, report: StopReport, list: &mut [u8]) -> Finished
-    requires { Closable run list.old }
-    ensures { (result, list.new) ≡ closed run report list.old }
+fn ended(run: Run, number: u8, report: StopReport, list: &mut [u8]) -> Finished
+    requires { Closable run number list.old }
+    ensures { (result, list.new) ≡ closed run number report list.old }
 {
-    let next = last_lines::write(run, list);
-    returned(run, report, next)
+    let next = last_lines::write(number, run.entries, list, run.written);
+    returned(run, number, report, next)
 }
 
 // A run that is refused before its set-up, in either style, at no entry.
-fn refused(number: u8, n: u64, w: u64, place: usize, list: &mut [u8]) -> Finished
-    requires { (Roomy list.old) × (number ≤ 15) }
-    ensures { (returned result list.new ≡ seen (refused_with figure6 number at_start list.old)) ×
+fn refused(refusal: Refusal, n: u64, w: u64, place: usize, list: &mut [u8]) -> Finished
+    requires { (Roomy list.old) × (refusal_number refusal ≤ 15) }
+    ensures { (returned result list.new ≡ seen (refused_with figure6 (refusal_number refusal) at_start list.old)) ×
         (result.report ≡ at_no_entry n w place) }
 {
-    let run = fresh(moir_model::empty_bench(), number, false);
+    let run = fresh(moir_model::empty_bench(), false);
     let report = reports::at_no_entry(n, w, place);
-    ended(run, report, list)
+    ended(run, refusal.number(), report, list)
 }
 
 // The words of the largest N and W.
@@ -96,13 +83,6 @@ fn no_words() -> [u64; 3136]
     ensures { result ≡ replicate 3136 0 }
 {
     [0; 3136]
-}
-
-// "The value k has k in all W words": as many as W may be.
-fn repeated(k: u64) -> [u64; 64]
-    ensures { result ≡ replicate 64 k }
-{
-    [k; 64]
 }
 
 // "then 1, 2, 3, then the set-up, then the entries": those of the list, up to `count`. The records are at their set-up from
@@ -114,26 +94,20 @@ fn started(traced: bool, first: First, kept: &[u64], count: usize, list: &mut [u
 {
     let n = first.n as usize;
     let w = first.w as usize;
-    let number = setting_up::set_up_number(n, w, 16, 3136, w);
-    if number != 0 {
-        return refused(number, first.n, first.w, 0, list);
+    match setting_up::set_up_refusal(n, w, 16, 3136, w) {
+        Err(refusal) => refused(refusal, first.n, first.w, 0, list),
+        Ok(()) => {
+            let mut words = no_words();
+            let value = lists::repeated(first.initial);
+            setting_up::words_at_set_up(&mut words, n, w, &value[..w]);
+            let bench = setting_up::bench_at_set_up(moir_model::empty_bench(), n, w);
+            let run = fresh(bench, traced);
+            let carried = entry_loop::carry_out(run, kept, count, &mut words, list);
+            let number = refusals::number_of(carried.outcome);
+            let report = reports::stop_report(first.n, first.w, number, kept, carried.at);
+            ended(carried.run, number, report, list)
+        }
     }
-    let mut words = no_words();
-    let value = repeated(first.initial);
-    setting_up::words_at_set_up(&mut words, n, w, &value[..w]);
-    let bench = setting_up::bench_at_set_up(moir_model::empty_bench(), n, w);
-    let run = fresh(bench, 0, traced);
-    let carried = entry_loop::carry_out(run, kept, count, &mut words, list);
-    let done = carried.run;
-    let report = reports::stop_report(first.n, first.w, done.stop, kept, carried.at);
-    ended(done, report, list)
-}
-
-// Room for the list of a text's entries: 60,000, and the one that is 12 whatever it says.
-fn empty_list() -> [u64; 60001]
-    ensures { length result ≡ 60001 }
-{
-    [0; 60001]
 }
 
 // "then 10 and 11 over the whole text": its items are read once, into the list of its entries.
@@ -142,15 +116,11 @@ fn checked(traced: bool, first: First, text: &[u8], list: &mut [u8]) -> Finished
     ensures { (returned result list.new ≡ seen (says_after figure6 traced text.now first.n first.w first.initial first.items at_start list.old)) ×
         StopInText figure6 traced at_start text.now list.old result.report }
 {
-    let mut kept = empty_list();
-    let read = items::read_items(text, first.items, DEEPEST, &mut kept, 0);
-    match read {
-        Items::Broken(k, place) => refused(k, 0, 0, place, list),
-        Items::Closed(next, _) => {
-            let place = next - 1;
-            refused(items::TEXT_BROKEN, 0, 0, place, list)
-        }
-        Items::Ended(count) => started(traced, first, &kept, count, list),
+    let mut kept = lists::empty_list();
+    match items::read_items(text, first.items, limits::DEEPEST, &mut kept, 0) {
+        Err(fault) => refused(fault.cause, 0, 0, fault.place, list),
+        Ok(Items::Closed(next, _)) => refused(Refusal::TextBroken, 0, 0, next - 1, list),
+        Ok(Items::Ended(count)) => started(traced, first, &kept, count, list),
     }
 }
 
@@ -158,24 +128,16 @@ fn checked(traced: bool, first: First, text: &[u8], list: &mut [u8]) -> Finished
 pub fn run_text(text: &[u8], traced: bool, list: &mut [u8]) -> Finished
     ensures { TextRan traced text.now list.old result list.new }
 {
-    if list.len() < turns::room_needed(traced) {
-        let run = fresh(moir_model::empty_bench(), turns::NO_ROOM, traced);
-        return returned(run, reports::at_no_entry(0, 0, 0), 0);
+    if list.len() < limits::room_needed(traced) {
+        let run = fresh(moir_model::empty_bench(), traced);
+        let report = reports::at_no_entry(0, 0, 0);
+        return returned(run, Refusal::NoRoom.number(), report, 0);
     }
-    if LONGEST_TEXT < text.len() {
-        return refused(turns::TOO_MUCH, 0, 0, 0, list);
+    if limits::LONGEST_TEXT < text.len() {
+        return refused(Refusal::TooMuch, 0, 0, 0, list);
     }
-    let header = notation::first_line(text);
-    match header {
-        Header::NoFirst(place) => refused(items::TEXT_BROKEN, 0, 0, place, list),
-        Header::First(n, w, initial, items) => {
-            let first = First {
-                n,
-                w,
-                initial,
-                items,
-            };
-            checked(traced, first, text, list)
-        }
+    match notation::first_line(text) {
+        Err(place) => refused(Refusal::TextBroken, 0, 0, place, list),
+        Ok(first) => checked(traced, first, text, list),
     }
 }

@@ -2,13 +2,14 @@
 ghost use Rattle.std.specs.Prelude.{◌≡◌};
 ghost use Rattle.listing.specs.Writing.{Room, Wrote};
 ghost use Rattle.moir_steps.specs.Ranges.{Ready};
-ghost use Rattle.moir_semantics.specs.TextRun.{answers, named_line, step_line};
+ghost use Rattle.text_runs.specs.TextRun.{entry_line};
+ghost use Rattle.moir_semantics.specs.TextRun.{figure6, answers, named_line, step_line};
 ghost use Rattle.moir_run.specs.Turned.{answer_line, Listable, access_seen, shown_line};
 
 use llsc::ProcessNumber;
 use moir_access::{Access, access_of, write_access};
 use moir_model::{Bench, Process, Reply};
-use moir_steps::word_places;
+use moir_steps::word_places::Row;
 use notation::Entry;
 
 // The line of a WLL that names a process.
@@ -36,10 +37,9 @@ pub fn answer_line(
     ensures { Wrote list.old at (answer_line bench words.now p reply) list.new result }
 {
     match reply {
-        Reply::Refused(_) => at,
-        Reply::Accepted => at,
+        Reply::Refused(_) | Reply::Accepted => at,
         Reply::WllAnswered(count) => {
-            let from = word_places::return_word(bench.n, bench.w, ProcessNumber(p as u8), 0);
+            let from = Row::Returned(ProcessNumber(p as u8)).word(bench.n, bench.w, 0);
             listing::ll_line(list, at, p, count as u64, words, from, bench.w)
         }
         Reply::WllNamed(q, count) => named_line(list, at, p, count as u64, q.0 as u64),
@@ -48,35 +48,29 @@ pub fn answer_line(
     }
 }
 
-// The access that an entry makes, seen in the memory before it; a run that is not traced needs none.
+// The access that a trace shows of an entry, seen in the memory before it; a listing shows none.
 pub fn access_seen(
     traced: bool,
     bench: Bench,
     p: ProcessNumber,
     process: Process,
     words: &[u64],
-) -> Access
+) -> Option<Access>
     requires { Ready bench process p words.now }
     ensures { result ≡ access_seen traced p bench process words.now }
 {
-    if !traced {
-        return access_of::no_access();
+    if traced {
+        Some(access_of::access_of(bench, p, process, words))
+    } else {
+        None
     }
-    access_of::access_of(bench, p, process, words)
 }
 
 // Whether a reply answers the call.
 fn answered(reply: Reply) -> bool
     ensures { result ≡ answers reply }
 {
-    match reply {
-        Reply::Refused(_) => false,
-        Reply::Accepted => false,
-        Reply::WllAnswered(_) => true,
-        Reply::WllNamed(_, _) => true,
-        Reply::ScAnswered(_, _) => true,
-        Reply::VlAnswered(_, _) => true,
-    }
+    !matches!(reply, Reply::Refused(_) | Reply::Accepted)
 }
 
 // The trace's line of a step.
@@ -90,9 +84,8 @@ fn step_line(list: &mut [u8], at: usize, k: u64, p: u64, access: Access, ends: b
     trace_parts::end(list, b, ends)
 }
 
-// The line of an accepted entry, from a place on; none in a run that is not traced. It gives the place after it.
-pub fn trace_line(
-    traced: bool,
+// The trace's line of an accepted entry, from a place on. It gives the place after it.
+fn entry_line(
     entry: usize,
     access: Access,
     e: Entry,
@@ -100,19 +93,32 @@ pub fn trace_line(
     list: &mut [u8],
     at: usize,
 ) -> usize
-    requires { Room list.old at (shown_line traced entry access e reply) }
-    ensures { Wrote list.old at (shown_line traced entry access e reply) list.new result }
+    requires { Room list.old at (entry_line figure6 entry access e reply) }
+    ensures { Wrote list.old at (entry_line figure6 entry access e reply) list.new result }
 {
-    if !traced {
-        return at;
-    }
     let k = entry as u64;
-    let ends = answered(reply);
     match e {
         Entry::StartLl(p) => trace_parts::start_line(list, at, k, p, b'L', 0),
         Entry::StartVl(p) => trace_parts::start_line(list, at, k, p, b'V', 0),
         Entry::StartSc(p, value) => trace_parts::start_line(list, at, k, p, b'S', value),
-        Entry::Step(p) => step_line(list, at, k, p, access, ends),
-        Entry::Finish(p) => step_line(list, at, k, p, access, ends),
+        Entry::Step(p) | Entry::Finish(p) => { step_line(list, at, k, p, access, answered(reply)) }
+    }
+}
+
+// The same in a run of either style: none in one that shows no access.
+pub fn trace_line(
+    access: Option<Access>,
+    entry: usize,
+    e: Entry,
+    reply: Reply,
+    list: &mut [u8],
+    at: usize,
+) -> usize
+    requires { Room list.old at (shown_line entry access e reply) }
+    ensures { Wrote list.old at (shown_line entry access e reply) list.new result }
+{
+    match access {
+        None => at,
+        Some(access) => entry_line(entry, access, e, reply, list, at),
     }
 }

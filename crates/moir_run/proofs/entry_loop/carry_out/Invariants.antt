@@ -5,7 +5,7 @@ use Rattle.moir_run.proofs.LoopLaws.{Turning}
 use Rattle.moir_run.proofs.entry_loop.carry_out.Given as goal
 
 abbrev pub invariant-loop-at : goal.invariant-loop-at
-invariant-loop-at l = Turning l.kept l.count (progress l.initial.now l.initial.words l.initial.list) l.at (progress l.now l.words l.list)
+invariant-loop-at l = Turning l.kept l.count (progress l.initial.now 0 l.initial.words l.initial.list) l.at (progress l.now 0 l.words l.list)
 
 abbrev pub decreases-loop-at : goal.decreases-loop-at
 decreases-loop-at l = 60001 - l.now.entries

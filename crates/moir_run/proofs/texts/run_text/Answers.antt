@@ -1,7 +1,8 @@
 -- `moir_run::texts::run_text`: 14, 12, the first line, and the rest.
-use mathlib.Core.Path.{ap, subst, ◌∙◌}
+use mathlib.Core.Path.{ap, ◌∙◌}
+use Prim.Native.Nat.{ℕ}
 use native.Mathlib.Omega.{arith}
-use Rattle.notation.specs.Readers.{HeaderSays}
+use Rattle.moir_run.specs.Finished.{finished_of}
 use Rattle.text_runs.proofs.TextLaws.{run_12, run_not_headed, run_headed}
 use Rattle.text_runs.proofs.StopLaws.{report_is, line_stops, stops_12, stops_looked}
 use Rattle.moir_semantics.specs.TextRun.{figure6}
@@ -12,32 +13,35 @@ use Rattle.moir_run.proofs.texts.run_text.Goals as goal
 pub returns-then-list-room_needed : goal.returns-then-list-room_needed
 returns-then-list-room_needed c =
     let a = c.args in
-    no_room a.traced a.text.now a.list.now c.returned.ensures c.at_no_entry.ensures c.fresh-run.ensures (omega (arith, c.if-list-room_needed.true, c.room_needed.ensures))
+    let ends = ap (λ (k : ℕ). finished_of c.fresh-run.result k c.at_no_entry-report.result 0) c.number.ensures in
+    no_room a.traced a.text.now a.list.now (c.returned.ensures ∙ ends) c.at_no_entry-report.ensures c.fresh-run.ensures
+    (omega (arith, c.if-list-room_needed.true, c.room_needed.ensures))
 
 pub returns-then-text-gt-LONGEST_TEXT : goal.returns-then-text-gt-LONGEST_TEXT
 returns-then-text-gt-LONGEST_TEXT c =
     let a = c.args in
+    let room = room_left a.traced a.list.now c.room_needed.ensures c.if-list-room_needed.false in
     record {
-      same = c.refused.ensures.0 ∙ ap seen (run_12 figure6 a.traced at_start a.text.now a.list.now (room_left a.traced a.list.now c.room_needed.ensures c.if-list-room_needed.false) c.if-text-gt-LONGEST_TEXT.true);
+      same = c.refused.ensures.0 ∙ ap seen (run_12 figure6 a.traced at_start a.text.now a.list.now room c.if-text-gt-LONGEST_TEXT.true);
       stops = stops_12 figure6 c.if-text-gt-LONGEST_TEXT.true c.refused.ensures.1;
     }
 
-pub returns-in-NoFirst : goal.returns-in-NoFirst
-returns-in-NoFirst c =
+pub returns-in-Err : goal.returns-in-Err
+returns-in-Err c =
     let a = c.args in
+    let room = room_left a.traced a.list.now c.room_needed.ensures c.if-list-room_needed.false in
+    let short = c.if-text-gt-LONGEST_TEXT.false in
     record {
-      same = c.refused-in-NoFirst.ensures.0 ∙ ap seen (run_not_headed figure6 a.traced at_start a.text.now
-          a.list.now (room_left a.traced a.list.now c.room_needed.ensures c.if-list-room_needed.false) c.if-text-gt-LONGEST_TEXT.false (subst (HeaderSays _) c.in-NoFirst.is c.first_line-header.ensures));
-      stops = stops_looked figure6
-          (room_left a.traced a.list.now c.room_needed.ensures c.if-list-room_needed.false) c.if-text-gt-LONGEST_TEXT.false (report_is
-          figure6 c.refused-in-NoFirst.ensures.1 (line_stops figure6 (subst (HeaderSays _) c.in-NoFirst.is c.first_line-header.ensures)));
+      same = c.refused-in-Err.ensures.0 ∙ ap seen (run_not_headed figure6 a.traced at_start a.text.now a.list.now room short c.in-Err.ensures);
+      stops = stops_looked figure6 room short (report_is figure6 c.refused-in-Err.ensures.1 (line_stops figure6 c.in-Err.ensures));
     }
 
-pub returns-in-First : goal.returns-in-First
-returns-in-First c =
+pub returns-in-Ok : goal.returns-in-Ok
+returns-in-Ok c =
     let a = c.args in
+    let room = room_left a.traced a.list.now c.room_needed.ensures c.if-list-room_needed.false in
+    let short = c.if-text-gt-LONGEST_TEXT.false in
     record {
-      same = c.checked.ensures.0 ∙ ap seen (run_headed figure6 a.traced at_start a.text.now a.list.now (room_left a.traced a.list.now c.room_needed.ensures c.if-list-room_needed.false) c.if-text-gt-LONGEST_TEXT.false (subst
-          (HeaderSays _) c.in-First.is c.first_line-header.ensures));
-      stops = stops_looked figure6 (room_left a.traced a.list.now c.room_needed.ensures c.if-list-room_needed.false) c.if-text-gt-LONGEST_TEXT.false c.checked.ensures.1;
+      same = c.checked.ensures.0 ∙ ap seen (run_headed figure6 a.traced at_start a.text.now a.list.now room short c.in-Ok.ensures);
+      stops = stops_looked figure6 room short c.checked.ensures.1;
     }

@@ -1,36 +1,51 @@
 -- `moir_run::turns::turn`: 12, 14, the rows of the command, or the entry carried out.
-use mathlib.Core.Path.{sym, ◌∙◌}
-use native.Mathlib.Omega.{arith}
-use Rattle.moir_run.proofs.TurnLaws.{stop_turn, number_as, turn_12, turn_14, turn_refused_is, turn_free}
-use Rattle.moir_run.proofs.TurnLaws.{turn_made}
+use mathlib.Core.Path.{◌≡◌, refl, sym, ap, ◌∙◌}
+use Prim.Native.Nat.{ℕ, ◌-◌}
+use lib.ListN.{length}
+use Rattle.std.proofs.lemmas.Result.{err_from_is_err_and}
+use Rattle.llsc.specs.Refusals.{number_told}
+use Rattle.text_runs.specs.Parts.{before_entry}
+use Rattle.moir_machine.proofs.RowLaws.{told_some}
+use Rattle.moir_run.proofs.TurnLaws.{number_as, turn_before, turn_through, turn_refused_is, turn_free, turn_made}
 use Rattle.moir_run.proofs.turns.turn.Goals as goal
 
-pub returns-then-run-ge-MOST_ENTRIES : goal.returns-then-run-ge-MOST_ENTRIES
-returns-then-run-ge-MOST_ENTRIES c =
+pub returns-in_err-before_entry : goal.returns-in_err-before_entry
+returns-in_err-before_entry c =
     let a = c.args in
-    stop_turn a.e a.run a.words.now a.list.now c.stopped.ensures (turn_12 a.e c.requires.0 c.requires.1 c.requires.2 c.if-run-ge-MOST_ENTRIES.true)
+    let p = err_from_is_err_and c.from_residual.result c.from_residual.ensures.1 in
+    let room = length a.list.now - a.run.written in
+    let found =
+    ap number_told c.in_err-before_entry.ensures ∙ ap (λ (n : ℕ). number_told (before_entry a.run.entries room n)) c.room_needed-needed.ensures in
+    rw (p.1, p.2) (turn_before a.e c.requires.0 refl c.requires.1 found (told_some _))
 
-pub returns-then-list-run : goal.returns-then-list-run
-returns-then-list-run c =
+pub returns-in_err-refusal : goal.returns-in_err-refusal
+returns-in_err-refusal c =
     let a = c.args in
-    stop_turn a.e a.run a.words.now a.list.now c.stopped-then-list-run.ensures (turn_14 a.e c.requires.0 c.requires.1 c.requires.2 c.if-run-ge-MOST_ENTRIES.false (omega (arith, c.if-list-run.true, c.room_needed.ensures)))
-
-pub returns-then-number-ne0 : goal.returns-then-number-ne0
-returns-then-number-ne0 c =
-    let a = c.args in
-    stop_turn a.e a.run a.words.now a.list.now c.stopped-then-number-ne0.ensures (turn_refused_is a.e c.requires.0 c.requires.1 c.requires.2 c.if-run-ge-MOST_ENTRIES.false (omega (arith, c.if-list-run.false, c.room_needed.ensures))
-    (number_as a.e c.requires.0 c.refusal-number.ensures c.process_of-p.ensures c.order_of-order.ensures c.words_of-count.ensures) c.if-number-ne0.true)
+    let p = err_from_is_err_and c.from_residual-in_err-refusal.result c.from_residual-in_err-refusal.ensures.1 in
+    let room = length a.list.now - a.run.written in
+    let found =
+    ap number_told c.in_ok-before_entry.ensures ∙ ap (λ (n : ℕ). number_told (before_entry a.run.entries room n)) c.room_needed-needed.ensures in
+    let free = turn_through a.e c.requires.0 refl c.requires.1 found refl in
+    rw (p.1, p.2)
+    (turn_refused_is a.e c.requires.0 refl c.requires.1 free.0 free.1
+    (number_as a.e c.requires.0 c.in_err-refusal.ensures c.process_of-p.ensures c.order_of-order.ensures c.words_of-count.ensures)
+    (told_some _))
 
 pub accepted-requires : goal.accepted-requires
 accepted-requires c =
     let a = c.args in
-    turn_free a.e c.requires.0 c.requires.1 c.requires.2 c.if-run-ge-MOST_ENTRIES.false (omega (
-      arith,
-      c.if-list-run.false,
-      c.room_needed.ensures,
-    )) (sym (number_as a.e c.requires.0 c.refusal-number.ensures c.process_of-p.ensures c.order_of-order.ensures c.words_of-count.ensures) ∙ c.if-number-ne0.false)
+    let room = length a.list.now - a.run.written in
+    let found =
+    ap number_told c.in_ok-before_entry.ensures ∙ ap (λ (n : ℕ). number_told (before_entry a.run.entries room n)) c.room_needed-needed.ensures in
+    let free = turn_through a.e c.requires.0 refl c.requires.1 found refl in
+    turn_free a.e c.requires.0 refl c.requires.1 free.0 free.1
+    (sym (number_as a.e c.requires.0 c.in_ok-refusal.ensures c.process_of-p.ensures c.order_of-order.ensures c.words_of-count.ensures))
 
 pub returns : goal.returns
 returns c =
-    c.accepted.ensures ∙ turn_made c.args.e c.requires.0 c.requires.1 c.requires.2 c.if-run-ge-MOST_ENTRIES.false (omega
-    (arith, c.if-list-run.false, c.room_needed.ensures))
+    let a = c.args in
+    let room = length a.list.now - a.run.written in
+    let found =
+    ap number_told c.in_ok-before_entry.ensures ∙ ap (λ (n : ℕ). number_told (before_entry a.run.entries room n)) c.room_needed-needed.ensures in
+    let free = turn_through a.e c.requires.0 refl c.requires.1 found refl in
+    c.accepted.ensures ∙ turn_made a.e c.requires.0 refl c.requires.1 free.0 free.1
