@@ -1,6 +1,5 @@
 pub mod PlaceLaws
 pub mod AccessLaws
-pub mod TextLaws
 pub mod Lengths
 pub mod SmallLaws
 pub mod Examples

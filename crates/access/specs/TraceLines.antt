@@ -1,5 +1,5 @@
 -- The lines of a trace as bytes. Each part but the entry number has the space before it.
-use Rattle.std.specs.Prelude.{ℕ, ◌%◌, List, [], ◌∷◌, ◌++◌, Bool, true, false, cond, eqb}
+use Rattle.std.specs.Prelude.{ℕ, ◌%◌, List, [], ◌++◌, Bool, true, false, cond, eqb}
 use Rattle.model.specs.Words.{word_of}
 use Rattle.listing.specs.Quoted.{quoted}
 use Rattle.trace_parts.specs.TraceParts.{spaced, bracketed, head_text, truth_text, end_text}

@@ -24,6 +24,7 @@ pub enum Act {
 
 // An access: the line of Figure 2, the item, the act and the values read or written: two for X and a place of Help, one
 // for a place of Bank and a half word, none for a VL. A value that there is not is 0.
+// Kept: the item and the act tell how many values there are; an Option for each would tell it a second time.
 #[derive(Clone, Copy)]
 pub struct Access {
     pub line: u8,

@@ -38,12 +38,5 @@ pub fn write(line: u8, from: usize, process: Process, words: &[u64]) -> Access
     requires { from < length words.now }
     ensures { result ≡ write_half line from process words.now }
 {
-    on_half(
-        line,
-        process.mybuf,
-        process.word,
-        Act::Write,
-        from,
-        words,
-    )
+    on_half(line, process.mybuf, process.word, Act::Write, from, words)
 }

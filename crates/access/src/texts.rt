@@ -8,6 +8,7 @@ use crate::Act;
 use doings::Item;
 
 // Which half of its word a place is.
+#[tactic(auto, unfolding(crate::specs::TraceLines::half_text))]
 fn half_name(list: &mut [u8], at: usize, k: usize) -> usize
     requires { Room list.old at (half_text k) }
     ensures { Wrote list.old at (half_text k) list.new result }
@@ -19,6 +20,7 @@ fn half_name(list: &mut [u8], at: usize, k: usize) -> usize
 }
 
 // A place of a buffer: its word, and which half.
+#[tactic(auto, unfolding(crate::specs::TraceLines::half_place_text))]
 fn half_place(list: &mut [u8], at: usize, k: usize) -> usize
     requires { Room list.old at (half_place_text k) }
     ensures { Wrote list.old at (half_place_text k) list.new result }
@@ -27,6 +29,7 @@ fn half_place(list: &mut [u8], at: usize, k: usize) -> usize
     half_name(list, a, k)
 }
 
+#[tactic(auto, unfolding(crate::specs::TraceLines::item_text))]
 pub fn item(list: &mut [u8], at: usize, item: Item) -> usize
     requires { Room list.old at (item_text item) }
     ensures { Wrote list.old at (item_text item) list.new result }
@@ -58,6 +61,7 @@ fn pair(list: &mut [u8], at: usize, first: u64, second: u64) -> usize
 }
 
 // One value or two, as many as the item has.
+#[tactic(auto, unfolding(crate::specs::TraceLines::values_text))]
 fn values(list: &mut [u8], at: usize, item: Item, first: u64, second: u64) -> usize
     requires { Room list.old at (values_text item first second) }
     ensures { Wrote list.old at (values_text item first second) list.new result }
@@ -69,6 +73,7 @@ fn values(list: &mut [u8], at: usize, item: Item, first: u64, second: u64) -> us
 }
 
 // Of an SC: whether it wrote, and so cleared all links.
+#[tactic(auto, unfolding(crate::specs::TraceLines::stored_text))]
 fn stored(list: &mut [u8], at: usize, t: bool) -> usize
     requires { Room list.old at (stored_text t) }
     ensures { Wrote list.old at (stored_text t) list.new result }
@@ -80,17 +85,19 @@ fn stored(list: &mut [u8], at: usize, t: bool) -> usize
 }
 
 // Of a plain write: it clears all links of its item, where it has any.
+#[tactic(auto, unfolding(crate::specs::TraceLines::written_text))]
 fn written(list: &mut [u8], at: usize, item: Item) -> usize
     requires { Room list.old at (written_text item) }
     ensures { Wrote list.old at (written_text item) list.new result }
 {
     match item {
+        Item::X | Item::Bank(_) | Item::Help(_) => listing::plain(list, at, b" links cleared"),
         Item::Half(_, _) => at,
-        _ => listing::plain(list, at, b" links cleared"),
     }
 }
 
 // The act, with the values that it names.
+#[tactic(auto, unfolding(crate::specs::TraceLines::act_text))]
 pub fn act(list: &mut [u8], at: usize, act: Act, item: Item, first: u64, second: u64) -> usize
     requires { Room list.old at (act_text act item first second) }
     ensures { Wrote list.old at (act_text act item first second) list.new result }

@@ -5,6 +5,7 @@ ghost use Rattle.access.specs.TraceLines.{step_line};
 use crate::{Access, texts};
 
 // The line of a step; where it answers, up to the listing's line.
+#[tactic(auto, unfolding(crate::specs::TraceLines::step_line))]
 pub fn step_line(
     list: &mut [u8],
     at: usize,
@@ -16,11 +17,16 @@ pub fn step_line(
     requires { Room list.old at (step_line entry p access answered) }
     ensures { Wrote list.old at (step_line entry p access answered) list.new result }
 {
-    let item = access.item;
-    let act = access.act;
+    let Access {
+        line,
+        item,
+        act,
+        first,
+        second,
+    } = access;
     let a = trace_parts::head(list, at, entry, p);
-    let b = trace_parts::spaced(list, a, access.line as u64);
+    let b = trace_parts::spaced(list, a, line as u64);
     let c = texts::item(list, b, item);
-    let d = texts::act(list, c, act, item, access.first, access.second);
+    let d = texts::act(list, c, act, item, first, second);
     trace_parts::end(list, d, answered)
 }
