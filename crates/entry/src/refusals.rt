@@ -6,7 +6,7 @@ ghost use Rattle.entry.specs.Turned.{refusal_of};
 use llsc::Order;
 use llsc::refusals::Refusal;
 use model::Process;
-use rows::causes;
+use rows::{causes, ranges};
 use text_runs::limits;
 
 // "before each entry 12, then 14", then rows 4, 5, 6, 7. After a set-up rows 1, 2, 3 and 9 cannot hold, and a text's SC
@@ -24,7 +24,8 @@ pub fn refusal(
 {
     limits::before_entry(entries, room, needed)?;
     Refusal::NoSuchProcess.if_holds(n as u64 <= p)?;
-    Refusal::StartAtBusy.if_holds(causes::start_at_busy(order, process))?;
-    Refusal::StepAtIdle.if_holds(causes::step_at_idle(order, process))?;
-    Refusal::NeverLinked.if_holds(causes::never_linked(order, process))
+    let idle = ranges::is_idle(process);
+    Refusal::StartAtBusy.if_holds(causes::start_at_busy(order, idle))?;
+    Refusal::StepAtIdle.if_holds(causes::step_at_idle(order, idle))?;
+    Refusal::NeverLinked.if_holds(causes::never_linked(order, process.answered))
 }

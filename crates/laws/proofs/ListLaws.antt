@@ -1,5 +1,5 @@
 -- Laws on lists that the loops cite.
-use mathlib.Core.Path.{◌≡◌, ap, sym, ◌∙◌}
+use mathlib.Core.Path.{◌≡◌, refl, ap, sym, ◌∙◌}
 use mathlib.Core.List.{List, [], ◌∷◌, ◌++◌}
 use mathlib.Core.Bool.{Bool, true, false, ◌&&◌}
 use Prim.Native.Nat.{ℕ, zero, suc, ◌+◌, ◌-◌, ◌≤◌, ◌<◌}
@@ -8,6 +8,7 @@ use native.Mathlib.Numerals.{add-one}
 use native.Mathlib.Omega.{arith}
 use lib.ListN.{length, take, drop, get_or, set, replicate, length-take, length-replicate, replicate-append-replicate}
 use lib.Seq.{sets, take-suc, drop-cons}
+use Rattle.std.specs.List.{list_all}
 use Rattle.llsc.specs.Rows.{every}
 use Rattle.laws.proofs.AndLaws.{left, right}
 
@@ -55,3 +56,8 @@ module _ {ℓ} {A : Type ℓ} where
 
   pub sets_replicate : (l : List A) (i n : ℕ) (a : A) → sets l i (replicate (n + 1) a) ≡ set (sets l i (replicate n a)) (i + n) a
   sets_replicate l i n a = rw (replicate_next n a, sets_append l i (replicate n a) (a ∷ []), length-replicate n a)
+
+-- what an iterator's `all` finds
+pub every_is_all : {A : Type 0} (f : A → Bool) (l : List A) → list_all f l ≡ every f l
+every_is_all f [] = refl
+every_is_all f (a ∷ l) = ap (λ b. f a && b) (every_is_all f l)

@@ -1,68 +1,46 @@
-// Lent process records of a station: one is read or replaced, sixteen are gathered, the first are stored back. A place past
-// the end reads as another record, and there nothing is stored.
+// Lent records: one is read or replaced, sixteen are gathered, the first are stored back. A place past the end reads as
+// another record, and there nothing is stored.
 
 #![tactic(auto)]
 
 ghost use Rattle.std.specs.Prelude.{◌≡◌, get_or, set};
-ghost use Rattle.station.specs.StationSetUp.{empty_process};
-ghost use Rattle.station_records.specs.Gathered.{gathered, processes_stored};
-
-use station::StationProcess;
-use station_records::processes::Processes;
+ghost use Rattle.lent.specs.Gathered.{gathered, stored};
 
 // The record at i, or another one where there is none.
-pub fn process_or(processes: &[StationProcess], i: usize, other: StationProcess) -> StationProcess
-    ensures { result ≡ get_or processes.now i other }
+pub fn record_or<T: Copy>(records: &[T], i: usize, other: T) -> T
+    ensures { result ≡ get_or records.now i other }
 {
-    if i < processes.len() {
-        return processes[i];
-    }
-    other
+    records.get(i).copied().unwrap_or(other)
 }
 
 // The record at i is replaced, where there is one.
-pub fn store_at(processes: &mut [StationProcess], i: usize, q: StationProcess)
-    ensures { processes.new ≡ set processes.old i q }
+pub fn store_at<T: Copy>(records: &mut [T], i: usize, q: T)
+    ensures { records.new ≡ set records.old i q }
 {
-    if i < processes.len() {
-        processes[i] = q;
+    // Kept: `get_mut` was tried; what it promises does not say how the slice is after the write.
+    if i < records.len() {
+        records[i] = q;
     }
 }
 
 // The first sixteen records, with another one where there is none.
-#[tactic(auto, unfolding(station_records::specs::Gathered::gathered))]
-pub fn gather(processes: &[StationProcess], none: StationProcess) -> Processes
-    ensures { result ≡ gathered processes.now none 16 }
+#[tactic(auto, unfolding(crate::specs::Gathered::gathered))]
+pub fn gather<T: Copy>(records: &[T], none: T) -> [T; 16]
+    ensures { result ≡ gathered records.now none 16 }
 {
-    let mut all = station_records::processes::processes_of(none);
-    let mut i = 0;
-    while i < 16 {
-        let q = process_or(processes, i, none);
-        all = station_records::processes::with_lent(all, i, q);
-        i += 1;
+    let mut all = [none; 16];
+    for i in 0..16 {
+        all[i] = record_or(records, i, none);
     }
     all
 }
 
-// One of sixteen records, or the filler past their end.
-pub fn pick(all: Processes, i: usize) -> StationProcess
-    ensures { result ≡ get_or all.list i empty_process }
+// The first n of sixteen records are stored back, where they are lent; past the sixteen, `none`.
+#[tactic(auto, unfolding(crate::specs::Gathered::stored))]
+pub fn store_back<T: Copy>(records: &mut [T], all: &[T], none: T, n: usize)
+    ensures { records.new ≡ stored records.old all.now none n }
 {
-    if i < 16 {
-        return all.list[i];
-    }
-    station::empty_process()
-}
-
-// The first n of sixteen records are stored back, where they are lent.
-#[tactic(auto, unfolding(station_records::specs::Gathered::processes_stored))]
-pub fn store_back(processes: &mut [StationProcess], all: Processes, n: usize)
-    ensures { processes.new ≡ processes_stored processes.old all.list n }
-{
-    let mut i = 0;
-    while i < n {
-        let q = pick(all, i);
-        store_at(processes, i, q);
-        i += 1;
+    for i in 0..n {
+        store_at(records, i, record_or(all, i, none));
     }
 }

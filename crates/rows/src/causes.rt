@@ -1,35 +1,27 @@
-// The causes of the refusal table, a function for each row but 9, and the rows' numbers (01, "When the bench says no").
-ghost use Rattle.std.specs.Prelude.{◌≡◌, ◌≤◌};
-ghost use Rattle.llsc.specs.Rows.{row1, row2, row4};
-ghost use Rattle.model.specs.Refusals.{row5, row6, row7};
-ghost use Rattle.llsc.specs.Rows.{row8};
-ghost use Rattle.model.specs.Refusals.{row3};
+// The causes of the refusal table, a function for each row but 9 (01, "When the bench says no"). What a bench says of its
+// own is how many words it needs, and of the process that is named whether it is idle and whether an LL of it was ever
+// answered.
+ghost use Rattle.std.specs.Prelude.{◌≡◌};
+ghost use Rattle.llsc.specs.Rows.{row1, row2, row3, row4, row5, row6, row7, row8};
 
-use lines::points;
 use llsc::Order;
-use model::{Process, sizes};
+use llsc::refusals::Refusal;
 
-pub const N_OUT_OF_RANGE: u8 = 1;
+pub const N_OUT_OF_RANGE: u8 = Refusal::NOutOfRange as u8;
 
-pub const W_OUT_OF_RANGE: u8 = 2;
+pub const W_OUT_OF_RANGE: u8 = Refusal::WOutOfRange as u8;
 
-pub const TOO_LITTLE_LENT: u8 = 3;
-// Row 3 of a view.
-pub const LIST_NOT_WHOLE: u8 = 3;
+pub const TOO_LITTLE_LENT: u8 = Refusal::TooLittleLent as u8;
 
-pub const NO_SUCH_PROCESS: u8 = 4;
+pub const NO_SUCH_PROCESS: u8 = Refusal::NoSuchProcess as u8;
 
-pub const START_AT_BUSY: u8 = 5;
+pub const START_AT_BUSY: u8 = Refusal::StartAtBusy as u8;
 
-pub const STEP_AT_IDLE: u8 = 6;
+pub const STEP_AT_IDLE: u8 = Refusal::StepAtIdle as u8;
 
-pub const NEVER_LINKED: u8 = 7;
+pub const NEVER_LINKED: u8 = Refusal::NeverLinked as u8;
 
-pub const VALUE_NOT_W_WORDS: u8 = 8;
-
-pub const NUMBER_OUT_OF_RANGE: u8 = 9;
-
-pub const NO_SUCH_SUCCESS: u8 = 15;
+pub const VALUE_NOT_W_WORDS: u8 = Refusal::ValueNotWWords as u8;
 
 pub const MOST_PROCESSES: usize = 16;
 
@@ -39,37 +31,21 @@ pub const MOST_WORDS: usize = 64;
 pub fn n_out_of_range(n: usize) -> bool
     ensures { result ≡ (row1 n).holds }
 {
-    if n < 1 {
-        return true;
-    }
-    if n > MOST_PROCESSES {
-        return true;
-    }
-    false
+    n < 1 || n > MOST_PROCESSES
 }
 
 // Row 2.
 pub fn w_out_of_range(w: usize) -> bool
     ensures { result ≡ (row2 w).holds }
 {
-    if w < 1 {
-        return true;
-    }
-    if w > MOST_WORDS {
-        return true;
-    }
-    false
+    w < 1 || w > MOST_WORDS
 }
 
-// Row 3: fewer than 5NW words or N records.
-pub fn too_little_lent(n: usize, w: usize, records: usize, words: usize) -> bool
-    requires { (n ≤ 16) × (w ≤ 64) }
-    ensures { result ≡ (row3 n w records words).holds }
+// Row 3: fewer words than needed or N records.
+pub fn too_little_lent(n: usize, needed: usize, records: usize, words: usize) -> bool
+    ensures { result ≡ (row3 n needed records words).holds }
 {
-    if words < sizes::lent_words(n, w) {
-        return true;
-    }
-    records < n
+    words < needed || records < n
 }
 
 // Row 4.
@@ -80,46 +56,29 @@ pub fn no_such_process(n: usize, p: usize) -> bool
 }
 
 // Row 5.
-pub fn start_at_busy(order: Order, process: Process) -> bool
-    ensures { result ≡ (row5 order process).holds }
+pub fn start_at_busy(order: Order, idle: bool) -> bool
+    ensures { result ≡ (row5 order idle).holds }
 {
-    if !llsc::is_start(order) {
-        return false;
-    }
-    process.line != points::IDLE
+    llsc::is_start(order) && !idle
 }
 
 // Row 6.
-pub fn step_at_idle(order: Order, process: Process) -> bool
-    ensures { result ≡ (row6 order process).holds }
+pub fn step_at_idle(order: Order, idle: bool) -> bool
+    ensures { result ≡ (row6 order idle).holds }
 {
-    if llsc::is_start(order) {
-        return false;
-    }
-    process.line == points::IDLE
+    !llsc::is_start(order) && idle
 }
 
 // Row 7: SC or VL started where no LL was ever answered.
-pub fn never_linked(order: Order, process: Process) -> bool
-    ensures { result ≡ (row7 order process).holds }
+pub fn never_linked(order: Order, answered: bool) -> bool
+    ensures { result ≡ (row7 order answered).holds }
 {
-    let answered = process.answered;
-    match order {
-        Order::StartLl => false,
-        Order::StartSc => !answered,
-        Order::StartVl => !answered,
-        Order::Step => false,
-    }
+    matches!(order, Order::StartSc | Order::StartVl) && !answered
 }
 
 // Row 8. The value of a command is looked at only where it starts an SC.
 pub fn value_not_w_words(order: Order, w: usize, value: usize) -> bool
     ensures { result ≡ (row8 order w value).holds }
 {
-    match order {
-        Order::StartLl => false,
-        Order::StartSc => value != w,
-        Order::StartVl => false,
-        Order::Step => false,
-    }
+    order == Order::StartSc && value != w
 }

@@ -2,8 +2,8 @@
 // the bench says no").
 ghost use Rattle.std.specs.Prelude.{◌≡◌, ◌≤◌, ◌&&◌, ltb, take};
 ghost use Rattle.model.specs.Sizes.{sequence_numbers, halves};
-ghost use Rattle.llsc.specs.Rows.{every};
-ghost use Rattle.model.specs.Refusals.{buffer_ok, sequence_ok, x_ok, links_ok, x_place_ok, bank_place_ok, help_place_ok, line_ok, count_ok, process_ok, bench_ok};
+ghost use Rattle.std.specs.List.{list_all};
+ghost use Rattle.model.specs.Refusals.{buffer_ok, sequence_ok, x_ok, links_ok, x_place_ok, bank_place_ok, help_place_ok, is_idle, line_ok, count_ok, process_ok, bench_ok};
 
 use lines::points;
 use model::{
@@ -31,10 +31,7 @@ pub fn x_ok(n: usize, x: XContent) -> bool
     requires { n ≤ 16 }
     ensures { result ≡ x_ok n x }
 {
-    if !buffer_ok(n, x.buf) {
-        return false;
-    }
-    sequence_ok(n, x.seq)
+    buffer_ok(n, x.buf) && sequence_ok(n, x.seq)
 }
 
 // No process from N on has a link.
@@ -50,12 +47,7 @@ pub fn x_place_ok(n: usize, x: XPlace) -> bool
     requires { n ≤ 16 }
     ensures { result ≡ x_place_ok n x }
 {
-    let content = x.content;
-    let links = x.links;
-    if !x_ok(n, content) {
-        return false;
-    }
-    links_ok(n, links)
+    x_ok(n, x.content) && links_ok(n, x.links)
 }
 
 // A place of Bank with its links.
@@ -63,12 +55,7 @@ pub fn bank_place_ok(n: usize, bank: BankPlace) -> bool
     requires { n ≤ 16 }
     ensures { result ≡ bank_place_ok n bank }
 {
-    let content = bank.content;
-    let links = bank.links;
-    if !buffer_ok(n, content) {
-        return false;
-    }
-    links_ok(n, links)
+    buffer_ok(n, bank.content) && links_ok(n, bank.links)
 }
 
 // A place of Help with its links: its flag is 0 or 1.
@@ -76,15 +63,14 @@ pub fn help_place_ok(n: usize, help: HelpPlace) -> bool
     requires { n ≤ 16 }
     ensures { result ≡ help_place_ok n help }
 {
-    let content = help.content;
-    let links = help.links;
-    if content.flag > 1 {
-        return false;
-    }
-    if !buffer_ok(n, content.buf) {
-        return false;
-    }
-    links_ok(n, links)
+    help.content.flag <= 1 && buffer_ok(n, help.content.buf) && links_ok(n, help.links)
+}
+
+// Whether a process has no open call.
+pub fn is_idle(process: Process) -> bool
+    ensures { result ≡ is_idle process }
+{
+    process.line == points::IDLE
 }
 
 // Idle, or a point of Figure 2: 16, and 20 to 22, are none.
@@ -92,19 +78,9 @@ pub fn line_ok(process: Process) -> bool
     ensures { result ≡ line_ok process }
 {
     let line = process.line;
-    if line <= points::LINE_15 {
-        return true;
-    }
-    if line < points::LINE_17 {
-        return false;
-    }
-    if line <= points::LINE_19 {
-        return true;
-    }
-    if line < points::LINE_23 {
-        return false;
-    }
-    line <= points::LINE_14_VALID
+    line <= points::LINE_15
+        || (points::LINE_17 <= line && line <= points::LINE_19)
+        || (points::LINE_23 <= line && line <= points::LINE_14_VALID)
 }
 
 // An idle process has count 0, a busy one at most 8W+6.
@@ -112,26 +88,12 @@ pub fn count_ok(w: usize, process: Process) -> bool
     requires { w ≤ 64 }
     ensures { result ≡ count_ok w process }
 {
-    let count = process.count;
-    if process.line == points::IDLE {
-        return count <= 0;
-    }
-    count <= sizes::busy_most(w)
-}
-
-// The line, the word place and the count of a process.
-fn progress_ok(w: usize, process: Process) -> bool
-    requires { w ≤ 64 }
-    ensures { result ≡ (line_ok process && (ltb process.word (halves w) && count_ok w process)) }
-{
-    let word = process.word;
-    if !line_ok(process) {
-        return false;
-    }
-    if word >= sizes::halves(w) {
-        return false;
-    }
-    count_ok(w, process)
+    let most = if is_idle(process) {
+        0
+    } else {
+        sizes::busy_most(w)
+    };
+    process.count <= most
 }
 
 // A process record.
@@ -139,74 +101,49 @@ pub fn process_ok(n: usize, w: usize, process: Process) -> bool
     requires { (n ≤ 16) × (w ≤ 64) }
     ensures { result ≡ process_ok n w process }
 {
-    if !buffer_ok(n, process.mybuf) {
-        return false;
-    }
-    if !x_ok(n, process.x) {
-        return false;
-    }
-    if !buffer_ok(n, process.b) {
-        return false;
-    }
-    if !buffer_ok(n, process.c) {
-        return false;
-    }
-    if !buffer_ok(n, process.d) {
-        return false;
-    }
-    if !buffer_ok(n, process.e) {
-        return false;
-    }
-    progress_ok(w, process)
+    buffer_ok(n, process.mybuf)
+        && x_ok(n, process.x)
+        && buffer_ok(n, process.b)
+        && buffer_ok(n, process.c)
+        && buffer_ok(n, process.d)
+        && buffer_ok(n, process.e)
+        && line_ok(process)
+        && process.word < sizes::halves(w)
+        && count_ok(w, process)
 }
 
 // The places of Bank that N needs.
 fn banks_ok(bench: Bench) -> bool
     requires { bench.n ≤ 16 }
-    ensures { result ≡ every (bank_place_ok bench.n) (take (sequence_numbers bench.n) bench.bank) }
+    ensures { result ≡ list_all (bank_place_ok bench.n) (take (sequence_numbers bench.n) bench.bank) }
 {
     let n = bench.n;
     let places = sizes::sequence_numbers(n);
-    let mut i = 0;
-    while i < places {
-        let place = bench.bank[i];
-        if !bank_place_ok(n, place) {
-            return false;
-        }
-        i += 1;
-    }
-    true
+    bench
+        .bank
+        .iter()
+        .take(places)
+        .all(|bank| bank_place_ok(n, *bank))
 }
 
 // The places of Help that N needs.
 fn helps_ok(bench: Bench) -> bool
     requires { bench.n ≤ 16 }
-    ensures { result ≡ every (help_place_ok bench.n) (take bench.n bench.help) }
+    ensures { result ≡ list_all (help_place_ok bench.n) (take bench.n bench.help) }
 {
     let n = bench.n;
-    let mut i = 0;
-    while i < n {
-        let place = bench.help[i];
-        if !help_place_ok(n, place) {
-            return false;
-        }
-        i += 1;
-    }
-    true
+    bench
+        .help
+        .iter()
+        .take(n)
+        .all(|help| help_place_ok(n, *help))
 }
 
 // The bench record.
+#[tactic(auto, using(laws::proofs::ListLaws::every_is_all))]
 pub fn bench_ok(bench: Bench) -> bool
     requires { bench.n ≤ 16 }
     ensures { result ≡ bench_ok bench }
 {
-    let n = bench.n;
-    let x = bench.x;
-    if !x_place_ok(n, x) {
-        return false;
-    }
-    if !banks_ok(bench) {
-        return false;
-    }
-    helps_ok(bench)
+    x_place_ok(bench.n, bench.x) && banks_ok(bench) && helps_ok(bench)
 }

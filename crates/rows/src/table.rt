@@ -1,22 +1,38 @@
-// The refusal table in row order (01, "When the bench says no"), as far as it looks at lengths alone.
-ghost use Rattle.std.specs.Prelude.{◌≡◌};
+// The refusal table in row order (01, "When the bench says no"), as far as it looks at lengths, or at a process that is
+// named.
+ghost use Rattle.std.specs.Prelude.{◌≡◌, [], ◌∷◌};
+ghost use Rattle.llsc.specs.Refusals.{number_told};
+ghost use Rattle.llsc.specs.Rows.{first, row5, row6, row7, row8};
 ghost use Rattle.rows.specs.CommandRows.{lent_number};
 
 use crate::causes;
+use llsc::Order;
+use llsc::refusals::Refusal;
+use model::sizes;
 
-// Rows 1, 2, 3, with which a set-up begins: the number of the first that holds, 0 for none.
+// Rows 1, 2, 3, with which a set-up begins: the first that holds.
 #[tactic(auto, unfolding(crate::specs::CommandRows::lent_number))]
-pub fn lent_refusal(n: usize, w: usize, records: usize, words: usize) -> u8
-    ensures { result ≡ lent_number n w records words }
+pub fn lent_refusal(n: usize, w: usize, records: usize, words: usize) -> Result<(), Refusal>
+    ensures { number_told result ≡ lent_number n w records words }
 {
-    if causes::n_out_of_range(n) {
-        return causes::N_OUT_OF_RANGE;
-    }
-    if causes::w_out_of_range(w) {
-        return causes::W_OUT_OF_RANGE;
-    }
-    if causes::too_little_lent(n, w, records, words) {
-        return causes::TOO_LITTLE_LENT;
-    }
-    0
+    Refusal::NOutOfRange.if_holds(causes::n_out_of_range(n))?;
+    Refusal::WOutOfRange.if_holds(causes::w_out_of_range(w))?;
+    let needed = sizes::lent_words(n, w);
+    Refusal::TooLittleLent.if_holds(causes::too_little_lent(n, needed, records, words))
+}
+
+// Rows 8, 5, 6, 7, of the process that is named: whether it is idle, and whether an LL of it was answered.
+pub fn call_refusal(
+    order: Order,
+    w: usize,
+    value: usize,
+    idle: bool,
+    answered: bool,
+) -> Result<(), Refusal>
+    ensures { number_told result ≡ first (row8 order w value ∷ row5 order idle ∷ row6 order idle ∷ row7 order answered ∷ []) }
+{
+    Refusal::ValueNotWWords.if_holds(causes::value_not_w_words(order, w, value))?;
+    Refusal::StartAtBusy.if_holds(causes::start_at_busy(order, idle))?;
+    Refusal::StepAtIdle.if_holds(causes::step_at_idle(order, idle))?;
+    Refusal::NeverLinked.if_holds(causes::never_linked(order, answered))
 }

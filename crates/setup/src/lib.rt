@@ -3,57 +3,54 @@
 #![tactic(auto)]
 
 ghost use Rattle.std.specs.Prelude.{◌≡◌, ◌+◌, ◌≤◌, ◌<◌, length};
+ghost use Rattle.llsc.specs.Refusals.{number_told};
 ghost use Rattle.model.specs.Sizes.{sequence_numbers};
 ghost use Rattle.model.specs.SetUp.{bench_at_set_up, process_at_set_up, words_at_set_up};
 ghost use Rattle.setup.specs.SetUpByValue.{set_up_number, banks_set, helps_set, Accepted};
 
 use llsc::ProcessNumber;
+use llsc::refusals::Refusal;
 use model::{Bench, Process, SequenceNumber, sizes};
-use rows::{causes, table};
+use rows::table;
 use words::word_runs;
 
 // The refusal by the lengths of what is lent: rows 1, 2, 3, 8.
-pub fn set_up_number(n: usize, w: usize, records: usize, words: usize, value: usize) -> u8
-    ensures { result ≡ set_up_number n w records words value }
+#[tactic(auto, unfolding(crate::specs::SetUpByValue::set_up_number, rows::specs::CommandRows::lent_number))]
+pub fn set_up_refusal(
+    n: usize,
+    w: usize,
+    records: usize,
+    words: usize,
+    value: usize,
+) -> Result<(), Refusal>
+    ensures { number_told result ≡ set_up_number n w records words value }
 {
-    let number = table::lent_refusal(n, w, records, words);
-    if number != 0 {
-        return number;
-    }
-    if value != w {
-        return causes::VALUE_NOT_W_WORDS;
-    }
-    0
+    table::lent_refusal(n, w, records, words)?;
+    Refusal::ValueNotWWords.if_holds(value != w)
 }
 
 // Bank[k] = k, below n.
-fn with_banks(bench: Bench, n: usize) -> Bench
+fn with_banks(mut bench: Bench, n: usize) -> Bench
     requires { n ≤ 32 }
     ensures { result ≡ banks_set bench n }
 {
-    let mut next = bench;
-    let mut k = 0;
-    while k < n {
+    for k in 0..n {
         let place = model::bank_at_set_up(k as u8);
-        next = tables::put_bank(next, SequenceNumber(k as u8), place);
-        k += 1;
+        bench = tables::put_bank(bench, SequenceNumber(k as u8), place);
     }
-    next
+    bench
 }
 
 // Help[p] = (0, 0), below n.
-fn with_helps(bench: Bench, n: usize) -> Bench
+fn with_helps(mut bench: Bench, n: usize) -> Bench
     requires { n ≤ 16 }
     ensures { result ≡ helps_set bench n }
 {
     let place = model::help_at_set_up();
-    let mut next = bench;
-    let mut p = 0;
-    while p < n {
-        next = tables::put_help(next, ProcessNumber(p as u8), place);
-        p += 1;
+    for p in 0..n {
+        bench = tables::put_help(bench, ProcessNumber(p as u8), place);
     }
-    next
+    bench
 }
 
 // X = (0, 0), the tables, no links.

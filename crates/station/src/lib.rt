@@ -4,6 +4,7 @@
 
 ghost use Rattle.std.specs.Prelude.{◌≡◌};
 ghost use Rattle.station.specs.Station.{no_holding};
+ghost use Rattle.station.specs.Projection.{at_rest};
 ghost use Rattle.station.specs.StationSetUp.{empty_tables, empty_station, empty_process};
 
 use model::{BankPlace, BufferNumber, HelpPlace, SequenceNumber, XContent, XPlace};
@@ -41,6 +42,15 @@ pub struct StationProcess {
     pub c: BufferNumber,
     pub d: BufferNumber,
     pub e: BufferNumber,
+}
+
+impl StationProcess {
+    // Whether it has no open call.
+    pub fn is_at_rest(self) -> bool
+        ensures { result ≡ at_rest self }
+    {
+        self.line == 0
+    }
 }
 
 // The station record: N, W, R and the tables of each record.

@@ -20,8 +20,8 @@ use Rattle.station.specs.StationRefusals.{StationOrder, record_about, row24, row
 use Rattle.station.specs.StationCommand.{station_refusal, station_command}
 use Rattle.station.specs.StationSetUp.{empty_process}
 use Rattle.station_records.specs.TakenOut.{bench_in}
-use Rattle.station_records.specs.Gathered.{gathered}
-use Rattle.station_records.proofs.GatheredLaws.{gathered_length, gathered_at, gathered_take}
+use Rattle.lent.specs.Gathered.{gathered}
+use Rattle.lent.proofs.GatheredLaws.{gathered_length, gathered_at, gathered_take}
 use Rattle.station_rows.specs.StationCommandRows.{station_number}
 use Rattle.station_rows.proofs.StationRowLaws.{same_row, same_then}
 use Rattle.station_machine.specs.StationDecision.{obeyed_at, obeyed_on, station_decided, stored_back}
@@ -30,7 +30,7 @@ use Rattle.station_machine.proofs.StationObeyLaws.{refused_law, obeyed_law}
 
 module _ (s : Station) (ps : List StationProcess) (ws : List ℕ) where
   abbrev all : List StationProcess
-  all = (gathered ps empty_process 16).list
+  all = gathered ps empty_process 16
 
   abbrev lent : StationMemory
   lent = station_memory s ps ws
@@ -86,5 +86,5 @@ module _ (s : Station) (ps : List StationProcess) (ws : List ℕ) where
         ap (stored_back ps) (sym (refused_law s all (length ps) p o named v ws number refl n)) ∙
         simp (out, same_number, ne_eqb (station_refusal lent c) 0 (λ z. n (same_number ∙ z)))
 
-    pub decision_law : stored_back ps (station_decided s (gathered ps empty_process 16).list (length ps) p o named v ws) ≡ station_command (station_memory s ps ws) c
+    pub decision_law : stored_back ps (station_decided s (gathered ps empty_process 16) (length ps) p o named v ws) ≡ station_command (station_memory s ps ws) c
     decision_law = by_number number refl

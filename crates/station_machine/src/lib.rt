@@ -3,14 +3,14 @@
 #![tactic(auto)]
 
 ghost use Rattle.std.specs.Prelude.{◌≡◌, ◌≤◌, ◌<◌, length};
+ghost use Rattle.llsc.specs.Refusals.{refusal_number, number_told};
 ghost use Rattle.station_rows.specs.StationCommandRows.{station_number};
 ghost use Rattle.station_machine.specs.StationDecision.{rows_from, refused_outcome, obeyed_outcome, station_decided};
 
+use llsc::refusals::Refusal;
 use llsc::{Order, ProcessNumber};
 use model::{Moved, Reply, sizes};
 use station::{RecordNumber, Station, StationProcess};
-use station_records::processes;
-use station_records::processes::Processes;
 use station_rows::{causes, table};
 use steps::orders;
 use words::layouts::FirstRows;
@@ -25,14 +25,15 @@ pub struct Outcome {
     pub reply: Reply,
 }
 
-fn refused(station: Station, len: usize, number: u8) -> Outcome
-    ensures { result ≡ refused_outcome station len number }
+fn refused(station: Station, len: usize, refusal: Refusal) -> Outcome
+    ensures { result ≡ refused_outcome station len (refusal_number refusal) }
 {
     Outcome {
         station,
         at: len,
         process: station::empty_process(),
-        reply: Reply::Refused(number),
+        // Kept: 01 promises its users a number.
+        reply: Reply::Refused(refusal.number()),
     }
 }
 
@@ -40,14 +41,11 @@ fn obeyed(station: Station, j: RecordNumber, q: StationProcess, moved: Moved, p:
     requires { j.0 < 8 }
     ensures { result ≡ obeyed_outcome station j q moved p }
 {
-    let bench = moved.bench;
-    let process = moved.process;
-    let reply = moved.reply;
     Outcome {
-        station: station_records::put_bench(station, j, bench),
+        station: station_records::put_bench(station, j, moved.bench),
         at: p,
-        process: station_records::put_process(j, q, process),
-        reply,
+        process: station_records::put_process(j, q, moved.process),
+        reply: moved.reply,
     }
 }
 
@@ -64,11 +62,11 @@ fn rows_of(n: usize, r: usize, j: RecordNumber) -> FirstRows
     }
 }
 
-// The command, with the number of its refusal.
+// The command, with the row that refuses it, if one does.
 pub fn decide_by(
-    number: u8,
+    refusal: Result<(), Refusal>,
     station: Station,
-    all: Processes,
+    all: [StationProcess; 16],
     len: usize,
     p: usize,
     order: Order,
@@ -76,14 +74,14 @@ pub fn decide_by(
     value: &[u64],
     words: &mut [u64],
 ) -> Outcome
-    requires { number ≡ station_number station all.list len p order named (length value.now) (length words.old) }
-    ensures { (result, words.new) ≡ station_decided station all.list len p order named value.now words.old }
+    requires { number_told refusal ≡ station_number station all len p order named (length value.now) (length words.old) }
+    ensures { (result, words.new) ≡ station_decided station all len p order named value.now words.old }
 {
-    if number != 0 {
-        return refused(station, len, number);
+    if let Err(refusal) = refusal {
+        return refused(station, len, refusal);
     }
     let me = ProcessNumber(p as u8);
-    let q = processes::process_at(all, me);
+    let q = all[p];
     let j = RecordNumber(causes::record_about(order, named, q) as u8);
     let bench = station_records::bench_of(station, j);
     let process = station_records::process_of(j, q);
@@ -95,7 +93,7 @@ pub fn decide_by(
 // `all` holds the first sixteen lent process records, with a filler where there are fewer; `len` is how many were lent.
 pub fn decide(
     station: Station,
-    all: Processes,
+    all: [StationProcess; 16],
     len: usize,
     p: usize,
     order: Order,
@@ -103,8 +101,8 @@ pub fn decide(
     value: &[u64],
     words: &mut [u64],
 ) -> Outcome
-    ensures { (result, words.new) ≡ station_decided station all.list len p order named value.now words.old }
+    ensures { (result, words.new) ≡ station_decided station all len p order named value.now words.old }
 {
-    let number = table::refusal(station, all, len, p, order, named, value.len(), words.len());
-    decide_by(number, station, all, len, p, order, named, value, words)
+    let refusal = table::refusal(station, all, len, p, order, named, value.len(), words.len());
+    decide_by(refusal, station, all, len, p, order, named, value, words)
 }

@@ -1,2 +1,1 @@
-pub mod GatheredLaws
 pub mod StoredLaws

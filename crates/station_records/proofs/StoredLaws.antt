@@ -7,26 +7,27 @@ use lib.ListN.{length, get_or, set}
 use Rattle.station.specs.declared.StationProcess.{StationProcess}
 use Rattle.station.specs.StationSetUp.{firsts, empty_process}
 use Rattle.station_facts.proofs.Firsts.{firsts_at, firsts_next}
-use Rattle.station_records.specs.Gathered.{gathered, processes_stored}
-use Rattle.station_records.proofs.GatheredLaws.{gathered_length, gathered_at}
+use Rattle.lent.specs.Gathered.{gathered, stored}
+use Rattle.lent.proofs.GatheredLaws.{gathered_length, gathered_at}
+use Rattle.station_records.specs.Gathered.{processes_stored}
 
 module _ (f : ℕ → StationProcess → StationProcess) (ps : List StationProcess) (n : ℕ) (hn : n ≤ 16) (hl : n ≤ length ps) where
   abbrev all : List StationProcess
-  all = firsts f 0 n (gathered ps empty_process 16).list
+  all = firsts f 0 n (gathered ps empty_process 16)
 
   one : (k : ℕ) → k < n → get_or all k empty_process ≡ f k (get_or ps k empty_process)
   one k h =
-      firsts_at f 0 n (gathered ps empty_process 16).list k empty_process h (omega (arith, gathered_length ps empty_process 16))
+      firsts_at f 0 n (gathered ps empty_process 16) k empty_process h (omega (arith, gathered_length ps empty_process 16))
       ∙ ap (f (0 + k)) (gathered_at ps empty_process empty_process 16 k (omega arith) (omega arith) (omega arith))
       ∙ ap (λ (i : ℕ). f i (get_or ps k empty_process)) (let z : 0 + k ≡ k = omega arith in z)
 
-  stored : (k : ℕ) → k ≤ n → processes_stored ps all k ≡ firsts f 0 k ps
-  unfolding processes_stored
-  stored zero h = refl
-  stored (suc k) h =
-      ap (λ (l : List StationProcess). set l k (get_or all k empty_process)) (stored k (omega arith))
+  stored_so_far : (k : ℕ) → k ≤ n → processes_stored ps all k ≡ firsts f 0 k ps
+  unfolding stored
+  stored_so_far zero h = refl
+  stored_so_far (suc k) h =
+      ap (λ (l : List StationProcess). set l k (get_or all k empty_process)) (stored_so_far k (omega arith))
       ∙ ap (set (firsts f 0 k ps) k) (one k (omega arith))
       ∙ firsts_next f k ps empty_process (omega arith) ∙ ap (λ (i : ℕ). firsts f 0 i ps) (let z : k + 1 ≡ suc k = omega arith in z)
 
-  pub stored_firsts : processes_stored ps (firsts f 0 n (gathered ps empty_process 16).list) n ≡ firsts f 0 n ps
-  stored_firsts = stored n (omega arith)
+  pub stored_firsts : processes_stored ps (firsts f 0 n (gathered ps empty_process 16)) n ≡ firsts f 0 n ps
+  stored_firsts = stored_so_far n (omega arith)

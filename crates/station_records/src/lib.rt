@@ -10,15 +10,12 @@ ghost use Rattle.station_records.specs.TakenOut.{bench_in, with_tables};
 use model::{Bench, Process};
 use station::{Holding, RecordNumber, Station, StationProcess, Tables};
 
-pub mod processes;
-
 // The tables of record j.
 pub fn tables_at(station: Station, j: RecordNumber) -> Tables
     requires { j.0 < 8 }
     ensures { result ≡ get_or station.tables j.0 no_tables }
 {
-    let i = j.0 as usize;
-    station.tables[i]
+    station.tables[j.0 as usize]
 }
 
 // The bench record of record j.
@@ -26,10 +23,7 @@ pub fn bench_of(station: Station, j: RecordNumber) -> Bench
     requires { j.0 < 8 }
     ensures { result ≡ bench_in station j }
 {
-    let t = tables_at(station, j);
-    let x = t.x;
-    let bank = t.bank;
-    let help = t.help;
+    let Tables { x, bank, help } = tables_at(station, j);
     Bench {
         n: station.n,
         w: station.w,
@@ -40,14 +34,12 @@ pub fn bench_of(station: Station, j: RecordNumber) -> Bench
 }
 
 // The tables of record j, put back.
-pub fn put_tables(station: Station, j: RecordNumber, t: Tables) -> Station
+pub fn put_tables(mut station: Station, j: RecordNumber, t: Tables) -> Station
     requires { j.0 < 8 }
     ensures { result ≡ with_tables station j t }
 {
-    let i = j.0 as usize;
-    let mut next = station;
-    next.tables[i] = t;
-    next
+    station.tables[j.0 as usize] = t;
+    station
 }
 
 // The tables of a bench, put back as those of record j.
@@ -55,9 +47,7 @@ pub fn put_bench(station: Station, j: RecordNumber, bench: Bench) -> Station
     requires { j.0 < 8 }
     ensures { result ≡ with_tables station j (put_tables bench) }
 {
-    let x = bench.x;
-    let bank = bench.bank;
-    let help = bench.help;
+    let Bench { x, bank, help, .. } = bench;
     put_tables(station, j, Tables { x, bank, help })
 }
 
@@ -66,18 +56,14 @@ pub fn holding_at(q: StationProcess, j: RecordNumber) -> Holding
     requires { j.0 < 8 }
     ensures { result ≡ holding_at q j }
 {
-    let i = j.0 as usize;
-    q.holdings[i]
+    q.holdings[j.0 as usize]
 }
 
 // Whether the open call is on another record than j.
 pub fn is_elsewhere(j: RecordNumber, q: StationProcess) -> bool
     ensures { result ≡ elsewhere j q }
 {
-    if q.line == 0 {
-        return false;
-    }
-    q.called.0 != j.0
+    !q.is_at_rest() && q.called.0 != j.0
 }
 
 // The process record as record j's bench has it.
@@ -86,37 +72,22 @@ pub fn process_of(j: RecordNumber, q: StationProcess) -> Process
     ensures { result ≡ process_of j q }
 {
     let h = holding_at(q, j);
-    let mybuf = h.mybuf;
-    let x = h.x;
-    let b = q.b;
-    let c = q.c;
-    let d = q.d;
-    let e = q.e;
-    if is_elsewhere(j, q) {
-        return Process {
-            mybuf,
-            x,
-            line: 0,
-            word: 0,
-            count: 0,
-            answered: h.answered,
-            b,
-            c,
-            d,
-            e,
-        };
-    }
+    let (line, word, count) = if is_elsewhere(j, q) {
+        (0, 0, 0)
+    } else {
+        (q.line, q.word, q.count)
+    };
     Process {
-        mybuf,
-        x,
-        line: q.line,
-        word: q.word,
-        count: q.count,
+        mybuf: h.mybuf,
+        x: h.x,
+        line,
+        word,
+        count,
         answered: h.answered,
-        b,
-        c,
-        d,
-        e,
+        b: q.b,
+        c: q.c,
+        d: q.d,
+        e: q.e,
     }
 }
 
@@ -124,10 +95,7 @@ pub fn process_of(j: RecordNumber, q: StationProcess) -> Process
 fn called_after(j: RecordNumber, line: u8) -> RecordNumber
     ensures { result ≡ record { 0 = cond (eqb line 0) 0 j.0 } }
 {
-    if line == 0 {
-        return RecordNumber(0);
-    }
-    j
+    if line == 0 { RecordNumber(0) } else { j }
 }
 
 // What record j's bench made of a process, put back.
@@ -135,29 +103,21 @@ pub fn put_process(j: RecordNumber, q: StationProcess, u: Process) -> StationPro
     requires { j.0 < 8 }
     ensures { result ≡ put_process j q u }
 {
-    let i = j.0 as usize;
-    let mybuf = u.mybuf;
-    let x = u.x;
-    let holding = Holding {
-        mybuf,
-        x,
+    let mut holdings = q.holdings;
+    holdings[j.0 as usize] = Holding {
+        mybuf: u.mybuf,
+        x: u.x,
         answered: u.answered,
     };
-    let mut holdings = q.holdings;
-    holdings[i] = holding;
-    let b = u.b;
-    let c = u.c;
-    let d = u.d;
-    let e = u.e;
     StationProcess {
         holdings,
         called: called_after(j, u.line),
         line: u.line,
         word: u.word,
         count: u.count,
-        b,
-        c,
-        d,
-        e,
+        b: u.b,
+        c: u.c,
+        d: u.d,
+        e: u.e,
     }
 }

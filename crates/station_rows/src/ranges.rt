@@ -1,5 +1,6 @@
 // Row 9 of a station: every record's tables, every process as each record's bench has it, and the record numbers.
 ghost use Rattle.std.specs.Prelude.{◌≡◌, [], ◌≤◌, take};
+ghost use Rattle.std.specs.List.{list_all};
 ghost use Rattle.llsc.specs.Rows.{every};
 ghost use Rattle.model.specs.Refusals.{bench_ok, process_ok};
 ghost use Rattle.model.specs.SetUp.{numbers};
@@ -8,23 +9,13 @@ ghost use Rattle.station.specs.Projection.{process_of};
 ghost use Rattle.station.specs.StationRefusals.{called_ok, station_process_ok, station_in_range};
 ghost use Rattle.station_records.specs.TakenOut.{bench_in};
 
-use lines::points;
 use station::{RecordNumber, Station, StationProcess};
-use station_records::processes::Processes;
 
 // The open call's record is below R, and 0 when idle.
 pub fn called_ok(r: usize, q: StationProcess) -> bool
     ensures { result ≡ called_ok r q }
 {
-    let called = q.called;
-    let line = q.line;
-    if (called.0 as usize) >= r {
-        return false;
-    }
-    if line != points::IDLE {
-        return true;
-    }
-    called.0 == 0
+    (q.called.0 as usize) < r && (!q.is_at_rest() || q.called.0 == 0)
 }
 
 // The process as each of the R records' benches has it.
@@ -32,13 +23,11 @@ pub fn seen_ok(n: usize, w: usize, r: usize, q: StationProcess) -> bool
     requires { (n ≤ 16) × ((w ≤ 64) × (r ≤ 8)) }
     ensures { result ≡ every (λ j. process_ok n w (process_of (record { 0 = j }) q)) (numbers 0 r) }
 {
-    let mut j = 0;
-    while j < r {
+    for j in 0..r {
         let process = station_records::process_of(RecordNumber(j as u8), q);
         if !rows::ranges::process_ok(n, w, process) {
             return false;
         }
-        j += 1;
     }
     true
 }
@@ -48,26 +37,15 @@ pub fn process_ok(n: usize, w: usize, r: usize, q: StationProcess) -> bool
     requires { (n ≤ 16) × ((w ≤ 64) × (r ≤ 8)) }
     ensures { result ≡ station_process_ok n w r q }
 {
-    if !called_ok(r, q) {
-        return false;
-    }
-    seen_ok(n, w, r, q)
+    called_ok(r, q) && seen_ok(n, w, r, q)
 }
 
 // The first N of sixteen process records.
-pub fn processes_ok(n: usize, w: usize, r: usize, all: Processes) -> bool
+fn processes_ok(n: usize, w: usize, r: usize, all: [StationProcess; 16]) -> bool
     requires { (n ≤ 16) × ((w ≤ 64) × (r ≤ 8)) }
-    ensures { result ≡ every (station_process_ok n w r) (take n all.list) }
+    ensures { result ≡ list_all (station_process_ok n w r) (take n all) }
 {
-    let mut i = 0;
-    while i < n {
-        let q = all.list[i];
-        if !process_ok(n, w, r, q) {
-            return false;
-        }
-        i += 1;
-    }
-    true
+    all.iter().take(n).all(|q| process_ok(n, w, r, *q))
 }
 
 // The tables of the R records.
@@ -75,25 +53,20 @@ pub fn benches_ok(station: Station) -> bool
     requires { (station.n ≤ 16) × (station.r ≤ 8) }
     ensures { result ≡ every (λ j. bench_ok (bench_in station (record { 0 = j }))) (numbers 0 station.r) }
 {
-    let r = station.r;
-    let mut j = 0;
-    while j < r {
+    for j in 0..station.r {
         let bench = station_records::bench_of(station, RecordNumber(j as u8));
         if !rows::ranges::bench_ok(bench) {
             return false;
         }
-        j += 1;
     }
     true
 }
 
 // Row 9, over the station record and the process records.
-pub fn in_range(station: Station, all: Processes) -> bool
+#[tactic(auto, using(laws::proofs::ListLaws::every_is_all), unfolding(station::specs::StationRefusals::station_in_range))]
+pub fn in_range(station: Station, all: [StationProcess; 16]) -> bool
     requires { (station.n ≤ 16) × ((station.w ≤ 64) × (station.r ≤ 8)) }
-    ensures { result ≡ station_in_range (station_memory station all.list []) }
+    ensures { result ≡ station_in_range (station_memory station all []) }
 {
-    if !benches_ok(station) {
-        return false;
-    }
-    processes_ok(station.n, station.w, station.r, all)
+    benches_ok(station) && processes_ok(station.n, station.w, station.r, all)
 }

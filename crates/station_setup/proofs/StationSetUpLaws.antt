@@ -1,7 +1,7 @@
 -- The set-up of a station: one record more, and what it means that no row holds.
 use mathlib.Core.Path.{◌≡◌, refl, sym, ap, ap₂, ◌∙◌}
 use mathlib.Core.List.{List, [], ◌∷◌, ◌++◌, append_assoc}
-use mathlib.Core.Bool.{false, cond}
+use mathlib.Core.Bool.{Bool, true, false, cond}
 use Prim.Native.Nat.{ℕ, zero, suc, ◌+◌, ◌-◌, ◌*◌, ◌≤◌, ◌<◌}
 use native.Mathlib.Nat.{mul-le-mul, mul-le-mul_right}
 use native.Mathlib.Omega.{arith}
@@ -23,7 +23,6 @@ use Rattle.station.specs.StationSetUp.{firsts, tables_at_set_up, blocks, station
 use Rattle.station_facts.proofs.Firsts.{firsts_later, firsts_next}
 use Rattle.station_records.specs.TakenOut.{bench_in, with_tables}
 use Rattle.station_rows.proofs.StationRowLaws.{begins_lent}
-use Rattle.station_setup.specs.declared.Prepared.{Prepared}
 use Rattle.station_setup.specs.StationSetUpByValue.{station_set_up_number, tables_set, sized, block, Admitted, station_prepared, processes_set}
 
 -- the tables of one record more
@@ -118,14 +117,28 @@ module _ (s : Station) (len n w r : ℕ) (value ws : List ℕ) where
   abbrev number : ℕ
   number = station_set_up_number n w r len (length ws) (length value)
 
-  pub prepared_refused : (k : ℕ) → k ≡ number → (k ≡ 0 → ⊥) → ◌≡◌ {A = Prepared × List ℕ} (record { number = k; station = s }, ws) (station_prepared s len n w r value ws)
+  pub prepared_refused : (k : ℕ) → k ≡ number → (k ≡ 0 → ⊥) → ◌≡◌ {A = (ℕ × Station) × List ℕ} ((k, s), ws) (station_prepared s len n w r value ws)
   unfolding station_prepared
   prepared_refused k e h = rw e (simp (ne_eqb number 0 (λ z. h (e ∙ z))))
 
   pub prepared_done : number ≡ 0
-      → ◌≡◌ {A = Prepared × List ℕ} (record { number = 0; station = sized (tables_set s n r) n w r }, sets ws 0 (blocks r n w value)) (station_prepared s len n w r value ws)
+      → ◌≡◌ {A = (ℕ × Station) × List ℕ} ((0, sized (tables_set s n r) n w r), sets ws 0 (blocks r n w value)) (station_prepared s len n w r value ws)
   unfolding station_prepared
   prepared_done e = simp (eq-eqb number 0 e)
+
+  abbrev accepted : (ℕ × Station) × List ℕ
+  accepted = ((0, sized (tables_set s n r) n w r), sets ws 0 (blocks r n w value))
+
+  abbrev refused : (ℕ × Station) × List ℕ
+  refused = ((number, s), ws)
+
+  pub prepared_number : (station_prepared s len n w r value ws).0.0 ≡ number
+  unfolding station_prepared
+  prepared_number = go (eqb number 0) refl
+    where
+      go : (t : Bool) → eqb number 0 ≡ t → (cond t accepted refused).0.0 ≡ number
+      go true e = sym (eqb-true number 0 e)
+      go false e = refl
 
 -- what the by-value set-up makes, with the process records set up too, is the set-up
 pub set_up_law : (s : Station) (ps : List StationProcess) (ws : List ℕ) (n w r : ℕ) (value : List ℕ)

@@ -1,35 +1,30 @@
 -- What the set-up makes of a station record, of gathered process records and of the lent words.
 -- Inner: `StoredSetUp` proves that this, stored back, is `station`'s set-up.
-use Rattle.std.specs.Prelude.{ℕ, List, cond, eqb}
+use Rattle.std.specs.Prelude.{ℕ, List, cond, eqb, Result, Ok, Err}
+use Rattle.llsc.specs.declared.refusals.Refusal.{Refusal}
+use Rattle.llsc.specs.Refusals.{refusal_number}
 use Rattle.station.specs.declared.Station.{Station}
 use Rattle.station.specs.declared.StationProcess.{StationProcess}
 use Rattle.station.specs.Station.{StationMemory, station_memory}
 use Rattle.station.specs.StationSetUp.{firsts}
-use Rattle.station_records.specs.declared.processes.Processes.{Processes}
 use Rattle.station_records.specs.Gathered.{processes_stored}
-use Rattle.station_setup.specs.declared.Prepared.{Prepared}
 use Rattle.station_setup.specs.StationSetUpByValue.{process_for, station_prepared}
 use Rattle.station_setup.specs.declared.gathered.NewSetUp.{NewSetUp}
 
--- how many process records a set-up writes, by the number of its refusal
-abbrev pub to_write : ℕ → ℕ → ℕ
-to_write number n = cond (eqb number 0) n 0
+-- a set-up by value, with its process records: a refused one changes none
+abbrev pub with_processes : List StationProcess → ℕ → ℕ → (ℕ × Station) × List ℕ → ((ℕ × Station) × List StationProcess) × List ℕ
+with_processes all n r out = ((out.0, cond (eqb out.0.0 0) (firsts (process_for n r) 0 n all) all), out.1)
 
--- a set-up by value, with its process records
-abbrev pub with_processes : Processes → ℕ → ℕ → Prepared × List ℕ → NewSetUp × List ℕ
-with_processes all n r out = (
-  record {
-    station = out.0.station;
-    all = record { list = firsts (process_for n r) 0 (to_write out.0.number n) all.list };
-    stored = to_write out.0.number n;
-    number = out.0.number;
-  },
-  out.1,
-)
-
-abbrev pub set_up_gathered : Station → Processes → ℕ → ℕ → ℕ → ℕ → List ℕ → List ℕ → NewSetUp × List ℕ
+abbrev pub set_up_gathered :
+    Station → List StationProcess → ℕ → ℕ → ℕ → ℕ → List ℕ → List ℕ → ((ℕ × Station) × List StationProcess) × List ℕ
 set_up_gathered s all len n w r v ws = with_processes all n r (station_prepared s len n w r v ws)
 
--- what it comes to, stored back
-abbrev pub stored_up : List StationProcess → NewSetUp × List ℕ → ℕ × StationMemory
-stored_up ps out = (out.0.number, station_memory out.0.station (processes_stored ps out.0.all.list out.0.stored) out.1)
+-- its outcome as the number of its refusal, 0 for none, the station record and the process records
+abbrev pub told_all : Station → List StationProcess → Result NewSetUp Refusal → (ℕ × Station) × List StationProcess
+told_all s all (Ok set) = ((0, set.station), set.all)
+told_all s all (Err refusal) = ((refusal_number refusal, s), all)
+
+-- what it comes to, the first n process records of it stored back where it is done
+abbrev pub stored_up : List StationProcess → ℕ → ((ℕ × Station) × List StationProcess) × List ℕ → ℕ × StationMemory
+stored_up ps n out =
+    (out.0.0.0, station_memory out.0.0.1 (cond (eqb out.0.0.0 0) (processes_stored ps out.0.1 n) ps) out.1)

@@ -4,64 +4,47 @@
 
 ghost use Rattle.std.specs.Prelude.{◌≡◌, ◌++◌, ◌+◌, ◌*◌, ◌-◌, ◌≤◌, length, replicate};
 ghost use Rattle.std.proofs.lemmas.List.Edits.{sets};
+ghost use Rattle.llsc.specs.Refusals.{number_told};
 ghost use Rattle.model.specs.Sizes.{buffers, sequence_numbers};
 ghost use Rattle.station.specs.Station.{no_holding};
 ghost use Rattle.station.specs.StationSetUp.{holding_at_set_up, station_process_at_set_up, blocks, firsts};
-ghost use Rattle.station_setup.specs.StationSetUpByValue.{process_for, station_set_up_number, tables_set, sized, Admitted, block, station_prepared};
+ghost use Rattle.station_setup.specs.StationSetUpByValue.{process_for, station_set_up_number, tables_set, sized, Admitted, block, told, station_prepared};
 
-use llsc::ProcessNumber;
+use llsc::refusals::Refusal;
 use model::{BufferNumber, SequenceNumber, XContent, sizes};
-use rows::causes as plain;
 use station::{Holding, RecordNumber, Station, StationProcess};
-use station_records::processes;
-use station_records::processes::Processes;
 use station_rows::{causes, table};
 use words::word_runs;
 
 pub mod gathered;
 
-// The number of a set-up's refusal, 0 for none, and the station record after it.
-#[derive(Clone, Copy)]
-pub struct Prepared {
-    pub number: u8,
-    pub station: Station,
-}
-
 // The refusal by the lengths of what is lent: rows 1, 2, 23, 3, 8.
-pub fn set_up_number(
+#[tactic(auto, unfolding(crate::specs::StationSetUpByValue::station_set_up_number, station_rows::specs::StationCommandRows::station_lent_number))]
+pub fn set_up_refusal(
     n: usize,
     w: usize,
     r: usize,
     processes: usize,
     words: usize,
     value: usize,
-) -> u8
-    ensures { result ≡ station_set_up_number n w r processes words value }
+) -> Result<(), Refusal>
+    ensures { number_told result ≡ station_set_up_number n w r processes words value }
 {
-    let number = table::lent_refusal(n, w, r, processes, words);
-    if number != 0 {
-        return number;
-    }
-    if value != w {
-        return plain::VALUE_NOT_W_WORDS;
-    }
-    0
+    table::lent_refusal(n, w, r, processes, words)?;
+    Refusal::ValueNotWWords.if_holds(value != w)
 }
 
 // The tables of the first r records.
-pub fn with_tables(station: Station, n: usize, w: usize, r: usize) -> Station
+pub fn with_tables(mut station: Station, n: usize, w: usize, r: usize) -> Station
     requires { (n ≤ 16) × (r ≤ 8) }
     ensures { result ≡ tables_set station n r }
 {
-    let mut next = station;
-    let mut j = 0;
-    while j < r {
-        let bench = station_records::bench_of(next, RecordNumber(j as u8));
+    for j in 0..r {
+        let bench = station_records::bench_of(station, RecordNumber(j as u8));
         let set = setup::bench_at_set_up(bench, n, w);
-        next = station_records::put_bench(next, RecordNumber(j as u8), set);
-        j += 1;
+        station = station_records::put_bench(station, RecordNumber(j as u8), set);
     }
-    next
+    station
 }
 
 // N, W, R and the tables.
@@ -91,10 +74,8 @@ pub fn words_at_set_up(words: &mut [u64], n: usize, w: usize, r: usize, value: &
     ensures { words.new ≡ sets words.old 0 (blocks r n w value.now) }
 {
     let each = sizes::buffers(n) * w;
-    let mut j = 0;
-    while j < r {
+    for j in 0..r {
         block_at_set_up(words, j * each, each, value);
-        j += 1;
     }
     word_runs::fill(words, r * each, causes::station_words(n, w, r), 0);
 }
@@ -120,10 +101,8 @@ pub fn process_at_set_up(n: usize, r: usize, p: usize, q: StationProcess) -> Sta
 {
     let h = holding_at_set_up((sizes::sequence_numbers(n) + p) as u8);
     let mut holdings = q.holdings;
-    let mut j = 0;
-    while j < r {
+    for j in 0..r {
         holdings[j] = h;
-        j += 1;
     }
     StationProcess {
         holdings,
@@ -139,38 +118,34 @@ pub fn process_at_set_up(n: usize, r: usize, p: usize, q: StationProcess) -> Sta
 }
 
 // The record of process i at a set-up for N = n and R = r; where there is no such process, or no such set-up, it stays.
+#[tactic(auto, unfolding(crate::specs::StationSetUpByValue::process_for))]
 pub fn process_for(n: usize, r: usize, i: usize, q: StationProcess) -> StationProcess
     ensures { result ≡ process_for n r i q }
 {
-    if 16 < n {
-        return q;
+    if 16 < n || 8 < r || 16 < i {
+        q
+    } else {
+        process_at_set_up(n, r, i, q)
     }
-    if 8 < r {
-        return q;
-    }
-    if 16 < i {
-        return q;
-    }
-    process_at_set_up(n, r, i, q)
 }
 
 // The first `count` of sixteen process records.
-pub fn processes_at_set_up(all: Processes, n: usize, r: usize, count: usize) -> Processes
+pub fn processes_at_set_up(
+    mut all: [StationProcess; 16],
+    n: usize,
+    r: usize,
+    count: usize,
+) -> [StationProcess; 16]
     requires { count ≤ 16 }
-    ensures { result ≡ record { list = firsts (process_for n r) 0 count all.list } }
+    ensures { result ≡ firsts (process_for n r) 0 count all }
 {
-    let mut next = all;
-    let mut i = 0;
-    while i < count {
-        let me = ProcessNumber(i as u8);
-        let q = process_for(n, r, i, processes::process_at(next, me));
-        next = processes::with_process(next, me, q);
-        i += 1;
+    for i in 0..count {
+        all[i] = process_for(n, r, i, all[i]);
     }
-    next
+    all
 }
 
-// The whole set-up but for the process records, of which `len` are lent: refused with its number, or done.
+// The whole set-up but for the process records, of which `len` are lent: refused, or the station record after it.
 pub fn prepare(
     station: Station,
     len: usize,
@@ -179,16 +154,10 @@ pub fn prepare(
     r: usize,
     value: &[u64],
     words: &mut [u64],
-) -> Prepared
-    ensures { (result, words.new) ≡ station_prepared station len n w r value.now words.old }
+) -> Result<Station, Refusal>
+    ensures { (told station result, words.new) ≡ station_prepared station len n w r value.now words.old }
 {
-    let number = set_up_number(n, w, r, len, words.len(), value.len());
-    if number != 0 {
-        return Prepared { number, station };
-    }
+    set_up_refusal(n, w, r, len, words.len(), value.len())?;
     words_at_set_up(words, n, w, r, value);
-    Prepared {
-        number: 0,
-        station: station_at_set_up(station, n, w, r),
-    }
+    Ok(station_at_set_up(station, n, w, r))
 }

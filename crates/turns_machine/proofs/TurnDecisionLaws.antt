@@ -19,7 +19,7 @@ use Rattle.station.specs.Projection.{at_rest}
 use Rattle.station.specs.StationRefusals.{StationOrder, station_in_range}
 use Rattle.station.specs.StationCommand.{station_command}
 use Rattle.station.specs.StationSetUp.{empty_process}
-use Rattle.station_records.specs.Gathered.{gathered}
+use Rattle.lent.specs.Gathered.{gathered}
 use Rattle.station_rows.specs.StationCommandRows.{station_memory_number}
 use Rattle.station_rows.proofs.StationRowLaws.{same_then, memory_lent}
 use Rattle.station_machine.specs.declared.Outcome.{Outcome}
@@ -82,7 +82,7 @@ or_same false f = f refl
 
 module _ (s : Station) (ps : List StationProcess) (ws : List ℕ) (p : ℕ) (next : NextCall) (v : List ℕ) where
   abbrev all : List StationProcess
-  all = (gathered ps empty_process 16).list
+  all = gathered ps empty_process 16
 
   abbrev lent : StationMemory
   lent = station_memory s ps ws
@@ -153,7 +153,7 @@ module _ (s : Station) (ps : List StationProcess) (ws : List ℕ) (p : ℕ) (nex
         either (counts_as_idle lent p) (idle left) busy (idle_turn lent p calls) (turn_commands lent (step_by p) calls)
         (λ _. idles left) (λ _. commands Step 0 [] calls left (sym (length-replicate left call)))
 
-    pub turn_law : stored_turn ps (turn_decided s (gathered ps empty_process 16).list (length ps) p next left v ws) ≡
+    pub turn_law : stored_turn ps (turn_decided s (gathered ps empty_process 16) (length ps) p next left v ws) ≡
         turn_of (station_memory s ps ws) p next v left
     unfolding turn_decided turn_of turn
     turn_law =

@@ -3,23 +3,19 @@
 #![tactic(auto)]
 
 ghost use Rattle.std.specs.Prelude.{◌≡◌, ◌<◌, length};
+ghost use Rattle.llsc.specs.Refusals.{refusal_number};
 ghost use Rattle.station_rows.specs.StationCommandRows.{station_memory_number};
 ghost use Rattle.station_machine.specs.StationDecision.{station_decided};
 ghost use Rattle.turns_machine.specs.TurnDecision.{unchanged_turn, refused_turn, commanded_turn, commanded_at};
 ghost use Rattle.turns_machine.specs.TurnDecision.{rests_in, turn_decided};
 
-use lines::points;
-use llsc::{Order, ProcessNumber};
+use llsc::Order;
+use llsc::refusals::Refusal;
 use model::Reply;
 use station::{Station, StationProcess};
 use station_machine::Outcome;
-use station_records::processes;
-use station_records::processes::Processes;
 use station_rows::table;
 use turns_model::{NextCall, TurnReply, Turned};
-
-// The number for a turn that is neither 0 nor 1.
-const NO_SUCH_TURN: u8 = 22;
 
 // What a turn comes to. The caller stores `process` at place `at`; where no command was obeyed, that is the place after
 // the last record, where a store does nothing.
@@ -43,51 +39,41 @@ fn unchanged(station: Station, len: usize, reply: TurnReply, left: usize) -> Tur
     }
 }
 
-fn refused(station: Station, len: usize, number: u8, left: usize) -> TurnOutcome
-    ensures { result ≡ refused_turn station len number left }
+fn refused(station: Station, len: usize, refusal: Refusal, left: usize) -> TurnOutcome
+    ensures { result ≡ refused_turn station len (refusal_number refusal) left }
 {
-    unchanged(
-        station,
-        len,
-        TurnReply::Replied(Reply::Refused(number)),
-        left,
-    )
+    // Kept: 01 promises its users a number.
+    let reply = Reply::Refused(refusal.number());
+    unchanged(station, len, TurnReply::Replied(reply), left)
 }
 
 fn commanded(out: Outcome, left: usize) -> TurnOutcome
     ensures { result ≡ commanded_turn left out }
 {
-    let station = out.station;
-    let process = out.process;
-    let reply = out.reply;
     TurnOutcome {
-        station,
+        station: out.station,
         at: out.at,
-        process,
+        process: out.process,
         turned: Turned {
-            reply: TurnReply::Replied(reply),
+            reply: TurnReply::Replied(out.reply),
             left,
         },
     }
 }
 
 // Whether process p has no open call; at N = 1 process 1 has none.
-fn counts_as_idle(n: usize, all: Processes, p: usize) -> bool
+fn counts_as_idle(n: usize, all: [StationProcess; 16], p: usize) -> bool
     requires { p < 16 }
-    ensures { result ≡ rests_in n all.list p }
+    ensures { result ≡ rests_in n all p }
 {
-    if n <= p {
-        return true;
-    }
-    let q = processes::process_at(all, ProcessNumber(p as u8));
-    q.line == points::IDLE
+    n <= p || all[p].is_at_rest()
 }
 
 // The command that the turn gives, with `left` calls left after it. The lent memory is in order, and is not looked at
 // again.
 fn command(
     station: Station,
-    all: Processes,
+    all: [StationProcess; 16],
     len: usize,
     p: usize,
     order: Order,
@@ -96,13 +82,13 @@ fn command(
     value: &[u64],
     words: &mut [u64],
 ) -> TurnOutcome
-    requires { station_memory_number station all.list len (length words.old) ≡ 0 }
+    requires { station_memory_number station all len (length words.old) ≡ 0 }
     ensures { (result, words.new)
         ≡ commanded_at left
-        (station_decided station all.list len p order named value.now words.old) }
+        (station_decided station all len p order named value.now words.old) }
 {
-    let number = table::late_refusal(station, all, p, order, named, value.len());
-    let out = station_machine::decide_by(number, station, all, len, p, order, named, value, words);
+    let refusal = table::late_refusal(station, all, p, order, named, value.len());
+    let out = station_machine::decide_by(refusal, station, all, len, p, order, named, value, words);
     commanded(out, left)
 }
 
@@ -110,7 +96,7 @@ fn command(
 // `next` is the first of the `left` calls on the list of process `turn`, and `value` the words that it brings.
 pub fn decide_turn(
     station: Station,
-    all: Processes,
+    all: [StationProcess; 16],
     len: usize,
     turn: usize,
     next: NextCall,
@@ -119,14 +105,13 @@ pub fn decide_turn(
     words: &mut [u64],
 ) -> TurnOutcome
     ensures { (result, words.new)
-        ≡ turn_decided station all.list len turn next left value.now words.old }
+        ≡ turn_decided station all len turn next left value.now words.old }
 {
     if turn > 1 {
-        return refused(station, len, NO_SUCH_TURN, left);
+        return refused(station, len, Refusal::NotASchedule, left);
     }
-    let number = table::memory_refusal(station, all, len, words.len());
-    if number != 0 {
-        return refused(station, len, number, left);
+    if let Err(refusal) = table::memory_refusal(station, all, len, words.len()) {
+        return refused(station, len, refusal, left);
     }
     if !counts_as_idle(station.n, all, turn) {
         return command(
@@ -144,8 +129,7 @@ pub fn decide_turn(
     if left == 0 {
         return unchanged(station, len, TurnReply::Passed, 0);
     }
-    let kind = next.kind;
-    let order = turns_model::start_of(kind);
+    let order = Order::from(next.kind);
     command(
         station,
         all,

@@ -38,12 +38,14 @@ pub struct Turned {
 }
 
 // The order that starts a call.
-pub fn start_of(kind: CallKind) -> Order
-    ensures { result ≡ start_of kind }
-{
-    match kind {
-        CallKind::Ll => Order::StartLl,
-        CallKind::Sc => Order::StartSc,
-        CallKind::Vl => Order::StartVl,
+impl From<CallKind> for Order {
+    ghost from_gives = { λ kind order. order ≡ start_of kind };
+
+    fn from(kind: CallKind) -> Order {
+        match kind {
+            CallKind::Ll => Order::StartLl,
+            CallKind::Sc => Order::StartSc,
+            CallKind::Vl => Order::StartVl,
+        }
     }
 }

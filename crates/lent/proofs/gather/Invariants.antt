@@ -1,10 +1,7 @@
--- at i, the records so far are `gathered processes none i`
-use Rattle.std.proofs.Common.{◌-◌, ◌≡◌, ◌≤◌}
-use Rattle.station_records.specs.Gathered.{gathered}
+-- at i, the records so far are `gathered records none i`
+use Rattle.std.proofs.Common.{◌≡◌}
+use Rattle.lent.specs.Gathered.{gathered}
 use Rattle.lent.proofs.gather.Given as goal
 
 abbrev pub invariant-loop-i : goal.invariant-loop-i
-invariant-loop-i l = (l.i ≤ 16) × (l.all ≡ gathered l.processes l.none l.i)
-
-abbrev pub decreases-loop-i : goal.decreases-loop-i
-decreases-loop-i l = 16 - l.i
+invariant-loop-i g l = l.all ≡ gathered l.records l.none l.i

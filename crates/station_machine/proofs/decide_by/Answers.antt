@@ -1,88 +1,73 @@
 -- `station_machine::decide_by` meets its contract: a refusal changes nothing, and where no row holds the order is obeyed.
-use mathlib.Core.Path.{◌≡◌, sym, ap, ◌∙◌}
+use mathlib.Core.Path.{◌≡◌, refl, sym, ap, ◌∙◌}
 use native.Mathlib.Omega.{arith}
-use lib.ListN.{length, length-map}
+use lib.ListN.{length}
 use Prim.Native.Nat.{◌<◌}
+use Rattle.llsc.specs.Refusals.{refusal_number, number_told}
+use Rattle.rows.proofs.Refused.{number_some}
 use Rattle.station_machine.specs.declared.Outcome.{Outcome}
 use Rattle.station_machine.proofs.StationObeyLaws.{process_small, record_small, sizes_small, refused_law, taken_obeyable, whole}
-use borrow.Author.Rules.{rules}
 use Rattle.station_machine.proofs.decide_by.Goals as goal
 
-pub returns-then-number-ne0 : goal.returns-then-number-ne0
-returns-then-number-ne0 c =
-    let a = c.args in
+pub returns-in-Err : goal.returns-in-Err
+returns-in-Err c =
+    let a = c.args in let r = c.in-Err.refusal in
     ap (λ (m : Outcome). (m, a.words.now)) c.refused.ensures ∙
-    refused_law
-    a.station a.all.list a.len a.p a.order a.named a.value.now a.words.now
-    a.number c.requires c.if-number-ne0.true
+    refused_law a.station a.all a.len a.p a.order a.named a.value.now a.words.now
+    (refusal_number r) (sym (ap number_told c.in-Err.is) ∙ c.requires) (number_some r)
 
 pub overflow_cast-me : goal.overflow_cast-me
 overflow_cast-me c =
     let a = c.args in
-    let none = sym c.requires ∙ c.if-number-ne0.false in
-    let sixteen : length a.all.list ≡ 16 = omega arith in
-    omega (
-      arith,
-      process_small
-          a.station a.all.list a.len a.p a.order a.named a.value.now a.words.now
-          sixteen none,
-    )
+    let none = sym c.requires ∙ ap number_told c.in_default.is in
+    let sixteen : length a.all ≡ 16 = omega arith in
+    omega (arith, process_small a.station a.all a.len a.p a.order a.named a.value.now a.words.now sixteen none)
 
-pub process_at-q-requires : goal.process_at-q-requires
-process_at-q-requires c =
+pub offset_bounds-all-p : goal.offset_bounds-all-p
+offset_bounds-all-p c =
     let a = c.args in
-    let none = sym c.requires ∙ c.if-number-ne0.false in
-    let sixteen : length a.all.list ≡ 16 = omega arith in
-    process_small
-    a.station a.all.list a.len a.p a.order a.named a.value.now a.words.now
-    sixteen none
+    let none = sym c.requires ∙ ap number_told c.in_default.is in
+    let sixteen : length a.all ≡ 16 = omega arith in
+    omega (arith, process_small a.station a.all a.len a.p a.order a.named a.value.now a.words.now sixteen none)
+
+pub bounds-all-p : goal.bounds-all-p
+bounds-all-p c =
+    let a = c.args in
+    let none = sym c.requires ∙ ap number_told c.in_default.is in
+    let sixteen : length a.all ≡ 16 = omega arith in
+    process_small a.station a.all a.len a.p a.order a.named a.value.now a.words.now sixteen none
 
 pub overflow_cast-j : goal.overflow_cast-j
 overflow_cast-j c =
     let a = c.args in
-    let none = sym c.requires ∙ c.if-number-ne0.false in
-    let sixteen : length a.all.list ≡ 16 = omega arith in
-    let small : c.record_about.result < 8 = rw (c.record_about.ensures, c.process_at-q.ensures) (record_small
-    a.station a.all.list a.len a.p a.order a.named a.value.now a.words.now
-    sixteen none) in
+    let none = sym c.requires ∙ ap number_told c.in_default.is in
+    let sixteen : length a.all ≡ 16 = omega arith in
+    let small : c.record_about.result < 8 = rw c.record_about.ensures (record_small
+    a.station a.all a.len a.p a.order a.named a.value.now a.words.now sixteen none) in
     omega (arith, small)
 
 pub bench_of-bench-requires : goal.bench_of-bench-requires
 bench_of-bench-requires c =
     let a = c.args in
-    let none = sym c.requires ∙ c.if-number-ne0.false in
-    let sixteen : length a.all.list ≡ 16 = omega arith in
-    rw (c.record_about.ensures, c.process_at-q.ensures) (record_small
-    a.station a.all.list a.len a.p a.order a.named a.value.now a.words.now
-    sixteen none)
-
-pub process_of-process-requires : goal.process_of-process-requires
-process_of-process-requires c =
-    let a = c.args in
-    let none = sym c.requires ∙ c.if-number-ne0.false in
-    let sixteen : length a.all.list ≡ 16 = omega arith in
-    rw (c.record_about.ensures, c.process_at-q.ensures) (record_small
-    a.station a.all.list a.len a.p a.order a.named a.value.now a.words.now
-    sixteen none)
+    let none = sym c.requires ∙ ap number_told c.in_default.is in
+    let sixteen : length a.all ≡ 16 = omega arith in
+    rw c.record_about.ensures (record_small a.station a.all a.len a.p a.order a.named a.value.now a.words.now sixteen none)
 
 pub rows_of-rows-requires : goal.rows_of-rows-requires
 rows_of-rows-requires c =
     let a = c.args in
-    let none = sym c.requires ∙ c.if-number-ne0.false in
-    let sixteen : length a.all.list ≡ 16 = omega arith in
-    sizes_small
-    a.station a.all.list a.len a.p a.order a.named a.value.now a.words.now
-    sixteen none
+    let none = sym c.requires ∙ ap number_told c.in_default.is in
+    let sixteen : length a.all ≡ 16 = omega arith in
+    sizes_small a.station a.all a.len a.p a.order a.named a.value.now a.words.now sixteen none
 
 pub obey_in-moved-requires : goal.obey_in-moved-requires
 obey_in-moved-requires c =
     let a = c.args in
-    let none = sym c.requires ∙ c.if-number-ne0.false in
-    let sixteen : length a.all.list ≡ 16 = omega arith in
-    taken_obeyable
-    a.station a.all.list a.len a.p a.order a.named a.value.now a.words.now
+    let none = sym c.requires ∙ ap number_told c.in_default.is in
+    let sixteen : length a.all ≡ 16 = omega arith in
+    taken_obeyable a.station a.all a.len a.p a.order a.named a.value.now a.words.now
     (record {
-      process_is = c.process_at-q.ensures;
+      process_is = refl;
       number_is = c.record_about.ensures;
       bench_is = c.bench_of-bench.ensures;
       seen_is = c.process_of-process.ensures;
@@ -90,23 +75,13 @@ obey_in-moved-requires c =
     })
     sixteen none
 
-pub obeyed-requires : goal.obeyed-requires
-obeyed-requires c =
-    let a = c.args in
-    let none = sym c.requires ∙ c.if-number-ne0.false in
-    let sixteen : length a.all.list ≡ 16 = omega arith in
-    rw (c.record_about.ensures, c.process_at-q.ensures) (record_small
-    a.station a.all.list a.len a.p a.order a.named a.value.now a.words.now
-    sixteen none)
-
 pub returns : goal.returns
 returns c =
     let a = c.args in
-    let none = sym c.requires ∙ c.if-number-ne0.false in
-    whole
-    a.station a.all.list a.len a.p a.order a.named a.value.now a.words.now
+    let none = sym c.requires ∙ ap number_told c.in_default.is in
+    whole a.station a.all a.len a.p a.order a.named a.value.now a.words.now
     (record {
-      process_is = c.process_at-q.ensures;
+      process_is = refl;
       number_is = c.record_about.ensures;
       bench_is = c.bench_of-bench.ensures;
       seen_is = c.process_of-process.ensures;

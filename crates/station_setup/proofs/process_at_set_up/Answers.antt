@@ -14,15 +14,7 @@ use Rattle.station_setup.proofs.process_at_set_up.Goals as goal
 pub loop-j-preserved : goal.loop-j-preserved
 loop-j-preserved c =
     let a = c.args in
-    let eight : length a.q.holdings ≡ 8 = omega arith in (
-      omega arith,
-      ap₂ (λ (l : List Holding) (h : Holding). set l c.loop-j.j h) c.loop-j.invariant.1
-          (c.holding_at_set_up-h.ensures ∙ ap (λ (k : ℕ). holding_at_set_up (k + a.p) 0 no_holding) c.sequence_numbers.ensures)
-          ∙ firsts_next (holding_at_set_up (sequence_numbers a.n + a.p)) c.loop-j.j a.q.holdings no_holding (omega arith),
-    )
-
-pub returns : goal.returns
-returns c =
-    let a = c.args in
-    let all : c.loop-j.j ≡ a.r = omega arith in
-    simp (c.loop-j.invariant.1, all)
+    let eight : length a.q.holdings ≡ 8 = omega arith in
+    ap₂ (λ (l : List Holding) (h : Holding). set l c.loop-j.j h) c.loop-j.invariant
+    (c.holding_at_set_up-h.ensures ∙ ap (λ (k : ℕ). holding_at_set_up (k + a.p) 0 no_holding) c.sequence_numbers.ensures)
+    ∙ firsts_next (holding_at_set_up (sequence_numbers a.n + a.p)) c.loop-j.j a.q.holdings no_holding (omega arith)

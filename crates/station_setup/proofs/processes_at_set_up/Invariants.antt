@@ -1,12 +1,8 @@
 -- `station_setup::processes_at_set_up` meets its contract: the records below i are set up.
 use mathlib.Core.Path.{◌≡◌}
-use Prim.Native.Nat.{◌≤◌, ◌-◌}
 use Rattle.station.specs.StationSetUp.{firsts}
 use Rattle.station_setup.specs.StationSetUpByValue.{process_for}
 use Rattle.station_setup.proofs.processes_at_set_up.Given as goal
 
 abbrev pub invariant-loop-i : goal.invariant-loop-i
-invariant-loop-i l = (l.i ≤ l.count) × (l.next ≡ record { list = firsts (process_for l.n l.r) 0 l.i l.initial.next.list })
-
-abbrev pub decreases-loop-i : goal.decreases-loop-i
-decreases-loop-i l = l.count - l.i
+invariant-loop-i l = l.all ≡ firsts (process_for l.n l.r) 0 l.i l.initial.all

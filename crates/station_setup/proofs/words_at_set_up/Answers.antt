@@ -15,7 +15,7 @@ overflow_mul-each c =
     omega (arith, each_small h.n_most h.w_most c.buffers.ensures)
 
 pub loop-j-init : goal.loop-j-init
-loop-j-init c = (omega arith, refl)
+loop-j-init c = refl
 
 pub overflow_mul-j : goal.overflow_mul-j
 overflow_mul-j c =
@@ -26,14 +26,14 @@ overflow_mul-j c =
 pub block_at_set_up-requires : goal.block_at_set_up-requires
 block_at_set_up-requires c =
     let h = c.requires in
-    let same : length c.loop-j.words ≡ length c.args.words.now = ap length c.loop-j.invariant.1 ∙ simp length-sets in
+    let same : length c.loop-j.words ≡ length c.args.words.now = ap length c.loop-j.invariant ∙ simp length-sets in
     rw c.buffers.ensures (omega (arith, block_fits h c.loop-j.j (omega arith), same), value_fits h)
 
 pub loop-j-preserved : goal.loop-j-preserved
 loop-j-preserved c =
     let a = c.args in
     let next = many_next (buffers a.n * a.w) a.value.now (value_fits c.requires) a.words.now c.loop-j.j in
-    (omega arith, c.block_at_set_up.ensures ∙ simp (c.loop-j.invariant.1, c.buffers.ensures) next)
+    c.block_at_set_up.ensures ∙ simp (c.loop-j.invariant, c.buffers.ensures) next
 
 pub overflow_mul-r : goal.overflow_mul-r
 overflow_mul-r c =
@@ -44,11 +44,11 @@ overflow_mul-r c =
 pub fill-requires : goal.fill-requires
 fill-requires c =
     let fit = areas_fit c.requires in
-    let same : length c.loop-j.words ≡ length c.args.words.now = ap length c.loop-j.invariant.1 ∙ simp length-sets in
+    let same : length c.loop-j.words ≡ length c.args.words.now = ap length c.loop-j.invariant ∙ simp length-sets in
     rw (c.buffers.ensures, c.station_words.ensures) (fit.0, omega (arith, fit.1, same))
 
 pub shape_of-words : goal.shape_of-words
-shape_of-words c = c.words-2-1.given ∙ ap length c.loop-j.invariant.1 ∙ simp length-sets
+shape_of-words c = c.words-2-1.given ∙ ap length c.loop-j.invariant ∙ simp length-sets
 
 pub returns : goal.returns
 returns c =
@@ -57,4 +57,4 @@ returns c =
     let all : c.loop-j.j ≡ a.r = omega arith in
     let areas = many_areas each a.value.now (value_fits c.requires) a.words.now a.r (station_words a.n a.w a.r - a.r * each) in
     let are = ap (sets a.words.now 0) (blocks_are a.n a.w a.r a.value.now c.requires.value_words) in
-    c.fill.ensures ∙ simp (c.station_words.ensures, c.buffers.ensures, c.loop-j.invariant.1, all) (areas ∙ are)
+    c.fill.ensures ∙ simp (c.station_words.ensures, c.buffers.ensures, c.loop-j.invariant, all) (areas ∙ are)

@@ -1,7 +1,7 @@
 -- `station_rows::ranges::benches_ok` meets its contract: the records from j on decide.
 use mathlib.Core.Path.{◌≡◌}
 use mathlib.Core.Bool.{Bool}
-use Prim.Native.Nat.{ℕ, ◌≤◌, ◌-◌}
+use Prim.Native.Nat.{ℕ}
 use Rattle.model.specs.SetUp.{numbers}
 use Rattle.llsc.specs.Rows.{every}
 use Rattle.model.specs.Refusals.{bench_ok}
@@ -15,7 +15,4 @@ abbrev pub bench_ok_at : Station → ℕ → Bool
 bench_ok_at s j = bench_ok (bench_in s (record { 0 = j }))
 
 abbrev pub invariant-loop-j : goal.invariant-loop-j
-invariant-loop-j l = (l.j ≤ l.r) × (every (bench_ok_at l.station) (numbers 0 l.r) ≡ every (bench_ok_at l.station) (from l.j l.r))
-
-abbrev pub decreases-loop-j : goal.decreases-loop-j
-decreases-loop-j l = l.r - l.j
+invariant-loop-j l = every (bench_ok_at l.station) (numbers 0 l.station.r) ≡ every (bench_ok_at l.station) (from l.j l.station.r)

@@ -1,7 +1,7 @@
 -- `station_rows::ranges::seen_ok` meets its contract: the records from j on decide.
 use mathlib.Core.Path.{◌≡◌}
 use mathlib.Core.Bool.{Bool}
-use Prim.Native.Nat.{ℕ, ◌≤◌, ◌-◌}
+use Prim.Native.Nat.{ℕ}
 use Rattle.model.specs.SetUp.{numbers}
 use Rattle.llsc.specs.Rows.{every}
 use Rattle.model.specs.Refusals.{process_ok}
@@ -15,7 +15,4 @@ abbrev pub seen : ℕ → ℕ → StationProcess → ℕ → Bool
 seen n w q j = process_ok n w (process_of (record { 0 = j }) q)
 
 abbrev pub invariant-loop-j : goal.invariant-loop-j
-invariant-loop-j l = (l.j ≤ l.r) × (every (seen l.n l.w l.q) (numbers 0 l.r) ≡ every (seen l.n l.w l.q) (from l.j l.r))
-
-abbrev pub decreases-loop-j : goal.decreases-loop-j
-decreases-loop-j l = l.r - l.j
+invariant-loop-j l = every (seen l.n l.w l.q) (numbers 0 l.r) ≡ every (seen l.n l.w l.q) (from l.j l.r)

@@ -1,20 +1,29 @@
 -- `station_setup::gathered::set_up_gathered` meets its contract: the set-up by value, with its process records.
-use mathlib.Core.Path.{refl, sym, ap, subst}
+use mathlib.Core.Path.{◌≡◌, refl, sym, ap, ◌∙◌}
 use mathlib.Core.List.{List}
-use Prim.Native.Nat.{ℕ, ◌≤◌}
-use Rattle.station_setup.specs.declared.Prepared.{Prepared}
-use Rattle.station_setup.specs.SetUpGathered.{to_write, with_processes}
-use Rattle.station_setup.proofs.StoredSetUp.{few}
+use Prim.Native.Nat.{ℕ}
+use borrow.Author.Rules.{rules}
+use Rattle.llsc.specs.Refusals.{refusal_number}
+use Rattle.rows.proofs.Refused.{number_some}
+use Rattle.station.specs.declared.Station.{Station}
+use Rattle.station.specs.declared.StationProcess.{StationProcess}
+use Rattle.station_setup.specs.SetUpGathered.{with_processes, told_all}
+use Rattle.station_setup.proofs.StoredSetUp.{few, all_stay}
 use Rattle.station_setup.proofs.gathered.set_up_gathered.Goals as goal
 
-pub processes_at_set_up-set-requires : goal.processes_at_set_up-set-requires
-processes_at_set_up-set-requires c =
+pub returns-in_err-station : goal.returns-in_err-station
+returns-in_err-station c =
+    let a = c.args in let r = c.in_err-station.field-0.0 in
+    let same : told_all a.station a.all c.from_residual.result ≡ ((refusal_number r, a.station), a.all) = search rules in
+    ap (λ (x : (ℕ × Station) × List StationProcess). (x, c.prepare.new.words)) same
+    ∙ all_stay a.all a.n a.r c.in_err-station.ensures (number_some r)
+
+pub processes_at_set_up-all-requires : goal.processes_at_set_up-all-requires
+processes_at_set_up-all-requires c =
     let a = c.args in
-    let number = ap (λ (x : Prepared × List ℕ). x.0.number) c.prepare-out.ensures in
-    let most = few a.station a.len a.n a.w a.r a.value.now a.words.now _ refl in
-    rw c.to_write-stored.ensures (subst (λ (k : ℕ). to_write k a.n ≤ 16) (sym number) most)
+    few a.station a.len a.n a.w a.r a.value.now a.words.now c.in_ok-station.ensures refl
 
 pub returns : goal.returns
 returns c =
     let a = c.args in
-    simp (c.processes_at_set_up-set.ensures, c.to_write-stored.ensures) (ap (with_processes a.all a.n a.r) c.prepare-out.ensures)
+    simp c.processes_at_set_up-all.ensures (ap (with_processes a.all a.n a.r) c.in_ok-station.ensures)
