@@ -8,6 +8,10 @@ use lib.Dec.{eqb, ltb}
 use lib.ListN.{length, get_or, set, take, length-map, length-take, get_or-map}
 use lib.Seq.{get_or-take}
 use borrow.Author.Tests.{ltb-true}
+use Rattle.std.specs.Prelude.{Result, Ok, Err}
+use Rattle.llsc.specs.declared.refusals.Refusal.{Refusal}
+use Rattle.llsc.specs.Refusals.{refusal_number, number_told}
+use Rattle.rows.proofs.Refused.{number_some}
 use Rattle.model.specs.declared.SequenceNumber.{SequenceNumber}
 use Rattle.llsc.specs.declared.ProcessNumber.{ProcessNumber}
 use Rattle.model.specs.declared.Bench.{Bench}
@@ -36,6 +40,14 @@ use Rattle.text_runs.specs.KeptEntries.{entries_in}
 use Rattle.carrying.specs.Carried.{Carrying, Carries}
 use Rattle.entry.proofs.EntryLaws.{entry_refused, entry_ready, place_same, one_more_small, entry_turnable, entry_made, own_line}
 use Rattle.carrying.proofs.CarryingLaws.{carrying_none, carrying_all, ends_refused, goes_over, goes_further}
+
+-- what the reply of a refusal says of its number
+pub not_refused : (r : Result (Unit {0}) Refusal) {k : ℕ} → number_told r ≡ k → ((x : Refusal) → r ≡ Err x → ⊥) → k ≡ 0
+not_refused (Ok x) e n = sym e
+not_refused (Err x) e n = absurd (n x refl)
+
+pub is_refused : (r : Refusal) {k : ℕ} → k ≡ refusal_number r → k ≡ 0 → ⊥
+is_refused r e z = number_some r (sym e ∙ z)
 
 -- the numbers of a kept entry are small
 either_small : (t : Bool) (a b : Entry) → Small a → Small b → Small (cond t a b)

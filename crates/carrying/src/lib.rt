@@ -8,9 +8,11 @@ ghost use Rattle.text_runs.specs.KeptEntries.{entries_in};
 ghost use Rattle.carrying.specs.Carried.{Carries};
 
 use entry::state::Run;
-use entry::{entries, refusals, state, turn};
+use entry::{entries, refusals, turn};
 use notation::entry_words;
 use tables::records;
+use text_runs::entries as text_entries;
+use text_runs::limits;
 
 // The run after its list, and its place in it: that of the entry that stopped the run, or the end.
 #[derive(Clone, Copy)]
@@ -35,21 +37,23 @@ pub fn carry_out(
     let n = run.bench.n;
     let w = run.bench.w;
     let traced = run.traced;
-    let needed = state::room_needed(traced);
+    let needed = limits::room_needed(traced);
     let mut bench = run.bench;
     let mut all = run.all;
     let mut written = run.written;
     let mut done = run.entries;
     let mut stop = 0;
     let mut at = 0;
+    // Kept: a `!` stays at its place, so that the place does not rise with each turn of the loop.
     while at < count {
         let e = entry_words::entry_in(entries[at]);
-        let p = entries::process_of(e);
+        let p = text_entries::process_of(e);
         let k = entries::process_number(p);
         let process = all.list[records::record_place(k)];
-        let order = entries::order_of(e);
-        stop = refusals::refusal(order, done, list.len() - written, needed, n, p, process);
-        if stop != 0 {
+        let order = text_entries::order_of(e);
+        let room = list.len() - written;
+        if let Err(refusal) = refusals::refusal(order, done, room, needed, n, p, process) {
+            stop = refusal.number();
             break;
         }
         let i = taken::bank_index(n, process);

@@ -11,10 +11,7 @@ use Rattle.model.specs.declared.Bench.{Bench}
 use Rattle.model.specs.declared.Process.{Process}
 use Rattle.llsc.specs.declared.Order.{Order}
 use Rattle.model.specs.declared.Moved.{Moved}
-use Rattle.model.specs.declared.Reply.{Reply}
-use Rattle.model.specs.declared.Reply.TheVariants.{Refused, Accepted, LlAnswered, ScAnswered, VlAnswered}
 use Rattle.model.specs.Records.{no_process, record_at}
-use Rattle.model.specs.Replies.{number_of}
 use Rattle.model.specs.Machine.{obey}
 use Rattle.llsc.specs.Rows.{Row, first, every}
 use Rattle.model.specs.Refusals.{rows_of}

@@ -1,14 +1,14 @@
 -- What happens between two entries: an entry of a run that goes on is refused, and the run stops; or it is carried out on the places taken out
 -- for it, and the run has one entry more.
-use mathlib.Core.Path.{◌≡◌, refl, sym, ap, subst, ◌∙◌}
+use mathlib.Core.Path.{◌≡◌, refl, sym, ap, ◌∙◌}
 use mathlib.Core.Bool.{Bool, true, false, not, cond}
 use mathlib.Core.List.{List, [], ◌∷◌, ◌++◌}
 use Prim.Native.Nat.{ℕ, ◌+◌, ◌-◌, ◌≤◌, ◌<◌}
 use native.Mathlib.Omega.{arith}
-use lib.Dec.{eqb, ltb, leb}
-use lib.ListN.{length, get_or, set, take, replicate, length-replicate}
+use lib.Dec.{ltb, leb}
+use lib.ListN.{length, get_or, set, replicate, length-replicate}
 use lib.Seq.{get_or-take, get_or-set_same}
-use borrow.Author.Tests.{eq-eqb, ne_eqb, leb-true, leb-false, ltb-true, ltb-false, lt-ltb, le-ltb, le-leb, lt-leb}
+use borrow.Author.Tests.{eq-eqb, leb-true, leb-false, ltb-true, ltb-false, lt-ltb, le-leb}
 use Rattle.model.specs.declared.SequenceNumber.{SequenceNumber}
 use Rattle.llsc.specs.declared.ProcessNumber.{ProcessNumber}
 use Rattle.model.specs.declared.Bench.{Bench}
@@ -33,13 +33,11 @@ use Rattle.machine.proofs.ObeyLaws.{obeyable, refused_law, obeyed_law}
 use Rattle.steps.proofs.TakenLaws.{whole_order}
 use Rattle.notation.specs.declared.Entry.{Entry}
 use Rattle.notation.specs.declared.Entry.TheVariants.{StartLl, StartVl, StartSc, Step, Finish}
-use Rattle.listing.specs.Writing.{Wrote}
 use Rattle.listing.proofs.WritingLaws.{same}
 use Rattle.entry.specs.declared.turn.Turn.{Turn}
 use Rattle.text_runs.specs.TextRun.{most_entries, room_needed, process_of, order_of, value_of}
 use Rattle.semantics.specs.TextRun.{trace_line, single}
 use Rattle.entry.specs.RunState.{RunState, state_of, progress, stopped_run, Sound, Ready as Going, Becomes, Small, answer_line}
-use Rattle.entry.specs.Turned as carried
 use Rattle.entry.specs.Turned.{refusal_of, place_of, turned, turn_lines, Turnable, Turns}
 use Rattle.entry.proofs.ObeyLaws.{order_obeyed, plain_none}
 use Rattle.entry.proofs.OrderLaws.{in_order, enough, most_processes}

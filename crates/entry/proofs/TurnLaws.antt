@@ -1,14 +1,12 @@
 -- One accepted entry: its parts, put together.
-use mathlib.Core.Path.{◌≡◌, refl, sym, ap, ◌∙◌}
+use mathlib.Core.Path.{◌≡◌, sym, ap, ◌∙◌}
 use mathlib.Core.Bool.{Bool}
 use mathlib.Core.List.{List, ◌++◌}
-use Prim.Native.Nat.{ℕ, ◌≤◌}
+use Prim.Native.Nat.{ℕ}
 use native.Mathlib.Omega.{arith}
 use lib.ListN.{length}
-use Rattle.llsc.specs.declared.ProcessNumber.{ProcessNumber}
 use Rattle.model.specs.declared.Process.{Process}
 use Rattle.llsc.specs.declared.Order.{Order}
-use Rattle.model.specs.declared.Reply.{Reply}
 use Rattle.taken.specs.declared.Taken.{Taken}
 use Rattle.taken.specs.declared.Stepped.{Stepped}
 use Rattle.steps.specs.Steps.{offered, obey_on}
@@ -18,7 +16,7 @@ use Rattle.listing.proofs.WritingLaws.{then, same, room_same, room_first, room_t
 use Rattle.access.specs.declared.Access.{Access}
 use Rattle.text_runs.specs.TextRun.{process_of, order_of, value_of}
 use Rattle.entry.specs.RunState.{answer_line, Listable, shown_line}
-use Rattle.entry.specs.Turned.{number_of, turned, access_seen, turn_lines, Turnable, Turns}
+use Rattle.entry.specs.Turned.{number_of, turned, access_seen, Turnable, Turns}
 
 module _ {traced : Bool} {k n w at : ℕ} {e : Entry} {t : Taken} {q : Process} {ws list : List ℕ} (f : Turnable traced k e n w t q ws list at) where
   abbrev out : Stepped × List ℕ

@@ -21,8 +21,7 @@ pub fn answer_line(
     ensures { Wrote list.old at (answer_line n w words.now p reply) list.new result }
 {
     match reply {
-        Reply::Refused(_) => at,
-        Reply::Accepted => at,
+        Reply::Refused(_) | Reply::Accepted => at,
         Reply::LlAnswered(count) => {
             let from = word_places::return_word(n, w, ProcessNumber(p as u8), 0);
             listing::ll_line(list, at, p, count as u64, words, from, w)

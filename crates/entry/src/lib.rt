@@ -5,7 +5,6 @@
 
 pub mod answer_lines;
 pub mod entries;
-pub mod limits;
 pub mod refusals;
 pub mod state;
 pub mod traces;

@@ -1,8 +1,4 @@
 // A run in progress, by value.
-ghost use Rattle.std.specs.Prelude.{◌≡◌};
-ghost use Rattle.text_runs.specs.TextRun.{room_needed};
-
-use crate::limits;
 use model::Bench;
 use tables::records::Records;
 
@@ -16,14 +12,4 @@ pub struct Run {
     pub entries: usize,
     pub stop: u8,
     pub traced: bool,
-}
-
-// "listing room left under 744 bytes"; a trace needs 128 bytes more.
-pub fn room_needed(traced: bool) -> usize
-    ensures { result ≡ room_needed traced }
-{
-    if traced {
-        return limits::TRACE_ROOM;
-    }
-    limits::LISTING_ROOM
 }

@@ -26,23 +26,18 @@ pub fn access_seen(
     requires { Ready n w process p words.now }
     ensures { result ≡ access_seen traced p n w taken process words.now }
 {
-    if !traced {
-        return access_of::no_access();
+    if traced {
+        access_of::access_of(n, w, p, process, taken, words)
+    } else {
+        access_of::no_access()
     }
-    access_of::access_of(n, w, p, process, taken, words)
 }
 
 // Whether a reply answers the call.
 fn answers(reply: Reply) -> bool
     ensures { result ≡ answers reply }
 {
-    match reply {
-        Reply::Refused(_) => false,
-        Reply::Accepted => false,
-        Reply::LlAnswered(_) => true,
-        Reply::ScAnswered(_, _) => true,
-        Reply::VlAnswered(_, _) => true,
-    }
+    !matches!(reply, Reply::Refused(_) | Reply::Accepted)
 }
 
 // The line of an accepted entry, from a place on; none in a run that is not traced. It gives the place after it.
@@ -67,7 +62,8 @@ pub fn trace_line(
         Entry::StartLl(p) => trace_parts::start_line(list, at, k, p, b'L', 0),
         Entry::StartVl(p) => trace_parts::start_line(list, at, k, p, b'V', 0),
         Entry::StartSc(p, value) => trace_parts::start_line(list, at, k, p, b'S', value),
-        Entry::Step(p) => trace_lines::step_line(list, at, k, p, access, answered),
-        Entry::Finish(p) => trace_lines::step_line(list, at, k, p, access, answered),
+        Entry::Step(p) | Entry::Finish(p) => trace_lines::step_line(
+            list, at, k, p, access, answered,
+        ),
     }
 }

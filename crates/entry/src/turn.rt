@@ -7,6 +7,7 @@ use model::Process;
 use notation::Entry;
 use steps::orders;
 use taken::Taken;
+use text_runs::entries as text_entries;
 
 // The places and the process as the entry leaves them, and where its lines end.
 #[derive(Clone, Copy)]
@@ -32,9 +33,9 @@ pub fn carry(
     requires { Turnable traced k e n w taken process words.old list.old at }
     ensures { Turns traced k e n w taken process words.old list.old at result words.new list.new }
 {
-    let p = entries::process_of(e);
+    let p = text_entries::process_of(e);
     let own = ProcessNumber(p as u8);
-    let order = entries::order_of(e);
+    let order = text_entries::order_of(e);
     let access = traces::access_seen(traced, n, w, own, process, taken, words);
     entries::offer(e, n, w, own, words);
     let stepped = orders::obey_taken(order, n, w, own, process, taken, words);

@@ -23,7 +23,7 @@ pub fn at_no_entry(n: u64, w: u64, place: usize) -> StopReport
 fn reported_process(p: u64) -> u64
     ensures { result ≡ reported_process p }
 {
-    if p <= 15 { p } else { 16 }
+    p.min(16)
 }
 
 // The item that a number of the list keeps: its place, and the process of its entry.

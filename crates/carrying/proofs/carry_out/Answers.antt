@@ -2,7 +2,7 @@
 use mathlib.Core.Path.{refl, sym, ◌∙◌}
 use native.Mathlib.Omega.{arith}
 use Prim.Native.Nat.{◌-◌}
-use Rattle.carrying.proofs.LoopLaws.{from_run, first_head, head_all, looking, place_small, taken_at_lem, loop_refused}
+use Rattle.carrying.proofs.LoopLaws.{from_run, first_head, head_all, looking, place_small, taken_at_lem, loop_refused, not_refused, is_refused}
 use Rattle.carrying.proofs.LoopLaws.{loop_sized, loop_more, loop_bank, loop_help, loop_turnable, loop_over, loop_further}
 use borrow.Author.Rules.{rules}
 use Rattle.carrying.proofs.carry_out.Goals as goal
@@ -21,64 +21,64 @@ offset_bounds-all-record_place c = omega (arith, place_small c.process_of-p.resu
 pub bounds-all-record_place : goal.bounds-all-record_place
 bounds-all-record_place c = omega (arith, place_small c.process_of-p.result c.process_number-k.ensures c.record_place.ensures)
 
-pub overflow_sub-list : goal.overflow_sub-list
-overflow_sub-list c =
+pub overflow_sub-room : goal.overflow_sub-room
+overflow_sub-room c =
     omega (arith, c.loop-at.invariant.0.carrying.kept.sound.room)
 
 pub bank_index-i-requires : goal.bank_index-i-requires
 bank_index-i-requires c =
     let x = looking c.loop-at.invariant.0 c.loop-at-test.true c.entry_in-e.ensures c.process_of-p.ensures c.process_number-k.ensures
     c.record_place.ensures c.order_of-order.ensures in
-    let f = sym c.refusal-stop.ensures ∙ c.if-stop-ne0.false in
+    let f = not_refused c.refusal.result c.refusal.ensures c.in_default.not-Err in
     loop_sized x f
 
 pub help_index-j-requires : goal.help_index-j-requires
 help_index-j-requires c =
     let x = looking c.loop-at.invariant.0 c.loop-at-test.true c.entry_in-e.ensures c.process_of-p.ensures c.process_number-k.ensures
     c.record_place.ensures c.order_of-order.ensures in
-    let f = sym c.refusal-stop.ensures ∙ c.if-stop-ne0.false in
+    let f = not_refused c.refusal.result c.refusal.ensures c.in_default.not-Err in
     loop_sized x f
 
 pub offset_bounds-bench-bank_place : goal.offset_bounds-bench-bank_place
 offset_bounds-bench-bank_place c =
     let x = looking c.loop-at.invariant.0 c.loop-at-test.true c.entry_in-e.ensures c.process_of-p.ensures c.process_number-k.ensures
     c.record_place.ensures c.order_of-order.ensures in
-    let f = sym c.refusal-stop.ensures ∙ c.if-stop-ne0.false in
+    let f = not_refused c.refusal.result c.refusal.ensures c.in_default.not-Err in
     omega (arith, loop_bank x f c.bank_index-i.ensures c.help_index-j.ensures, c.bank_place.ensures)
 
 pub bounds-bench-bank_place : goal.bounds-bench-bank_place
 bounds-bench-bank_place c =
     let x = looking c.loop-at.invariant.0 c.loop-at-test.true c.entry_in-e.ensures c.process_of-p.ensures c.process_number-k.ensures
     c.record_place.ensures c.order_of-order.ensures in
-    let f = sym c.refusal-stop.ensures ∙ c.if-stop-ne0.false in
+    let f = not_refused c.refusal.result c.refusal.ensures c.in_default.not-Err in
     omega (arith, loop_bank x f c.bank_index-i.ensures c.help_index-j.ensures, c.bank_place.ensures)
 
 pub offset_bounds-bench-help_place : goal.offset_bounds-bench-help_place
 offset_bounds-bench-help_place c =
     let x = looking c.loop-at.invariant.0 c.loop-at-test.true c.entry_in-e.ensures c.process_of-p.ensures c.process_number-k.ensures
     c.record_place.ensures c.order_of-order.ensures in
-    let f = sym c.refusal-stop.ensures ∙ c.if-stop-ne0.false in
+    let f = not_refused c.refusal.result c.refusal.ensures c.in_default.not-Err in
     omega (arith, loop_help x f c.bank_index-i.ensures c.help_index-j.ensures, c.help_place.ensures)
 
 pub bounds-bench-help_place : goal.bounds-bench-help_place
 bounds-bench-help_place c =
     let x = looking c.loop-at.invariant.0 c.loop-at-test.true c.entry_in-e.ensures c.process_of-p.ensures c.process_number-k.ensures
     c.record_place.ensures c.order_of-order.ensures in
-    let f = sym c.refusal-stop.ensures ∙ c.if-stop-ne0.false in
+    let f = not_refused c.refusal.result c.refusal.ensures c.in_default.not-Err in
     omega (arith, loop_help x f c.bank_index-i.ensures c.help_index-j.ensures, c.help_place.ensures)
 
 pub overflow_add-done : goal.overflow_add-done
 overflow_add-done c =
     let x = looking c.loop-at.invariant.0 c.loop-at-test.true c.entry_in-e.ensures c.process_of-p.ensures c.process_number-k.ensures
     c.record_place.ensures c.order_of-order.ensures in
-    let f = sym c.refusal-stop.ensures ∙ c.if-stop-ne0.false in
+    let f = not_refused c.refusal.result c.refusal.ensures c.in_default.not-Err in
     omega (arith, loop_more x f)
 
 pub carry-turn-requires : goal.carry-turn-requires
 carry-turn-requires c =
     let x = looking c.loop-at.invariant.0 c.loop-at-test.true c.entry_in-e.ensures c.process_of-p.ensures c.process_number-k.ensures
     c.record_place.ensures c.order_of-order.ensures in
-    let f = sym c.refusal-stop.ensures ∙ c.if-stop-ne0.false in
+    let f = not_refused c.refusal.result c.refusal.ensures c.in_default.not-Err in
     loop_turnable x f c.bank_index-i.ensures c.help_index-j.ensures
     (taken_at_lem c.loop-at.bench c.bank_place.ensures c.help_place.ensures c.places-places.ensures)
 
@@ -86,28 +86,28 @@ pub offset_bounds-bench-bank_place-in-loop-at : goal.offset_bounds-bench-bank_pl
 offset_bounds-bench-bank_place-in-loop-at c =
     let x = looking c.loop-at.invariant.0 c.loop-at-test.true c.entry_in-e.ensures c.process_of-p.ensures c.process_number-k.ensures
     c.record_place.ensures c.order_of-order.ensures in
-    let f = sym c.refusal-stop.ensures ∙ c.if-stop-ne0.false in
+    let f = not_refused c.refusal.result c.refusal.ensures c.in_default.not-Err in
     omega (arith, loop_bank x f c.bank_index-i.ensures c.help_index-j.ensures, c.bank_place-in-loop-at.ensures)
 
 pub bounds-bench-bank_place-in-loop-at : goal.bounds-bench-bank_place-in-loop-at
 bounds-bench-bank_place-in-loop-at c =
     let x = looking c.loop-at.invariant.0 c.loop-at-test.true c.entry_in-e.ensures c.process_of-p.ensures c.process_number-k.ensures
     c.record_place.ensures c.order_of-order.ensures in
-    let f = sym c.refusal-stop.ensures ∙ c.if-stop-ne0.false in
+    let f = not_refused c.refusal.result c.refusal.ensures c.in_default.not-Err in
     omega (arith, loop_bank x f c.bank_index-i.ensures c.help_index-j.ensures, c.bank_place-in-loop-at.ensures)
 
 pub offset_bounds-bench-help_place-in-loop-at : goal.offset_bounds-bench-help_place-in-loop-at
 offset_bounds-bench-help_place-in-loop-at c =
     let x = looking c.loop-at.invariant.0 c.loop-at-test.true c.entry_in-e.ensures c.process_of-p.ensures c.process_number-k.ensures
     c.record_place.ensures c.order_of-order.ensures in
-    let f = sym c.refusal-stop.ensures ∙ c.if-stop-ne0.false in
+    let f = not_refused c.refusal.result c.refusal.ensures c.in_default.not-Err in
     omega (arith, loop_help x f c.bank_index-i.ensures c.help_index-j.ensures, c.help_place-in-loop-at.ensures)
 
 pub bounds-bench-help_place-in-loop-at : goal.bounds-bench-help_place-in-loop-at
 bounds-bench-help_place-in-loop-at c =
     let x = looking c.loop-at.invariant.0 c.loop-at-test.true c.entry_in-e.ensures c.process_of-p.ensures c.process_number-k.ensures
     c.record_place.ensures c.order_of-order.ensures in
-    let f = sym c.refusal-stop.ensures ∙ c.if-stop-ne0.false in
+    let f = not_refused c.refusal.result c.refusal.ensures c.in_default.not-Err in
     omega (arith, loop_help x f c.bank_index-i.ensures c.help_index-j.ensures, c.help_place-in-loop-at.ensures)
 
 pub offset_bounds-all-record_place-in-loop-at : goal.offset_bounds-all-record_place-in-loop-at
@@ -122,19 +122,19 @@ pub loop-at-smaller-then-stays : goal.loop-at-smaller-then-stays
 loop-at-smaller-then-stays c =
     let x = looking c.loop-at.invariant.0 c.loop-at-test.true c.entry_in-e.ensures c.process_of-p.ensures c.process_number-k.ensures
     c.record_place.ensures c.order_of-order.ensures in
-    let f = sym c.refusal-stop.ensures ∙ c.if-stop-ne0.false in
+    let f = not_refused c.refusal.result c.refusal.ensures c.in_default.not-Err in
     omega (arith, loop_more x f)
 
 pub loop-at-preserved-then-stays : goal.loop-at-preserved-then-stays
 loop-at-preserved-then-stays c =
     let x = looking c.loop-at.invariant.0 c.loop-at-test.true c.entry_in-e.ensures c.process_of-p.ensures c.process_number-k.ensures
     c.record_place.ensures c.order_of-order.ensures in
-    let f = sym c.refusal-stop.ensures ∙ c.if-stop-ne0.false in (
+    let f = not_refused c.refusal.result c.refusal.ensures c.in_default.not-Err in (
       rw (c.bank_place-in-loop-at.ensures, c.help_place-in-loop-at.ensures, c.record_place-in-loop-at.ensures)
           (loop_further x f c.bank_index-i.ensures c.help_index-j.ensures
           (taken_at_lem c.loop-at.bench c.bank_place.ensures c.help_place.ensures c.places-places.ensures)
           c.carry-turn.ensures (sym c.stays.ensures ∙ c.if-stays.true)),
-      c.if-stop-ne0.false,
+      c.loop-at.invariant.1,
     )
 
 pub overflow_add-at : goal.overflow_add-at
@@ -145,19 +145,19 @@ pub loop-at-smaller : goal.loop-at-smaller
 loop-at-smaller c =
     let x = looking c.loop-at.invariant.0 c.loop-at-test.true c.entry_in-e.ensures c.process_of-p.ensures c.process_number-k.ensures
     c.record_place.ensures c.order_of-order.ensures in
-    let f = sym c.refusal-stop.ensures ∙ c.if-stop-ne0.false in
+    let f = not_refused c.refusal.result c.refusal.ensures c.in_default.not-Err in
     omega (arith, loop_more x f)
 
 pub loop-at-preserved : goal.loop-at-preserved
 loop-at-preserved c =
     let x = looking c.loop-at.invariant.0 c.loop-at-test.true c.entry_in-e.ensures c.process_of-p.ensures c.process_number-k.ensures
     c.record_place.ensures c.order_of-order.ensures in
-    let f = sym c.refusal-stop.ensures ∙ c.if-stop-ne0.false in (
+    let f = not_refused c.refusal.result c.refusal.ensures c.in_default.not-Err in (
       rw (c.bank_place-in-loop-at.ensures, c.help_place-in-loop-at.ensures, c.record_place-in-loop-at.ensures)
           (loop_over x f c.bank_index-i.ensures c.help_index-j.ensures
           (taken_at_lem c.loop-at.bench c.bank_place.ensures c.help_place.ensures c.places-places.ensures)
           c.carry-turn.ensures (sym c.stays.ensures ∙ c.if-stays.false)),
-      c.if-stop-ne0.false,
+      c.loop-at.invariant.1,
     )
 
 pub shape_of-words-after-loop-at : goal.shape_of-words-after-loop-at
@@ -170,20 +170,20 @@ pub returns-after-loop-at : goal.returns-after-loop-at
 returns-after-loop-at c =
     from_run c.requires.2 (rw c.loop-at.invariant.1 (head_all c.loop-at.invariant.0 c.loop-at-test.false))
 
-pub shape_of-words-then-stop-ne0 : goal.shape_of-words-then-stop-ne0
-shape_of-words-then-stop-ne0 c =
+pub shape_of-words-in-Err : goal.shape_of-words-in-Err
+shape_of-words-in-Err c =
     let x = looking c.loop-at.invariant.0 c.loop-at-test.true c.entry_in-e.ensures c.process_of-p.ensures c.process_number-k.ensures
     c.record_place.ensures c.order_of-order.ensures in
-    (loop_refused x c.refusal-stop.ensures c.if-stop-ne0.true).becomes.kept.words
+    (loop_refused x (c.number-stop.ensures ∙ c.in-Err.ensures) (is_refused c.in-Err.refusal c.number-stop.ensures)).becomes.kept.words
 
-pub shape_of-list-then-stop-ne0 : goal.shape_of-list-then-stop-ne0
-shape_of-list-then-stop-ne0 c =
+pub shape_of-list-in-Err : goal.shape_of-list-in-Err
+shape_of-list-in-Err c =
     let x = looking c.loop-at.invariant.0 c.loop-at-test.true c.entry_in-e.ensures c.process_of-p.ensures c.process_number-k.ensures
     c.record_place.ensures c.order_of-order.ensures in
-    (loop_refused x c.refusal-stop.ensures c.if-stop-ne0.true).becomes.kept.listing
+    (loop_refused x (c.number-stop.ensures ∙ c.in-Err.ensures) (is_refused c.in-Err.refusal c.number-stop.ensures)).becomes.kept.listing
 
-pub returns-then-stop-ne0 : goal.returns-then-stop-ne0
-returns-then-stop-ne0 c =
+pub returns-in-Err : goal.returns-in-Err
+returns-in-Err c =
     let x = looking c.loop-at.invariant.0 c.loop-at-test.true c.entry_in-e.ensures c.process_of-p.ensures c.process_number-k.ensures
     c.record_place.ensures c.order_of-order.ensures in
-    from_run c.requires.2 (loop_refused x c.refusal-stop.ensures c.if-stop-ne0.true)
+    from_run c.requires.2 (loop_refused x (c.number-stop.ensures ∙ c.in-Err.ensures) (is_refused c.in-Err.refusal c.number-stop.ensures))
