@@ -29,7 +29,7 @@ use Rattle.listing.proofs.Lengths.{end_length, refused_length}
 use Rattle.listing.proofs.WritingLaws.{kept, grows}
 use Rattle.answers.specs.Shape.{largest}
 use Rattle.answers.specs.Shape as G
-use Rattle.answers.proofs.PlaceLaws.{either}
+use Rattle.answers.proofs.ChoiceLaws.{either}
 use Rattle.commuting.specs.OnTheBench.{Admitted}
 use Rattle.text_runs.specs.TextRun as TR
 use Rattle.semantics.specs.Reached.{Reached}
@@ -226,12 +226,9 @@ closing stop entries h k = either Closing (eqb stop 0) _ _
     (λ _. record { is_line = end_is_line entries; read_as = end_line_read entries; short = omega (arith, end_length entries k) })
     (λ _. record { is_line = refused_is_line stop entries; read_as = refused_line_read stop entries; short = refused_length stop entries h k })
 
-and_false : (t : Bool) → (t && false) ≡ false
-and_false true = refl
-and_false false = refl
-
 no_swap : (b : Before) → may_swap (line_before b) no_line ≡ false
-no_swap b = and_false (ltb (line_before b).kind 6)
+no_swap first = refl
+no_swap (after m e) = refl
 
 module _ {bs : List ℕ} (c : Closing bs) (b : Before) where
   last_marked : marked_from true (line_before b) bs ≡ quoted "  " ++ bs
