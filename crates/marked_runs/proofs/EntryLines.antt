@@ -4,7 +4,7 @@ use mathlib.Core.List.{List, [], ◌∷◌, ◌++◌, append-nil, append_assoc}
 use mathlib.Core.Bool.{Bool, true, false}
 use Prim.Native.Nat.{ℕ, ◌*◌, ◌≤◌}
 use native.Mathlib.Omega.{arith}
-use lib.Dec.{eqb, ltb}
+use lib.Dec.{ltb}
 use lib.ListN.{length, replicate}
 use borrow.Author.Tests.{eq-eqb, ltb-false, not-false}
 use Rattle.llsc.specs.declared.Order.{Order}
@@ -38,6 +38,7 @@ use Rattle.semantics.specs.TextRun.{answers, access_now, trace_line, line_of}
 use Rattle.semantics.proofs.AcceptedSteps.{unrefused, stepped, at_work}
 use Rattle.semantics.proofs.ReachedLaws.{unhindered}
 use Rattle.entry.proofs.WordLaws.{Below}
+use Rattle.std.specs.Prelude.{Option, Some}
 use Rattle.marking.specs.declared.Line.{Line}
 use Rattle.marking.specs.Marks as Marks
 use Rattle.marking.specs.Marks.{started_line, may_swap}
@@ -49,8 +50,8 @@ use Rattle.marked_runs.specs.MarkedRun.{command_of, line_at, Before, first, afte
 use Rattle.marked_runs.proofs.LineEnds.{feedless, IsLine, start_is_line, step_is_line}
 
 -- what the line of an entry says, if its command finds m
-abbrev pub line_said : Memory → Entry → Line
-line_said m e = Marks.line_of (process_of e) (bench_does m (command_of m e))
+abbrev pub line_said : Memory → Entry → Option Line
+line_said m e = Some (Marks.line_of (process_of e) (bench_does m (command_of m e)))
 
 -- an accepted start answers nothing
 module _ (m : Memory) (p : ℕ) (v : List ℕ) where
@@ -95,7 +96,7 @@ module _ {m : Memory} (r : Reached m) (b : Below (5 * m.bench.n * m.bench.w) m.w
   start_entry : (o : Order) (p letter v : ℕ) (value : List ℕ) → p ≤ largest → v ≤ largest → feedless (letter ∷ []) ≡ true
       → (obeyed m (record { 0 = p }) o value).0 ≡ Accepted → number_of (command m p o value).0 ≡ 0 → (m' : Memory)
       → let l = start_line k p letter v ++ line_of m' p (command m p o value).0 in
-      IsLine l × (((rest : List ℕ) → line_in (l ++ rest) ≡ started_line p) × (length (start_line k p letter v) ≤ 128))
+      IsLine l × (((rest : List ℕ) → line_in (l ++ rest) ≡ Some (started_line p)) × (length (start_line k p letter v) ≤ 128))
   start_entry o p letter v value hp hv hl a z m' =
       let alone = started_alone m p value o a z (start_line k p letter v) m' in (
         subst IsLine (sym alone) (start_is_line k p letter v hl),
@@ -107,7 +108,7 @@ module _ {m : Memory} (r : Reached m) (b : Below (5 * m.bench.n * m.bench.w) m.w
 
   step_entry : (p : ℕ) → p ≤ largest → number_of (command m p order.Step []).0 ≡ 0 → (m' : Memory)
       → let reply = (command m p order.Step []).0 in let l = step_line k p (access_now m p) (answers reply) ++ line_of m' p reply in
-      IsLine l × (((rest : List ℕ) → line_in (l ++ rest) ≡ Marks.line_of p (bench_does m (record { process = p; order = order.Step; value = [] })))
+      IsLine l × (((rest : List ℕ) → line_in (l ++ rest) ≡ Some (Marks.line_of p (bench_does m (record { process = p; order = order.Step; value = [] }))))
       × (length (step_line k p (access_now m p) (answers reply)) ≤ 128))
   step_entry p hp z m' =
       let reply = (command m p order.Step []).0 in
@@ -118,7 +119,7 @@ module _ {m : Memory} (r : Reached m) (b : Below (5 * m.bench.n * m.bench.w) m.w
         (
           (λ rest. ap line_in (append_assoc step (line_of m' p reply) rest)
               ∙ step_line_read k p (access_now m p) (answers reply) (line_of m' p reply ++ rest) (omega (arith, hk)) hp small
-              ∙ trace_shows_line m (record { 0 = p }) (at_work r p ok)),
+              ∙ ap Some (trace_shows_line m (record { 0 = p }) (at_work r p ok))),
           step_length k p (access_now m p) (answers reply) hk hp small,
         ),
       )
@@ -141,7 +142,7 @@ module _ {m : Memory} (r : Reached m) (b : Below (5 * m.bench.n * m.bench.w) m.w
       let x = step_entry p h z (next m (command_of m (Finish p))) in record { is_line = x.0; read_as = x.1.0; short = x.1.1 }
 
 -- the line before an entry
-abbrev pub line_before : Before → Line
+abbrev pub line_before : Before → Option Line
 line_before first = no_line
 line_before (after m e) = line_said m e
 
@@ -158,7 +159,7 @@ Found (after m₀ e₀) m = Left m₀ e₀ m
 -- `commute`, of memory that a set-up and commands have made
 abbrev Exchanges : Memory → Type 0
 Exchanges x = (c d : Command) → Admitted x c → Admitted (next x c) d
-    → may_swap (Marks.line_of c.process (bench_does x c)) (Marks.line_of d.process (bench_does (next x c) d)) ≡ true → BenchSwapped x c d
+    → may_swap (Some (Marks.line_of c.process (bench_does x c))) (Some (Marks.line_of d.process (bench_does (next x c) d))) ≡ true → BenchSwapped x c d
 
 exchanges : {x : Memory} → Reached x → Exchanges x
 exchanges r = subst Exchanges (sym r.is) (marked_change_places r.lent r.shaped r.n r.w r.value r.commands r.accepted)

@@ -24,12 +24,13 @@ use Rattle.trace_parts.specs.TraceParts.{spaced, bracketed, head_text, truth_tex
 use Rattle.access.specs.TraceLines.{half_text, half_place_text, item_text, values_text, stored_text, written_text, act_text, step_line}
 use Rattle.semantics.specs.TextRun.{answers}
 use Rattle.semantics.specs.TextRun as T
+use Rattle.std.specs.Prelude.{Option}
 use Rattle.marking.specs.declared.Line.{Line}
 use Rattle.marking.specs.Marks.{may_swap}
 use Rattle.marking.specs.Reading.{line_in}
 use Rattle.marking.specs.Marked.{mark_text, marked_from}
 use Rattle.marking.specs.CopiedLines.{line_bytes, behind}
-use Rattle.marking.proofs.MarkedLaws.{marked_at}
+use Rattle.marking.proofs.MarkedLaws.{marked_first}
 
 -- no line feed
 unfoldable pub feedless : List ℕ → Bool
@@ -80,13 +81,13 @@ module _ {l : List ℕ} (i : IsLine l) (rest : List ℕ) where
   some = let z : length (l ++ rest) ≡ length i.body + suc (length rest) = ap length spread ∙ length-append i.body (line_feed ∷ rest) in omega (arith, z)
 
   -- the mark of a line that is read as `line`
-  pub line_marked : (before line : Line) → line_in (l ++ rest) ≡ line
+  pub line_marked : (before line : Option Line) → line_in (l ++ rest) ≡ line
       → marked_from true before (l ++ rest) ≡ mark_text (may_swap before line) ++ (l ++ marked_from true line rest)
   line_marked before line e =
-      marked_at (l ++ rest) 0 before some
+      marked_first before (l ++ rest) some
       ∙ ap (λ (x : List ℕ). mark_text (may_swap before (line_in (l ++ rest))) ++ (x ++ marked_from true (line_in (l ++ rest)) (behind (l ++ rest)))) bytes_here
       ∙ ap (λ (x : List ℕ). mark_text (may_swap before (line_in (l ++ rest))) ++ (l ++ marked_from true (line_in (l ++ rest)) x)) behind_here
-      ∙ ap (λ (x : Line). mark_text (may_swap before x) ++ (l ++ marked_from true x rest)) e
+      ∙ ap (λ (x : Option Line). mark_text (may_swap before x) ++ (l ++ marked_from true x rest)) e
 
 -- the parts of lines
 feed : IsLine (quoted "\n")

@@ -1,7 +1,7 @@
 -- CR 13, of whole text runs: what `swaps` prints is the trace of the run, each line with the mark that the two commands ask for.
 use mathlib.Core.Path.{◌≡◌, refl, sym, ap, subst, ◌∙◌}
 use mathlib.Core.List.{List, [], ◌∷◌, ◌++◌, append-nil, append_assoc}
-use mathlib.Core.Bool.{Bool, true, false, ◌&&◌, cond, true≢false}
+use mathlib.Core.Bool.{Bool, true, false, cond}
 use Prim.Native.Nat.{ℕ, zero, suc, ◌+◌, ◌-◌, ◌*◌, ◌≤◌, ◌<◌}
 use native.Mathlib.Omega.{arith}
 use lib.Dec.{eqb, ltb, leb}
@@ -11,9 +11,8 @@ use borrow.Author.Tests.{leb-false, ltb-false, ltb-true, eqb-true, eq-eqb}
 use Rattle.model.specs.declared.Reply.{Reply}
 use Rattle.model.specs.Replies.{number_of}
 use Rattle.model.specs.Machine.{Memory, Shaped}
-use Rattle.model.specs.Command.{refusal, command}
-use Rattle.model.specs.SetUp.{words_at_set_up, at_set_up, set_up_refusal, set_up}
-use Rattle.model.specs.History.{next}
+use Rattle.model.specs.Command.{command}
+use Rattle.model.specs.SetUp.{at_set_up, set_up_refusal, set_up}
 use Rattle.setup.specs.SetUpByValue.{set_up_number_lem}
 use Rattle.notation.specs.declared.Entry.{Entry}
 use Rattle.notation.specs.declared.Entry.TheVariants.{StartLl, StartVl, StartSc, Step, Finish}
@@ -28,14 +27,13 @@ use Rattle.listing.specs.Writing.{Room, Wrote}
 use Rattle.listing.proofs.Lengths.{end_length, refused_length}
 use Rattle.listing.proofs.WritingLaws.{kept, grows}
 use Rattle.answers.specs.Shape.{largest}
-use Rattle.answers.specs.Shape as G
-use Rattle.answers.proofs.PlaceLaws.{either}
+use Rattle.answers.proofs.ChoiceLaws.{either}
 use Rattle.commuting.specs.OnTheBench.{Admitted}
 use Rattle.text_runs.specs.TextRun as TR
 use Rattle.semantics.specs.Reached.{Reached}
 use Rattle.text_runs.specs.TextRun.{most_entries, room_needed, longest_text, process_of, order_of, value_of}
 use Rattle.semantics.specs.TextRun.{Progress, stopped, line_of, trace_line, lines_of, counted, commanded, single, unanswered}
-use Rattle.semantics.specs.TextRun.{steps, carry, carry_all, last_line, ended, begun, Ended, started, carried_out, run_with}
+use Rattle.semantics.specs.TextRun.{steps, carry, carry_all, last_line, ended, begun, Ended, started, carried_out}
 use Rattle.semantics.proofs.ReachedLaws.{reached_set_up, reached_command}
 use Rattle.semantics.proofs.AcceptedSteps.{unrefused}
 use Rattle.entry.proofs.WordLaws.{Below}
@@ -54,7 +52,7 @@ use Rattle.marking.proofs.TracedLines.{end_line_read, refused_line_read}
 use Rattle.marked_runs.specs.MarkedRun.{command_of, line_at, Mark, swap, stay, Before, first, after, Printed, begins, line, written_by, MarkedRun}
 use Rattle.marked_runs.specs.MarkedRun.{OnlyLast, initial_of, ready_for, carried_from, MarkedOutput, refused, ran, EveryTextIsMarked, MarkedFits}
 use Rattle.marked_runs.proofs.LineEnds.{IsLine, line_marked, end_is_line, refused_is_line}
-use Rattle.marked_runs.proofs.EntryLines.{line_said, EntryLine, entry_line_is, line_before, Left, Found, mark_of}
+use Rattle.marked_runs.proofs.EntryLines.{line_said, EntryLine, entry_line_is, line_before, Found, mark_of}
 
 -- a traced run in progress: what it has written so far, and how that is marked, whatever comes behind it
 record Shown (n w : ℕ) (m₀ : Memory) (s : Progress) : Type 0 where
@@ -226,12 +224,9 @@ closing stop entries h k = either Closing (eqb stop 0) _ _
     (λ _. record { is_line = end_is_line entries; read_as = end_line_read entries; short = omega (arith, end_length entries k) })
     (λ _. record { is_line = refused_is_line stop entries; read_as = refused_line_read stop entries; short = refused_length stop entries h k })
 
-and_false : (t : Bool) → (t && false) ≡ false
-and_false true = refl
-and_false false = refl
-
 no_swap : (b : Before) → may_swap (line_before b) no_line ≡ false
-no_swap b = and_false (ltb (line_before b).kind 6)
+no_swap first = refl
+no_swap (after m e) = refl
 
 module _ {bs : List ℕ} (c : Closing bs) (b : Before) where
   last_marked : marked_from true (line_before b) bs ≡ quoted "  " ++ bs

@@ -1,6 +1,5 @@
 pub mod OrLaws
 pub mod Theorems
-pub mod ReadingLaws
 pub mod TracedLines
 pub mod MarkedLaws
 pub mod MarkedExamples

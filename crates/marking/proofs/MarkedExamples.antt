@@ -3,7 +3,7 @@ use mathlib.Core.Path.{◌≡◌, refl}
 use mathlib.Core.List.{[]}
 use Rattle.listing.specs.Quoted.{quoted}
 use Rattle.answers.specs.Readers.{digits_after, number_in, spaced_number}
-use Rattle.marking.specs.Reading.{numbered, half_in, item_in, looks_in, line_in}
+use Rattle.marking.specs.Reading.{numbered, item_in, looks_in, line_in}
 use Rattle.marking.specs.Marked.{marked_from, marked}
 
 nothing : marked [] ≡ []

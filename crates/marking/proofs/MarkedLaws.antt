@@ -1,28 +1,29 @@
 -- The marks of a trace line by line; bytes, marks and lines written one after the other.
 use mathlib.Core.Path.{◌≡◌, refl, sym, ap, subst, ◌∙◌}
-use mathlib.Core.List.{List, [], ◌∷◌, ◌++◌}
+use mathlib.Core.List.{List, [], ◌∷◌, ◌++◌, append_assoc, append-nil}
 use mathlib.Core.Bool.{Bool, true, false, cond}
-use Prim.Native.Nat.{ℕ, ◌+◌, ◌*◌, ◌≤◌, ◌<◌}
+use Prim.Native.Nat.{ℕ, ◌+◌, ◌-◌, ◌*◌, ◌≤◌, ◌<◌}
 use native.Mathlib.Omega.{arith}
 use native.Mathlib.Numerals.{add-one}
 use lib.Dec.{eqb}
-use lib.ListN.{length, get_or, set, drop, length-set}
-use lib.Seq.{sets, length-sets}
-use borrow.Author.Tests.{eq-eqb, ne_eqb}
-use Rattle.listing.specs.Quoted.{byte}
+use lib.ListN.{length, get_or, set, take, drop, drop_of_length-le}
+use lib.Seq.{sets, length-sets, take-length, drop-cons}
+use borrow.Author.Tests.{eqb-true, eqb-false, eq-eqb, ne_eqb}
 use Rattle.listing.specs.Lines.{line_feed}
 use Rattle.listing.specs.Writing.{Wrote}
 use Rattle.listing.proofs.WritingLaws.{then, kept}
-use Rattle.answers.proofs.PlaceLaws.{split, ended}
+use Rattle.listing.proofs.LineLaws.{take_more}
+use Rattle.std.proofs.lemmas.List.{length-take-le, take_all}
+use Rattle.std.specs.Prelude.{Option}
+use Rattle.answers.specs.Readers.{Text}
 use Rattle.marking.specs.declared.Line.{Line}
-use Rattle.marking.specs.declared.output.Copied.{Copied}
 use Rattle.marking.specs.Marks.{may_swap}
 use Rattle.marking.specs.Reading.{no_line, line_in}
 use Rattle.marking.specs.Marked.{mark_text, marked_from, marked}
-use Rattle.marking.specs.CopiedLines.{line_bytes, behind, Near, CopiedLine}
+use Rattle.marking.specs.CopiedLines.{line_bytes, behind, LineEnd, CopiedLine}
 
 -- in a line, up to its end
-line_split : (before : Line) (bs : List ℕ) → marked_from false before bs ≡ line_bytes bs ++ marked_from true before (behind bs)
+line_split : (before : Option Line) (bs : List ℕ) → marked_from false before bs ≡ line_bytes bs ++ marked_from true before (behind bs)
 unfolding marked_from line_bytes behind
 line_split before [] = refl
 line_split before (b ∷ bs) = by (eqb b line_feed) (line_split before bs)
@@ -33,53 +34,84 @@ line_split before (b ∷ bs) = by (eqb b line_feed) (line_split before bs)
     by false e = ap (λ (x : List ℕ). b ∷ x) e
 
 -- a line: its mark, its bytes, and the rest
-abbrev ByLine : Line → List ℕ → Type 0
+abbrev ByLine : Option Line → List ℕ → Type 0
 ByLine before bs = marked_from true before bs ≡ mark_text (may_swap before (line_in bs)) ++ (line_bytes bs ++ marked_from true (line_in bs) (behind bs))
 
-pub marked_line : (before : Line) (b : ℕ) (bs : List ℕ) → ByLine before (b ∷ bs)
+pub marked_line : (before : Option Line) (b : ℕ) (bs : List ℕ) → ByLine before (b ∷ bs)
 unfolding marked_from
 marked_line before b bs =
     ap (λ (x : List ℕ). mark_text (may_swap before (line_in (b ∷ bs))) ++ x) (line_split (line_in (b ∷ bs)) (b ∷ bs))
 
-pub marked_none : (before : Line) → marked_from true before [] ≡ []
+pub marked_none : (before : Option Line) → marked_from true before [] ≡ []
 unfolding marked_from
 marked_none before = refl
 
-module _ (bs : List ℕ) (at : ℕ) where
-  pub marked_at : (before : Line) → at < length bs → ByLine before (drop at bs)
-  marked_at before h = subst (ByLine before) (sym (split bs at h)) (marked_line before (get_or bs at 0) (drop (at + 1) bs))
+pub marked_first : (before : Option Line) (bs : List ℕ) → 0 < length bs → ByLine before bs
+marked_first before [] h = absurd (omega arith)
+marked_first before (b ∷ bs) h = marked_line before b bs
 
-  pub marked_end : (before : Line) → length bs ≤ at → marked_from true before (drop at bs) ≡ []
-  marked_end before h = ap (marked_from true before) (ended bs at h) ∙ marked_none before
+-- where the first line ends, byte by byte
+pub record NoFeedYet (bs : List ℕ) (i : ℕ) : Type 0 where
+  pub line : line_bytes bs ≡ take i bs ++ line_bytes (drop i bs)
+  pub left : behind bs ≡ behind (drop i bs)
 
-  -- the line at a place, byte by byte
-  end_bytes : length bs ≤ at → line_bytes (drop at bs) ≡ []
-  unfolding line_bytes
-  end_bytes h = ap line_bytes (ended bs at h)
+pub no_feed_first : (bs : List ℕ) → NoFeedYet bs 0
+no_feed_first bs = record { line = refl; left = refl }
 
-  end_behind : length bs ≤ at → drop at bs ≡ behind (drop at bs)
-  unfolding behind
-  end_behind h = ended bs at h ∙ sym (ap behind (ended bs at h))
+module _ {bs : List ℕ} {i : ℕ} (n : NoFeedYet bs i) where
+  pub end_of_text : length bs ≤ i → LineEnd bs (length bs)
+  unfolding line_bytes behind
+  end_of_text h =
+      let none : drop i bs ≡ [] = drop_of_length-le bs h in
+      record {
+        within = omega arith;
+        line = take-length bs ∙ sym (n.line ∙ ap (λ (x : List ℕ). take i bs ++ line_bytes x) none ∙ append-nil (take i bs) ∙ take_all i bs h);
+        left = drop_of_length-le bs (omega arith) ∙ sym (n.left ∙ ap behind none);
+      }
 
-  module _ (h : at < length bs) where
+  module _ (h : i < length bs) where
     abbrev here : ℕ
-    here = get_or bs at 0
+    here = get_or bs i 0
 
-    feed_bytes : here ≡ line_feed → line_bytes (drop at bs) ≡ (here ∷ []) ++ []
-    unfolding line_bytes
-    feed_bytes e = ap line_bytes (split bs at h) ∙ ap (λ (t : Bool). here ∷ cond t [] (line_bytes (drop (at + 1) bs))) (eq-eqb here line_feed e)
+    cut : drop i bs ≡ here ∷ drop (i + 1) bs
+    cut = drop-cons bs i 0 h ∙ ap (λ (j : ℕ). here ∷ drop j bs) (sym (add-one i))
 
-    feed_behind : here ≡ line_feed → drop (at + 1) bs ≡ behind (drop at bs)
-    unfolding behind
-    feed_behind e = sym (ap behind (split bs at h) ∙ ap (λ (t : Bool). cond t (drop (at + 1) bs) (behind (drop (at + 1) bs))) (eq-eqb here line_feed e))
+    pub feed_here : here ≡ line_feed → LineEnd bs (i + 1)
+    unfolding line_bytes behind
+    feed_here e = record {
+      within = omega arith;
+      line = take_more bs i h
+          ∙ sym (n.line ∙ ap (λ (x : List ℕ). take i bs ++ line_bytes x) cut
+          ∙ ap (λ (t : Bool). take i bs ++ here ∷ cond t [] (line_bytes (drop (i + 1) bs))) (eq-eqb here line_feed e));
+      left = sym (n.left ∙ ap behind cut
+          ∙ ap (λ (t : Bool). cond t (drop (i + 1) bs) (behind (drop (i + 1) bs))) (eq-eqb here line_feed e));
+    }
 
-    more_bytes : (here ≡ line_feed → ⊥) → line_bytes (drop at bs) ≡ (here ∷ []) ++ line_bytes (drop (at + 1) bs)
-    unfolding line_bytes
-    more_bytes e = ap line_bytes (split bs at h) ∙ ap (λ (t : Bool). here ∷ cond t [] (line_bytes (drop (at + 1) bs))) (ne_eqb here line_feed e)
+    pub no_feed_here : (here ≡ line_feed → ⊥) → NoFeedYet bs (i + 1)
+    unfolding line_bytes behind
+    no_feed_here e = record {
+      line = n.line ∙ ap (λ (x : List ℕ). take i bs ++ line_bytes x) cut
+          ∙ ap (λ (t : Bool). take i bs ++ here ∷ cond t [] (line_bytes (drop (i + 1) bs))) (ne_eqb here line_feed e)
+          ∙ sym (append_assoc (take i bs) (here ∷ []) (line_bytes (drop (i + 1) bs)))
+          ∙ ap (λ (x : List ℕ). x ++ line_bytes (drop (i + 1) bs)) (sym (take_more bs i h));
+      left = n.left ∙ ap behind cut ∙ ap (λ (t : Bool). cond t (drop (i + 1) bs) (behind (drop (i + 1) bs))) (ne_eqb here line_feed e);
+    }
 
-    more_behind : (here ≡ line_feed → ⊥) → behind (drop (at + 1) bs) ≡ behind (drop at bs)
-    unfolding behind
-    more_behind e = sym (ap behind (split bs at h) ∙ ap (λ (t : Bool). cond t (drop (at + 1) bs) (behind (drop (at + 1) bs))) (ne_eqb here line_feed e))
+-- a line and what is behind it are the bytes, and a line has one
+pub line_lengths : (bs : List ℕ) → length (line_bytes bs) + length (behind bs) ≡ length bs
+unfolding line_bytes behind
+line_lengths [] = refl
+line_lengths (b ∷ bs) = by (eqb b line_feed) (line_lengths bs)
+  where
+    by : (t : Bool) → length (line_bytes bs) + length (behind bs) ≡ length bs
+        → length (b ∷ cond t [] (line_bytes bs)) + length (cond t bs (behind bs)) ≡ length (b ∷ bs)
+    by true e = omega arith
+    by false e = omega (arith, e)
+
+pub line_some : (bs : List ℕ) → 0 < length bs → 0 < length (line_bytes bs)
+unfolding line_bytes
+line_some [] h = absurd (omega arith)
+line_some (b ∷ bs) h = omega arith
 
 -- `rest` is still to be written
 abbrev pub Still : List ℕ → ℕ → List ℕ → List ℕ → ℕ → List ℕ → Type 0
@@ -101,115 +133,66 @@ module _ {l : List ℕ} {i : ℕ} {all : List ℕ} where
       let z = subst (λ (x : List ℕ). Still l i all out next x) e s in
       record { place = both.place ∙ z.place; list = both.list ∙ z.list }
 
--- two bytes, one after the other
-two_put : {out out₁ out₂ : List ℕ} (at a b : ℕ) → out₁ ≡ set out at a → out₂ ≡ set out₁ (at + 1) b → Wrote out at (a ∷ b ∷ []) out₂ (at + 2)
-two_put {out} at a b e f = record {
-  place = omega arith;
-  list = f ∙ ap (λ (x : List ℕ). set x (at + 1) b) e ∙ ap (λ (k : ℕ). set (set out at a) k b) (add-one at);
-}
-
-module _ {out out₁ out₂ : List ℕ} (at : ℕ) (t : Bool) where
-  pub mark_put : t ≡ true → out₁ ≡ set out at (byte "~") → out₂ ≡ set out₁ (at + 1) (byte " ") → Wrote out at (mark_text t) out₂ (at + 2)
-  mark_put h e f = subst (λ (x : Bool). Wrote out at (mark_text x) out₂ (at + 2)) (sym h) (two_put at (byte "~") (byte " ") e f)
-
-  pub blank_put : t ≡ false → out₁ ≡ set out at (byte " ") → out₂ ≡ set out₁ (at + 1) (byte " ") → Wrote out at (mark_text t) out₂ (at + 2)
-  blank_put h e f = subst (λ (x : Bool). Wrote out at (mark_text x) out₂ (at + 2)) (sym h) (two_put at (byte " ") (byte " ") e f)
-
--- the loop over the bytes of a line
-pub record Copies (bs out₀ : List ℕ) (from to : ℕ) (out : List ℕ) (at next : ℕ) : Type 0 where
-  pub still : Still out₀ to (line_bytes (drop from bs)) out next (line_bytes (drop at bs))
-  pub left : behind (drop at bs) ≡ behind (drop from bs)
-  pub within : at ≤ length bs
-  pub behind_from : from ≤ at
-  pub even : next + from ≡ to + at
-
-pub copies_first : (bs out₀ : List ℕ) (from to : ℕ) → from ≤ length bs → Copies bs out₀ from to out₀ from to
-copies_first bs out₀ from to h = record {
-  still = record { place = refl; list = refl };
-  left = refl;
-  within = h;
-  behind_from = omega arith;
-  even = omega arith;
-}
-
-module _ {bs out₀ : List ℕ} {from to : ℕ} {out : List ℕ} {at next : ℕ} (c : Copies bs out₀ from to out at next) where
-  pub copies_length : length out ≡ length out₀
-  copies_length = still_length out next (line_bytes (drop at bs)) c.still
-
-  pub copies_end : length bs ≤ at → CopiedLine bs out₀ from to out (record { at = at; next = next })
-  copies_end h = record {
-    wrote = none_left (end_bytes bs at h) c.still;
-    left = end_behind bs at h ∙ c.left;
-    within = c.within;
-    further = λ k. omega (arith, c.within, h);
-    even = c.even;
-  }
-
-  module _ (h : at < length bs) {out' : List ℕ} (p : out' ≡ set out next (get_or bs at 0)) where
-    byte_put : Wrote out next (get_or bs at 0 ∷ []) out' (next + 1)
-    byte_put = record { place = omega arith; list = p }
-
-    pub put_length : length out' ≡ length out₀
-    put_length = ap length p ∙ length-set out next (get_or bs at 0) ∙ copies_length
-
-    pub copies_feed : get_or bs at 0 ≡ line_feed → CopiedLine bs out₀ from to out' (record { at = at + 1; next = next + 1 })
-    copies_feed e = record {
-      wrote = none_left refl (part_done (get_or bs at 0 ∷ []) [] (feed_bytes bs at h e) byte_put c.still);
-      left = feed_behind bs at h e ∙ c.left;
-      within = omega arith;
-      further = λ k. omega (arith, c.behind_from);
-      even = omega (arith, c.even);
-    }
-
-    pub copies_on : (get_or bs at 0 ≡ line_feed → ⊥) → Copies bs out₀ from to out' (at + 1) (next + 1)
-    copies_on e = record {
-      still = part_done (get_or bs at 0 ∷ []) (line_bytes (drop (at + 1) bs)) (more_bytes bs at h e) byte_put c.still;
-      left = more_behind bs at h e ∙ c.left;
-      within = omega arith;
-      behind_from = omega (arith, c.behind_from);
-      even = omega (arith, c.even);
-    }
+-- the loop over the bytes that are written: the first i of them stand
+pub put_on : (out bs : List ℕ) (at i : ℕ) → i < length bs
+    → set (sets out at (take i bs)) (at + i) (get_or bs i 0) ≡ sets out at (take (i + 1) bs)
+put_on out bs at i h =
+    let w : Wrote out at (take i bs) (sets out at (take i bs)) (at + i) =
+    record { place = omega (arith, length-take-le i bs (omega arith)); list = refl } in
+    let b : Wrote (sets out at (take i bs)) (at + i) (get_or bs i 0 ∷ []) (set (sets out at (take i bs)) (at + i) (get_or bs i 0)) (at + i + 1) =
+    record { place = omega arith; list = refl } in
+    (then w b).list ∙ ap (sets out at) (sym (take_more bs i h))
 
 -- the loop over the lines
-pub record Marking (bs out₀ out : List ℕ) (before : Line) (at next : ℕ) : Type 0 where
-  pub still : Still out₀ 0 (marked bs) out next (marked_from true before (drop at bs))
-  pub within : at ≤ length bs
-  pub close : next ≤ 3 * at
+pub no_bytes : (bs : List ℕ) → eqb (length bs) 0 ≡ true → bs ≡ []
+no_bytes [] e = refl
+no_bytes (b ∷ bs) e = absurd (omega (arith, eqb-true (length (b ∷ bs)) 0 e))
 
-pub marking_first : (bs out₀ : List ℕ) → Marking bs out₀ out₀ no_line 0 0
+pub some_bytes : (bs : List ℕ) → eqb (length bs) 0 ≡ false → 0 < length bs
+some_bytes bs e = let z = eqb-false (length bs) 0 e in omega arith
+
+pub record Marking (bs out₀ out : List ℕ) (before : Option Line) (rest : List ℕ) (next : ℕ) : Type 0 where
+  pub still : Still out₀ 0 (marked bs) out next (marked_from true before rest)
+  pub within : length rest ≤ length bs
+  pub close : next ≤ 3 * (length bs - length rest)
+
+pub marking_first : (bs out₀ : List ℕ) → Marking bs out₀ out₀ no_line bs 0
 marking_first bs out₀ = record { still = record { place = refl; list = refl }; within = omega arith; close = omega arith }
 
-module _ {bs out₀ out : List ℕ} {before : Line} {at next : ℕ} (m : Marking bs out₀ out before at next) where
+module _ {bs out₀ out : List ℕ} {before : Option Line} {rest : List ℕ} {next : ℕ} (m : Marking bs out₀ out before rest next) where
   pub marking_length : length out ≡ length out₀
-  marking_length = still_length out next (marked_from true before (drop at bs)) m.still
+  marking_length = still_length out next (marked_from true before rest) m.still
 
-  pub marking_end : length bs ≤ at → Wrote out₀ 0 (marked bs) out next
-  marking_end h = none_left (marked_end bs at before h) m.still
+  pub marking_end : rest ≡ [] → Wrote out₀ 0 (marked bs) out next
+  marking_end h = none_left (ap (marked_from true before) h ∙ marked_none before) m.still
 
   -- a line with its mark
-  module _ (h : at < length bs) (line : Line) (e : line ≡ line_in (drop at bs)) (t : Bool) (f : t ≡ may_swap before line)
+  module _ (h : 0 < length rest) (line : Option Line) (e : line ≡ line_in rest) (t : Bool) (f : t ≡ may_swap before line)
       {out₁ : List ℕ} {to : ℕ} (w : Wrote out next (mark_text t) out₁ to) where
-    marked_here : marked_from true before (drop at bs) ≡ mark_text t ++ (line_bytes (drop at bs) ++ marked_from true line (behind (drop at bs)))
+    marked_here : marked_from true before rest ≡ mark_text t ++ (line_bytes rest ++ marked_from true line (behind rest))
     marked_here =
-        marked_at bs at before h
-        ∙ ap (λ (x : Line). mark_text (may_swap before x) ++ (line_bytes (drop at bs) ++ marked_from true x (behind (drop at bs)))) (sym e)
-        ∙ ap (λ (x : Bool). mark_text x ++ (line_bytes (drop at bs) ++ marked_from true line (behind (drop at bs)))) (sym f)
+        marked_first before rest h
+        ∙ ap (λ (x : Option Line). mark_text (may_swap before x) ++ (line_bytes rest ++ marked_from true x (behind rest))) (sym e)
+        ∙ ap (λ (x : Bool). mark_text x ++ (line_bytes rest ++ marked_from true line (behind rest))) (sym f)
 
     two : (x : Bool) → length (mark_text x) ≡ 2
     two true = refl
     two false = refl
 
-    pub line_near : length bs ≤ 4294967295 → Near bs at to
-    line_near k = record { within = m.within; lent = k; close = omega (arith, m.close, w.place, two t) }
+    pub line_near : length bs ≤ 4294967295 → to + length rest < 18446744073709551616
+    line_near k = omega (arith, m.within, m.close, w.place, two t)
 
-    module _ {out₂ : List ℕ} {r : Copied} (c : CopiedLine bs out₁ at to out₂ r) where
-      pub marking_on : Marking bs out₀ out₂ line r.at r.next
+    module _ {out₂ : List ℕ} {r : Text × ℕ} (c : CopiedLine rest out₁ to out₂ r) where
+      pub shorter : length r.0.now < length rest
+      shorter = omega (arith, ap length c.left, line_lengths rest, line_some rest h)
+
+      pub marking_on : Marking bs out₀ out₂ line r.0.now r.1
       marking_on =
-          let rest = marked_from true line (behind (drop at bs)) in
-          let mark_done = part_done (mark_text t) (line_bytes (drop at bs) ++ rest) marked_here w m.still in
-          let line_done = part_done (line_bytes (drop at bs)) rest refl c.wrote mark_done in
+          let more = marked_from true line (behind rest) in
+          let mark_done = part_done (mark_text t) (line_bytes rest ++ more) marked_here w m.still in
+          let line_done = part_done (line_bytes rest) more refl c.wrote mark_done in
           record {
-            still = subst (λ (x : List ℕ). Still out₀ 0 (marked bs) out₂ r.next (marked_from true line x)) (sym c.left) line_done;
-            within = c.within;
-            close = omega (arith, c.even, c.further h, m.close, w.place, two t);
+            still = subst (λ (x : List ℕ). Still out₀ 0 (marked bs) out₂ r.1 (marked_from true line x)) (sym c.left) line_done;
+            within = omega (arith, shorter, m.within);
+            close = omega (arith, shorter, m.within, m.close, w.place, two t, c.wrote.place, ap length c.left, line_lengths rest, line_some rest h);
           }

@@ -1,12 +1,13 @@
 -- A trace's line is read for what it says: the process, the item and whether the act only looks.
 use mathlib.Core.Path.{◌≡◌, refl, sym, ap, ap₂, ◌∙◌}
 use mathlib.Core.List.{List, [], ◌∷◌, ◌++◌, append_assoc}
-use mathlib.Core.Bool.{Bool, true, false, cond}
-use Prim.Native.Nat.{ℕ, ◌+◌, ◌%◌, ◌≤◌}
+use mathlib.Core.Bool.{Bool, true, false, not, cond}
+use Rattle.std.specs.Prelude.{Some}
+use Prim.Native.Nat.{ℕ, ◌%◌, ◌≤◌}
 use native.Mathlib.Omega.{arith}
 use lib.Dec.{eqb}
 use lib.ListN.{drop}
-use borrow.Author.Tests.{eqb-true, eqb-false, ne_eqb, le-leb}
+use borrow.Author.Tests.{eqb-true, eqb-false, eq-eqb, ne_eqb, le-leb}
 use Rattle.model.specs.Words.{word_of}
 use Rattle.listing.specs.Quoted.{quoted, byte}
 use Rattle.listing.specs.Decimal.{decimal}
@@ -24,19 +25,22 @@ use Rattle.access.specs.declared.Access.{Access}
 use Rattle.access.specs.TraceLines.{half_text, half_place_text, item_text, act_text, step_line}
 use Rattle.trace_parts.specs.TraceParts.{spaced, bracketed, head_text, end_text, brought_text, start_line}
 use Rattle.access.proofs.Lengths.{SmallAccess}
+use Rattle.marking.specs.declared.NamedItem.{NamedItem}
+use Rattle.marking.specs.declared.NamedItem.TheVariants as name
 use Rattle.marking.specs.declared.Line.{Line}
-use Rattle.marking.specs.Marks.{kind_of, word_named, started_line, only_looks, shown_line}
+use Rattle.marking.specs.Marks.{named, started_line, only_looks, shown_line}
 use Rattle.marking.specs.Reading.{ItemRead, numbered, word_in, half_in, item_in, looks_in, no_line, stepped_in, process_in, line_in}
 
 -- what a named item should be read as
 abbrev as_named : Item → List ℕ → ItemRead
-as_named i rest = record { kind = kind_of i; index = index i; place = word_named i; rest = rest }
+as_named i rest = record { item = named i; rest = rest }
 
 -- a place of Bank or Help
-numbered_named : (kind v : ℕ) (cs : List ℕ) → v ≤ largest → numbered kind (decimal v ++ (byte "]" ∷ cs)) ≡ record { kind = kind; index = v; place = 0; rest = cs }
+numbered_named : (place : ℕ → NamedItem) (v : ℕ) (cs : List ℕ) → v ≤ largest
+    → numbered place (decimal v ++ (byte "]" ∷ cs)) ≡ record { item = place v; rest = cs }
 unfolding numbered
-numbered_named kind v cs h =
-    ap (λ (g : Got). record { kind = kind; index = g.value; place = 0; rest = drop 1 g.rest }) (number_read v (byte "]" ∷ cs) h refl)
+numbered_named place v cs h =
+    ap (λ (g : Got). record { item = place g.value; rest = drop 1 g.rest }) (number_read v (byte "]" ∷ cs) h refl)
 
 -- a half word: behind the number of the buffer stand `][`, the word, `]` and the half
 module _ (f w : ℕ) (hf : f ≤ largest) (hw : w ≤ largest) (half : List ℕ) where
@@ -49,12 +53,16 @@ module _ (f w : ℕ) (hf : f ≤ largest) (hw : w ≤ largest) (half : List ℕ)
   word_named_is : word_in text ≡ record { value = w; rest = byte "]" ∷ byte " " ∷ half }
   word_named_is = ap (λ (g : Got). number_in (drop 2 g.rest)) buffer_named ∙ number_read w (byte "]" ∷ byte " " ∷ half) hw refl
 
-  half_named : half_in text ≡ cond (eqb (first half) (byte "h")) (record { kind = 5; index = f; place = w; rest = drop 4 half }) (record { kind = 4; index = f; place = w; rest = drop 3 half })
+  abbrev high : Bool
+  high = eqb (first half) (byte "h")
+
+  half_named : half_in text ≡ record { item = name.Half high f w; rest = drop (cond high 4 3) half }
   unfolding half_in
   half_named =
-      ap₂ (λ (g v : Got). cond (eqb (first (drop 2 v.rest)) (byte "h"))
-      (record { kind = 5; index = g.value; place = v.value; rest = drop 4 (drop 2 v.rest) })
-      (record { kind = 4; index = g.value; place = v.value; rest = drop 3 (drop 2 v.rest) }))
+      ap₂ (λ (g v : Got).
+      let here : List ℕ = drop 2 v.rest in
+      let is_high : Bool = eqb (first here) (byte "h") in
+      record { item = name.Half is_high g.value v.value; rest = drop (cond is_high 4 3) here })
       buffer_named word_named_is
 
 -- the brackets and the half, one after the other
@@ -64,23 +72,26 @@ spread df dw ht cs = simp append_assoc
 
 which_named : (f w : ℕ) → f ≤ largest → w ≤ largest → (cs : List ℕ) (low : Bool)
     → half_in (((decimal f ++ (byte "]" ∷ [])) ++ ((byte "[" ∷ (decimal w ++ (byte "]" ∷ []))) ++ cond low (quoted " low") (quoted " high"))) ++ cs)
-    ≡ record { kind = cond low 4 5; index = f; place = w; rest = cs }
+    ≡ record { item = name.Half (not low) f w; rest = cs }
 which_named f w hf hw cs true = ap half_in (spread (decimal f) (decimal w) (quoted " low") cs) ∙ half_named f w hf hw (quoted "low" ++ cs)
 which_named f w hf hw cs false = ap half_in (spread (decimal f) (decimal w) (quoted " high") cs) ∙ half_named f w hf hw (quoted "high" ++ cs)
 
-kind_of_half : (k : ℕ) (low : Bool) → eqb (k % 2) 0 ≡ low → cond low 4 5 ≡ 4 + k % 2
-kind_of_half k true e = omega (arith, eqb-true (k % 2) 0 e)
-kind_of_half k false e = let z = eqb-false (k % 2) 0 e in omega arith
+high_half : (k : ℕ) → not (eqb (k % 2) 0) ≡ eqb (k % 2) 1
+high_half k = pick (eqb (k % 2) 0) refl
+  where
+    pick : (low : Bool) → eqb (k % 2) 0 ≡ low → not low ≡ eqb (k % 2) 1
+    pick true e = sym (ne_eqb (k % 2) 1 (λ z. omega (arith, z, eqb-true (k % 2) 0 e)))
+    pick false e = let z = eqb-false (k % 2) 0 e in sym (eq-eqb (k % 2) 1 (omega arith))
 
 -- the item, before what begins with a space
 item_named : (i : Item) (cs : List ℕ) → index i ≤ largest → word_place i ≤ largest → item_in (item_text i ++ (space ∷ cs)) ≡ as_named i (space ∷ cs)
 unfolding item_in item_text bracketed half_place_text half_text
 item_named X cs h k = refl
-item_named (Bank i) cs h k = ap (λ (bs : List ℕ). numbered 2 bs) (append_assoc (decimal i.0) (byte "]" ∷ []) (space ∷ cs)) ∙ numbered_named 2 i.0 (space ∷ cs) h
-item_named (Help i) cs h k = ap (λ (bs : List ℕ). numbered 3 bs) (append_assoc (decimal i.0) (byte "]" ∷ []) (space ∷ cs)) ∙ numbered_named 3 i.0 (space ∷ cs) h
+item_named (Bank i) cs h k = ap (λ (bs : List ℕ). numbered name.Bank bs) (append_assoc (decimal i.0) (byte "]" ∷ []) (space ∷ cs)) ∙ numbered_named name.Bank i.0 (space ∷ cs) h
+item_named (Help i) cs h k = ap (λ (bs : List ℕ). numbered name.Help bs) (append_assoc (decimal i.0) (byte "]" ∷ []) (space ∷ cs)) ∙ numbered_named name.Help i.0 (space ∷ cs) h
 item_named (Half f k) cs h l =
     which_named f.0 (word_of k) h (omega (arith, l)) (space ∷ cs) (eqb (k % 2) 0)
-    ∙ ap (λ (x : ℕ). record { kind = x; index = f.0; place = word_of k; rest = space ∷ cs }) (kind_of_half k (eqb (k % 2) 0) refl)
+    ∙ ap (λ (t : Bool). record { item = name.Half t f.0 (word_of k); rest = space ∷ cs }) (high_half k)
 
 -- the act begins with a space, and its first letter tells whether it only looks
 abbrev Begins : List ℕ → Act → Type 0
@@ -137,16 +148,17 @@ module _ (k p : ℕ) (hk : k ≤ largest) (hp : p ≤ largest) (rest : List ℕ)
   abbrev third : Bool → Line
   third s = cond s (started_line p) (stepped_in p (spaced_number (space ∷ rest)).rest)
 
-  line_named : line_in whole ≡ third (eqb (first rest) (byte "s"))
+  line_named : line_in whole ≡ Some (third (eqb (first rest) (byte "s")))
   unfolding line_in
   line_named =
       ap₂ (λ (g q : Got). cond (is_number g)
-      (cond (eqb (first (drop 1 q.rest)) (byte "s")) (started_line q.value) (stepped_in q.value (spaced_number q.rest).rest)) no_line)
+      (Some (cond (eqb (first (drop 1 q.rest)) (byte "s")) (started_line q.value) (stepped_in q.value (spaced_number q.rest).rest)))
+      no_line)
       entry_named process_named
-      ∙ ap (λ (t : Bool). cond t (third (eqb (first rest) (byte "s"))) no_line) (le-leb k largest hk)
+      ∙ ap (λ (t : Bool). cond t (Some (third (eqb (first rest) (byte "s")))) no_line) (le-leb k largest hk)
 
 -- "for a start, `start L`, .."
-pub start_line_read : (k p letter v : ℕ) (more : List ℕ) → k ≤ largest → p ≤ largest → line_in (start_line k p letter v ++ more) ≡ started_line p
+pub start_line_read : (k p letter v : ℕ) (more : List ℕ) → k ≤ largest → p ≤ largest → line_in (start_line k p letter v ++ more) ≡ Some (started_line p)
 unfolding start_line head_text spaced
 start_line_read k p letter v more hk hp =
     let behind = quoted "start " ++ ((letter ∷ []) ++ (brought_text letter v ++ (quoted "\n" ++ more))) in
@@ -155,7 +167,7 @@ start_line_read k p letter v more hk hp =
 
 -- the step's line
 pub step_line_read : (k p : ℕ) (a : Access) (answered : Bool) (more : List ℕ) → k ≤ largest → p ≤ largest → SmallAccess a
-    → line_in (step_line k p a answered ++ more) ≡ shown_line p a
+    → line_in (step_line k p a answered ++ more) ≡ Some (shown_line p a)
 unfolding step_line head_text spaced
 step_line_read k p a answered more hk hp small =
     let i = a.item in
@@ -165,14 +177,14 @@ step_line_read k p a answered more hk hp small =
     let text : step_line k p a answered ++ more ≡ decimal k ++ (space ∷ (decimal p ++ (space ∷ number))) = simp append_assoc in
     let line = spaced_read a.line (item_text i ++ tail) low (item_stop i tail) in
     let here = act_spaced a.act i a.first a.second (end_text answered ++ more) in
-    let named : item_in (item_text i ++ tail) ≡ as_named i tail =
+    let read : item_in (item_text i ++ tail) ≡ as_named i tail =
     ap (λ (bs : List ℕ). item_in (item_text i ++ bs)) here ∙ item_named i (drop 1 tail) small.index small.word ∙ ap (as_named i) (sym here) in
     let look = (act_named a.act i a.first a.second (end_text answered ++ more)).1 in
     ap line_in text ∙ line_named k p hk hp number
-    ∙ ap (λ (t : Bool). cond t (started_line p) (stepped_in p (spaced_number (space ∷ number)).rest)) (not_s number (begins a.line (item_text i ++ tail) low (item_stop i tail)))
-    ∙ ap (λ (g : Got). stepped_in p g.rest) line
-    ∙ ap (λ (x : ItemRead). record { process = p; kind = x.kind; index = x.index; place = x.place; looks = looks_in x.rest }) named
-    ∙ ap (λ (t : Bool). record { process = p; kind = kind_of i; index = index i; place = word_named i; looks = t }) look
+    ∙ ap (λ (t : Bool). Some (cond t (started_line p) (stepped_in p (spaced_number (space ∷ number)).rest))) (not_s number (begins a.line (item_text i ++ tail) low (item_stop i tail)))
+    ∙ ap (λ (g : Got). Some (stepped_in p g.rest)) line
+    ∙ ap (λ (x : ItemRead). Some (record { process = p; touched = Some (record { item = x.item; looks = looks_in x.rest }) })) read
+    ∙ ap (λ (t : Bool). Some (record { process = p; touched = Some (record { item = named i; looks = t }) })) look
 
 -- and the last line of a trace is no command's
 pub end_line_read : (e : ℕ) (more : List ℕ) → line_in (end_line e ++ more) ≡ no_line

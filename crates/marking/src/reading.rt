@@ -1,163 +1,87 @@
 // A line of a trace, read for what it tells of its command. The lines are those that a trace writes.
-ghost use Rattle.std.specs.Prelude.{◌≡◌, ◌≤◌, length, drop};
-ghost use Rattle.marking.specs.Marks.{started_line};
-ghost use Rattle.marking.specs.Reading.{no_line, numbered, half_in, item_in, looks_in, line_in, Behind, GivesNamed};
+ghost use Rattle.std.specs.Prelude.{◌≡◌, drop};
+ghost use Rattle.answers.specs.Readers.{first, number_in, spaced_number, GivesNumber};
+ghost use Rattle.marking.specs.Reading.{half_in, item_in, looks_in, line_in, GivesGot, GivesItem};
 
-use crate::{BANK, HELP, HIGH, LOW, Line, NO_COMMAND, NO_ITEM, X};
-use answers::numbers;
+use crate::{Line, NamedItem, Touch};
+use answers::{Read, numbers};
 
-// An item that is named at a place of the text, and the place after it.
-#[derive(Clone, Copy)]
-pub struct Named {
-    pub kind: u8,
-    pub index: u64,
-    pub place: u64,
-    pub next: usize,
+// A number and the text behind it. Where none stands, as in no line of a trace, it is one more than the largest.
+fn or_too_large(read: Read<'_, u64>) -> (u64, &[u8])
+    ensures { GivesGot read.entry result }
+{
+    match read {
+        Ok(read) => read,
+        Err(rest) => (numbers::LARGEST + 1, rest),
+    }
 }
 
-// The place k bytes further on, or the end.
-fn further(text: &[u8], at: usize, k: usize) -> usize
-    requires { (at ≤ length text.now) × (k ≤ 8) }
-    ensures { Behind text.now at k result }
+// The text from the k-th byte on.
+fn skip(text: &[u8], k: usize) -> &[u8]
+    ensures { result.now ≡ drop k text.now }
 {
-    if k <= text.len() - at {
-        return at + k;
-    }
-    text.len()
-}
-
-// A place of Bank or Help: its number, and the bracket behind it.
-fn numbered(text: &[u8], at: usize, kind: u8) -> Named
-    requires { at ≤ length text.now }
-    ensures { GivesNamed text.now result (numbered kind (drop at text.now)) }
-{
-    let number = numbers::number(text, at);
-    let next = further(text, number.next, 1);
-    Named {
-        kind,
-        index: number.value,
-        place: 0,
-        next,
-    }
+    &text[k.min(text.len())..]
 }
 
 // A half word: buffer, word, and which half.
-fn half(text: &[u8], at: usize) -> Named
-    requires { at ≤ length text.now }
-    ensures { GivesNamed text.now result (half_in (drop at text.now)) }
+#[tactic(auto, unfolding(crate::specs::Reading::half_in))]
+fn half(text: &[u8]) -> (NamedItem, &[u8])
+    ensures { GivesItem result (half_in text.now) }
 {
-    let buffer = numbers::number(text, at);
-    let inner = further(text, buffer.next, 2);
-    let word = numbers::number(text, inner);
-    let behind = further(text, word.next, 2);
-    if numbers::byte_at(text, behind) == b'h' {
-        let next = further(text, behind, 4);
-        return Named {
-            kind: HIGH,
-            index: buffer.value,
-            place: word.value,
-            next,
-        };
-    }
-    let next = further(text, behind, 3);
-    Named {
-        kind: LOW,
-        index: buffer.value,
-        place: word.value,
-        next,
-    }
+    let (buffer, rest) = or_too_large(numbers::number(text));
+    let (word, rest) = or_too_large(numbers::number(skip(rest, 2)));
+    let rest = skip(rest, 2);
+    let high = matches!(rest, [b'h', ..]);
+    let rest = skip(rest, if high { 4 } else { 3 });
+    (NamedItem::Half { high, buffer, word }, rest)
 }
 
 // The item, told by its second letter; X has none.
-fn item(text: &[u8], at: usize) -> Named
-    requires { at ≤ length text.now }
-    ensures { GivesNamed text.now result (item_in (drop at text.now)) }
+#[tactic(auto, unfolding(crate::specs::Reading::item_in, crate::specs::Reading::numbered))]
+fn item(text: &[u8]) -> (NamedItem, &[u8])
+    ensures { GivesItem result (item_in text.now) }
 {
-    let second = further(text, at, 2);
-    let letter = numbers::byte_at(text, second);
-    if letter == b'a' {
-        let from = further(text, at, 6);
-        return numbered(text, from, BANK);
-    }
-    if letter == b'e' {
-        let from = further(text, at, 6);
-        return numbered(text, from, HELP);
-    }
-    if letter == b'U' {
-        let from = further(text, at, 5);
-        return half(text, from);
-    }
-    Named {
-        kind: X,
-        index: 0,
-        place: 0,
-        next: second,
+    let named = skip(text, 2);
+    match named {
+        [b'a', ..] => {
+            let (place, rest) = or_too_large(numbers::number(skip(text, 6)));
+            (NamedItem::Bank(place), skip(rest, 1))
+        }
+        [b'e', ..] => {
+            let (place, rest) = or_too_large(numbers::number(skip(text, 6)));
+            (NamedItem::Help(place), skip(rest, 1))
+        }
+        [b'U', ..] => half(skip(text, 5)),
+        _ => (NamedItem::X, named),
     }
 }
 
 // LL, VL and read only look; SC and write alter.
-fn looks(text: &[u8], at: usize) -> bool
-    requires { at ≤ length text.now }
-    ensures { result ≡ looks_in (drop at text.now) }
+#[tactic(auto, unfolding(crate::specs::Reading::looks_in))]
+fn looks(text: &[u8]) -> bool
+    ensures { result ≡ looks_in text.now }
 {
-    let from = further(text, at, 1);
-    let letter = numbers::byte_at(text, from);
-    if letter == b'L' {
-        return true;
-    }
-    if letter == b'V' {
-        return true;
-    }
-    letter == b'r'
+    matches!(skip(text, 1), [b'L' | b'V' | b'r', ..])
 }
 
-// The line of a start of process p, and a line that is no command's.
-fn started(p: u64) -> Line
-    ensures { result ≡ started_line p }
+// The line that the text begins with; none where it is no command's.
+#[tactic(auto, unfolding(crate::specs::Reading::line_in))]
+pub fn line(text: &[u8]) -> Option<Line>
+    ensures { result ≡ line_in text.now }
 {
-    Line {
-        process: p,
-        kind: NO_ITEM,
-        index: 0,
-        place: 0,
-        looks: true,
+    let (_, rest) = numbers::number(text).ok()?;
+    let (process, rest) = or_too_large(numbers::spaced_number(rest));
+    if let [b's', ..] = skip(rest, 1) {
+        return Some(Line {
+            process,
+            touched: None,
+        });
     }
-}
-
-pub fn no_line() -> Line
-    ensures { result ≡ no_line }
-{
-    Line {
-        process: 0,
-        kind: NO_COMMAND,
-        index: 0,
-        place: 0,
-        looks: true,
-    }
-}
-
-// The line at a place.
-pub fn line(text: &[u8], at: usize) -> Line
-    requires { at ≤ length text.now }
-    ensures { result ≡ line_in (drop at text.now) }
-{
-    let entry = numbers::number(text, at);
-    if numbers::LARGEST < entry.value {
-        return no_line();
-    }
-    let p = numbers::spaced_number(text, entry.next);
-    let from = further(text, p.next, 1);
-    if numbers::byte_at(text, from) == b's' {
-        return started(p.value);
-    }
-    let number = numbers::spaced_number(text, p.next);
-    let touched = item(text, number.next);
-    let looks = looks(text, touched.next);
-    Line {
-        process: p.value,
-        kind: touched.kind,
-        index: touched.index,
-        place: touched.place,
-        looks,
-    }
+    let (_, rest) = or_too_large(numbers::spaced_number(rest));
+    let (item, rest) = item(rest);
+    let looks = looks(rest);
+    Some(Line {
+        process,
+        touched: Some(Touch { item, looks }),
+    })
 }

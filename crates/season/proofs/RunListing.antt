@@ -27,7 +27,7 @@ use Rattle.entry.proofs.WordLaws.{Below}
 use Rattle.entry.proofs.SingleLaws.{value_every}
 use Rattle.answers.specs.Shape as G
 use Rattle.answers.specs.Shape.{largest, longest_listing, Answer, Fits, AllFit, no_lines, line, Last, LastFits, end_fits, refused_fits, Shaped, Right}
-use Rattle.answers.proofs.PlaceLaws.{either}
+use Rattle.answers.proofs.ChoiceLaws.{either}
 use Rattle.season.proofs.CommandLines.{Adds, nothing, answer, Left, left}
 
 -- a run in progress whose listing so far is answer lines of N and W

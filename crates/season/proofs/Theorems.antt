@@ -24,7 +24,7 @@ use Rattle.semantics.specs.TextRun.{Ended, begun, carry_all, started, carried_ou
 use Rattle.entry.proofs.WordLaws.{Below, Every, every_replicate}
 use Rattle.run.proofs.StartLaws.{number_small}
 use Rattle.answers.specs.Shape.{largest, longest_listing, Right}
-use Rattle.answers.proofs.PlaceLaws.{either}
+use Rattle.answers.proofs.ChoiceLaws.{either}
 use Rattle.sums.specs.declared.Sums.{Sums}
 use Rattle.sums.specs.Season.{most_listings, sums_refusal, added}
 use Rattle.sums.proofs.Theorems.{right_taken}

@@ -46,8 +46,8 @@ impl NotAdded {
 impl From<Refusal> for NotAdded {
     ghost from_gives = { λ r n. n ≡ Refused r };
 
-    fn from(refusal: Refusal) -> NotAdded {
-        NotAdded::Refused(refusal)
+    fn from(row: Refusal) -> NotAdded {
+        NotAdded::Refused(row)
     }
 }
 

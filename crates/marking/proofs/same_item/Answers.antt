@@ -1,17 +1,28 @@
--- `marking::same_item` meets its contract: each number that differs answers.
-use mathlib.Core.Path.{refl}
-use Rattle.laws.proofs.AndLaws.{pass}
-use borrow.Author.Tests.{eq-eqb, ne_eqb}
+-- What the derive compares is what the definition does.
+use Rattle.std.proofs.Common.{◌≡◌, refl, ◌∙◌}
+use Rattle.marking.specs.declared.NamedItem.{NamedItem}
+use Rattle.marking.specs.declared.NamedItem.TheVariants as name
+use Rattle.marking.specs.contracts.NamedItemPartialEq.TheImpl
+use Rattle.marking.specs.Marks.{same_item}
 use Rattle.marking.proofs.same_item.Goals as goal
 
--- src/lib.rt:32:9
-pub returns-then-a-b : goal.returns-then-a-b
-returns-then-a-b c = simp (ne_eqb _ _ c.if-a-b.true)
+as_derived : (a b : NamedItem) → TheImpl.ghosts.eq a b ≡ same_item a b
+as_derived name.X name.X = refl
+as_derived name.X (name.Bank j) = refl
+as_derived name.X (name.Help j) = refl
+as_derived name.X (name.Half h' f' w') = refl
+as_derived (name.Bank i) name.X = refl
+as_derived (name.Bank i) (name.Bank j) = refl
+as_derived (name.Bank i) (name.Help j) = refl
+as_derived (name.Bank i) (name.Half h' f' w') = refl
+as_derived (name.Help i) name.X = refl
+as_derived (name.Help i) (name.Bank j) = refl
+as_derived (name.Help i) (name.Help j) = refl
+as_derived (name.Help i) (name.Half h' f' w') = refl
+as_derived (name.Half h f w) name.X = refl
+as_derived (name.Half h f w) (name.Bank j) = refl
+as_derived (name.Half h f w) (name.Help j) = refl
+as_derived (name.Half h f w) (name.Half h' f' w') = refl
 
--- src/lib.rt:35:9
-pub returns-then-a-b-2 : goal.returns-then-a-b-2
-returns-then-a-b-2 c = simp (eq-eqb _ _ c.if-a-b.false, ne_eqb _ _ c.if-a-b-2.true)
-
--- src/lib.rt:28:1
 pub returns : goal.returns
-returns c = pass _ (eq-eqb _ _ c.if-a-b.false) (pass _ (eq-eqb _ _ c.if-a-b-2.false) refl)
+returns c = c.eq.ensures ∙ as_derived c.args.a c.args.b

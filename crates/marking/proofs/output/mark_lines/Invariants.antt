@@ -1,11 +1,10 @@
--- `marking::output::mark_lines`: what is left of the trace is still to be written, with its marks.
-use Prim.Native.Nat.{◌-◌}
-use lib.ListN.{length}
+-- What is left of the trace is still to be written, with its marks.
+use Rattle.std.proofs.Common.{length}
 use Rattle.marking.proofs.MarkedLaws.{Marking}
 use Rattle.marking.proofs.output.mark_lines.Given as goal
 
-abbrev pub invariant-loop-at : goal.invariant-loop-at
-invariant-loop-at l = Marking l.text l.initial.out l.out l.before l.at l.next
+abbrev pub invariant-loop-rest : goal.invariant-loop-rest
+invariant-loop-rest l = Marking l.text l.initial.out l.out l.before l.rest l.next
 
-abbrev pub decreases-loop-at : goal.decreases-loop-at
-decreases-loop-at l = length l.text - l.at
+abbrev pub decreases-loop-rest : goal.decreases-loop-rest
+decreases-loop-rest l = length l.rest

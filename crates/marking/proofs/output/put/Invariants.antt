@@ -1,0 +1,6 @@
+use Rattle.std.proofs.Common.{◌≡◌, take}
+use Rattle.std.proofs.lemmas.List.Edits.{sets}
+use Rattle.marking.proofs.output.put.Given as goal
+
+abbrev pub invariant-loop-i : goal.invariant-loop-i
+invariant-loop-i l = l.out ≡ sets l.initial.out l.at (take l.i l.bytes)
