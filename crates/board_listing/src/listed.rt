@@ -14,6 +14,7 @@ use board_rows::file_refusal;
 use boards::trailers::records_of;
 use entry::state::Run;
 use entry::{entries, limits};
+use llsc::refusals::number_of;
 use model::Bench;
 use run::{last_line, set_up};
 use tables::records::Records;
@@ -32,7 +33,7 @@ fn run_file(run: Run, file: &[u8], words: &mut [u64], list: &mut [u8]) -> Run
     requires { (Between (state_of run words.old list.old)) × (run ≡ fresh_run run.bench run.all 0 false) × (room_needed false ≤ length list.old) }
     ensures { RunsFile run words.old file.now list.old result words.new list.new }
 {
-    let number = file_refusal(file);
+    let number = number_of(file_refusal(file));
     if number != 0 {
         return refused(run.bench, run.all, number, list);
     }

@@ -5,6 +5,8 @@ use mathlib.Core.Bool.{Bool, true, false, not, cond}
 use Prim.Native.Nat.{ℕ, ◌≤◌}
 use native.Mathlib.Omega.{arith}
 use lib.ListN.{length}
+use Rattle.llsc.specs.Refusals.{number_told, refused_if}
+use Rattle.llsc.specs.declared.refusals.Refusal.TheVariants.{BadRecord}
 use Rattle.boards.specs.Files.{good_trailer, good_records, file_number}
 use Rattle.boards.proofs.RefusalLaws.{trailed}
 
@@ -20,11 +22,9 @@ module _ (file : List ℕ) where
     pub long_enough : 12 ≤ length file
     long_enough = (trailed file g).long
 
-    pub bad_record : good_records file ≡ false → 26 ≡ file_number file
-    bad_record e = rows true false g e
-
-    pub right_file : good_records file ≡ true → 0 ≡ file_number file
-    right_file e = rows true true g e
+    pub recorded : (t : Bool) → good_records file ≡ t → number_told (refused_if (not t) BadRecord) ≡ file_number file
+    recorded true e = rows true true g e
+    recorded false e = rows true false g e
 
   pub has_trailer : file_number file ≡ 0 → good_trailer file ≡ true
   has_trailer z = go (good_trailer file) refl

@@ -3,22 +3,19 @@
 #![tactic(auto)]
 
 ghost use Rattle.std.specs.Prelude.{◌≡◌};
+ghost use Rattle.llsc.specs.Refusals.{number_told};
 ghost use Rattle.boards.specs.Files.{file_number};
 
 use boards::records::good_records;
-use boards::refusals::{BAD_RECORD, BAD_TRAILER};
 use boards::trailers::{good_trailer, records_of};
+use llsc::refusals::Refusal;
 
-// "25 and 26 also before a run": the number of the file's refusal, 0 for none.
-pub fn file_refusal(file: &[u8]) -> u8
-    ensures { result ≡ file_number file.now }
+// "25 and 26 also before a run": refused for the first of them that holds.
+pub fn file_refusal(file: &[u8]) -> Result<(), Refusal>
+    ensures { number_told result ≡ file_number file.now }
 {
     if !good_trailer(file) {
-        return BAD_TRAILER;
+        return Err(Refusal::BadTrailer);
     }
-    let from = records_of(file);
-    if !good_records(file, from) {
-        return BAD_RECORD;
-    }
-    0
+    Refusal::BadRecord.if_holds(!good_records(file, records_of(file)))
 }

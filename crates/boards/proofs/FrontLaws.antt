@@ -1,47 +1,16 @@
 -- A record's tests, and the records from a place on.
-use mathlib.Core.Path.{◌≡◌, refl, sym, ap, ap₂, ◌∙◌}
+use mathlib.Core.Path.{◌≡◌, refl, sym, ap, ap₂, subst, ◌∙◌}
 use mathlib.Core.List.{List, ◌∷◌}
 use mathlib.Core.Bool.{Bool, true, false, ◌&&◌, ◌||◌}
 use Prim.Native.Nat.{ℕ, zero, suc, ◌+◌, ◌-◌, ◌*◌, ◌≤◌, ◌<◌}
 use native.Mathlib.Omega.{arith}
 use lib.Dec.{eqb, leb}
-use borrow.Author.Tests.{le-leb, lt-leb, eq-eqb, ne_eqb}
+use borrow.Author.Tests.{le-leb, lt-leb}
 use lib.ListN.{length, drop}
 use lib.Seq.{get_or-drop, drop-drop}
 use Rattle.laws.proofs.AndLaws.{pass, fail}
 use Rattle.boards.specs.Files.{BoardRecord, byte_at, joined, number4, record_of, records_of, good_front, good_fronts, rising}
 use Rattle.boards.specs.Places.{record_at, good_at, good_from}
-
-module _ (bs : List ℕ) (at : ℕ) where
-  abbrev order : ℕ
-  order = byte_at bs (at + 9)
-
-  abbrev valued : Bool
-  valued = eqb order 2 || eqb (number4 bs (at + 4)) 0
-
-  pub bad_order : 3 < order → false ≡ good_at bs at
-  unfolding good_at
-  bad_order h = fail (leb order 3 && valued) _ (sym (fail (leb order 3) valued (lt-leb order 3 h)))
-
-  module _ (h : order ≤ 3) (v : ℕ) (e : v ≡ number4 bs (at + 4)) where
-    -- the value's test, as the code makes it
-    valued_as : {r t : Bool} → r ≡ (eqb order 2 || eqb v 0) → r ≡ t → valued ≡ t
-    valued_as f g = ap (λ (x : ℕ). eqb order 2 || eqb x 0) (sym e) ∙ sym f ∙ g
-
-    pub bad_value : {r : Bool} → r ≡ (eqb order 2 || eqb v 0) → r ≡ false → false ≡ good_at bs at
-    unfolding good_at
-    bad_value f g = fail (leb order 3 && valued) _ (sym (pass (leb order 3) (le-leb order 3 h) (sym (valued_as f g))))
-
-    module _ (r : Bool) (f : r ≡ (eqb order 2 || eqb v 0)) (g : r ≡ true) where
-      front : {t : Bool} → t ≡ (eqb (byte_at bs (at + 10)) 0 && eqb (byte_at bs (at + 11)) 0) → t ≡ good_at bs at
-      unfolding good_at
-      front k = pass (leb order 3 && valued) (sym (pass (leb order 3) (le-leb order 3 h) (sym (valued_as f g)))) k
-
-      pub bad_pad : (byte_at bs (at + 10) ≡ 0 → ⊥) → false ≡ good_at bs at
-      bad_pad n = front (fail (eqb (byte_at bs (at + 10)) 0) _ (ne_eqb (byte_at bs (at + 10)) 0 n))
-
-      pub last_pad : byte_at bs (at + 10) ≡ 0 → eqb (byte_at bs (at + 11)) 0 ≡ good_at bs at
-      last_pad z = front (pass (eqb (byte_at bs (at + 10)) 0) (eq-eqb (byte_at bs (at + 10)) 0 z) refl)
 
 -- the front of what is left is what stands at the place
 four_drop : (bs : List ℕ) (at i : ℕ) → number4 (drop at bs) i ≡ number4 bs (at + i)
@@ -81,6 +50,16 @@ module _ (bs : List ℕ) (at n : ℕ) (some : 0 < n) where
     next_good =
         ap (λ (k : ℕ). good_from t k (drop at bs)) one_more
         ∙ ap₂ ◌&&◌ (at_front bs at) (ap₂ (λ (x : ℕ) (l : List ℕ). leb t x && good_from x (n - 1) l) (tick_drop bs at) (drop-drop 12 at bs))
+
+-- record i of n that begin at a place, as so many left from a place on
+module _ (P : ℕ → ℕ → Type 0) (n at : ℕ) where
+  pub at_first : P n at → P (n - 0) (at + 12 * 0)
+  at_first h = subst (λ k. P (n - 0) k) (let e : at ≡ at + 12 * 0 = omega arith in e) (subst (λ k. P k at) (let e : n ≡ n - 0 = omega arith in e) h)
+
+  pub at_next : (i : ℕ) → P (n - i - 1) (at + 12 * i + 12) → P (n - (i + 1)) (at + 12 * (i + 1))
+  at_next i h =
+      subst (λ k. P (n - (i + 1)) k) (let e : at + 12 * i + 12 ≡ at + 12 * (i + 1) = omega arith in e)
+      (subst (λ k. P k (at + 12 * i + 12)) (let e : n - i - 1 ≡ n - (i + 1) = omega arith in e) h)
 
 -- the loop over a file's records: those from the first on are good exactly where those left are, from the last tick on
 pub record Rising (bs : List ℕ) (left₀ at₀ left at tick : ℕ) : Type 0 where

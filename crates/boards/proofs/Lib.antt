@@ -1,5 +1,4 @@
 pub mod StoreLaws
-pub mod TrailerLaws
 pub mod FrontLaws
 pub mod ProcessLaws
 pub mod FileLaws

@@ -10,6 +10,13 @@ use lib.ListN.{length, drop}
 use lib.Seq.{sets}
 use Rattle.laws.proofs.AndLaws.{left, right}
 use Rattle.laws.proofs.AllLaws.{or_none}
+use Rattle.llsc.specs.Refusals.{refusal_number, number_told, refused_if}
+use Rattle.llsc.specs.declared.refusals.Refusal.{Refusal}
+use Rattle.llsc.specs.declared.refusals.Refusal.TheVariants.{NOutOfRange, WOutOfRange, TooLittleLent, NoSuchProcess, StartAtBusy, StepAtIdle}
+use Rattle.llsc.specs.declared.refusals.Refusal.TheVariants.{NeverLinked, ValueNotWWords, NumberOutOfRange, TextBroken, TooDeep, TooMuch}
+use Rattle.llsc.specs.declared.refusals.Refusal.TheVariants.{NoRoom, NoSuchSuccess, TooManyCalls, AnswerNotAfterStart, NoListing, SeasonFull}
+use Rattle.llsc.specs.declared.refusals.Refusal.TheVariants.{TooManyTurns, NoSuchNumber, NotASchedule, ROutOfRange, NoSuchRecord, BadTrailer}
+use Rattle.llsc.specs.declared.refusals.Refusal.TheVariants.{BadRecord, ProcessInBoth, TooLittleRoom}
 use Rattle.boards.specs.Files.{offset, count, marked, ends_there, good_trailer, records_of, decode, good_records, largest, encode}
 use Rattle.boards.specs.Merging.{merge, share_process, file_size, too_large, merge_number, merged_file, merged, merge_files}
 use Rattle.boards.specs.Places.{left_of, There, good_from, Ready, file_merged}
@@ -105,11 +112,10 @@ module _ (a b : List ℕ) (room : ℕ) where
       shared e = sym (rows true true true _ (ap₂ ◌&&◌ ga gb) (ap₂ ◌&&◌ ra rb) e refl)
 
       module _ (no : share_process (decode a) (decode b) ≡ false) where
-        pub large : too_large (file_size (length (decode a) + length (decode b))) room ≡ true → 28 ≡ merge_number a b room
-        large e = sym (rows true true false true (ap₂ ◌&&◌ ga gb) (ap₂ ◌&&◌ ra rb) no e)
-
-        pub none : too_large (file_size (length (decode a) + length (decode b))) room ≡ false → 0 ≡ merge_number a b room
-        none e = sym (rows true true false false (ap₂ ◌&&◌ ga gb) (ap₂ ◌&&◌ ra rb) no e)
+        pub sized : (t : Bool) → too_large (file_size (length (decode a) + length (decode b))) room ≡ t
+            → number_told (refused_if t TooLittleRoom) ≡ merge_number a b room
+        sized true e = sym (rows true true false true (ap₂ ◌&&◌ ga gb) (ap₂ ◌&&◌ ra rb) no e)
+        sized false e = sym (rows true true false false (ap₂ ◌&&◌ ga gb) (ap₂ ◌&&◌ ra rb) no e)
 
 -- no row holds
 pub record Passed (a b : List ℕ) (room : ℕ) : Type 0 where
@@ -145,6 +151,36 @@ passed a b room e =
     truths true true true l z = absurd (omega arith)
     truths true true false true z = absurd (omega arith)
     truths true true false false z = (refl, (refl, (refl, refl)))
+
+-- no refusal has the number 0
+pub positive : (r : Refusal) → refusal_number r ≡ 0 → ⊥
+positive NOutOfRange e = omega arith
+positive WOutOfRange e = omega arith
+positive TooLittleLent e = omega arith
+positive NoSuchProcess e = omega arith
+positive StartAtBusy e = omega arith
+positive StepAtIdle e = omega arith
+positive NeverLinked e = omega arith
+positive ValueNotWWords e = omega arith
+positive NumberOutOfRange e = omega arith
+positive TextBroken e = omega arith
+positive TooDeep e = omega arith
+positive TooMuch e = omega arith
+positive NoRoom e = omega arith
+positive NoSuchSuccess e = omega arith
+positive TooManyCalls e = omega arith
+positive AnswerNotAfterStart e = omega arith
+positive NoListing e = omega arith
+positive SeasonFull e = omega arith
+positive TooManyTurns e = omega arith
+positive NoSuchNumber e = omega arith
+positive NotASchedule e = omega arith
+positive ROutOfRange e = omega arith
+positive NoSuchRecord e = omega arith
+positive BadTrailer e = omega arith
+positive BadRecord e = omega arith
+positive ProcessInBoth e = omega arith
+positive TooLittleRoom e = omega arith
 
 -- the entry: refused, or not
 module _ (a b out : List ℕ) (n : ℕ) (e : n ≡ merge_number a b (length out)) where

@@ -10,7 +10,9 @@ pub mod refusals;
 pub mod trailers;
 
 ghost use Rattle.std.specs.Prelude.{◌≡◌};
-ghost use Rattle.boards.specs.Merging.{merge_files};
+ghost use Rattle.boards.specs.Merging.{told, merge_files};
+
+use llsc::refusals::Refusal;
 
 // The records that are left of a file: `count` of them, from the place `at` on.
 #[derive(Clone, Copy)]
@@ -27,18 +29,28 @@ pub struct Merged {
     pub written: usize,
 }
 
-// Two files into one. At a refusal the output stays as it was; else the bytes after those written do.
+impl From<Result<usize, Refusal>> for Merged {
+    ghost from_gives = { λ outcome m. m ≡ told outcome };
+
+    fn from(outcome: Result<usize, Refusal>) -> Merged {
+        match outcome {
+            Ok(written) => Merged { number: 0, written },
+            Err(refusal) => Merged {
+                number: refusal.number(),
+                written: 0,
+            },
+        }
+    }
+}
+
+// Two files into one: the bytes written. At a refusal the output stays as it was; else the bytes after those written do.
 // Ruled out: the second file first at equal ticks, 27 before 26, a falling tick, a record left out at the end of a
 // file, free bytes in the result.
-pub fn merge(first: &[u8], second: &[u8], out: &mut [u8]) -> Merged
-    ensures { (result, out.new) ≡ merge_files first.now second.now out.old }
+pub fn merge(first: &[u8], second: &[u8], out: &mut [u8]) -> Result<usize, Refusal>
+    ensures { (told result, out.new) ≡ merge_files first.now second.now out.old }
 {
-    let number = refusals::refusal(first, second, out.len());
-    if number != 0 {
-        return Merged { number, written: 0 };
-    }
+    refusals::refusal(first, second, out.len())?;
     let a = trailers::records_of(first);
     let b = trailers::records_of(second);
-    let written = merging::write_merged(first, a, second, b, out);
-    Merged { number: 0, written }
+    Ok(merging::write_merged(first, a, second, b, out))
 }

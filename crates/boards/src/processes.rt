@@ -12,12 +12,8 @@ fn marked(s: &[u8], from: Left) -> [bool; 256]
     ensures { result ≡ marks (left_of s.now from) (replicate 256 false) }
 {
     let mut table = [false; 256];
-    let mut left = from.count;
-    let mut at = from.at;
-    while left > 0 {
-        table[s[at + 8] as usize] = true;
-        at += RECORD_SIZE;
-        left -= 1;
+    for i in 0..from.count {
+        table[s[from.at + RECORD_SIZE * i + 8] as usize] = true;
     }
     table
 }
@@ -27,14 +23,10 @@ fn some_marked(s: &[u8], from: Left, table: &[bool; 256]) -> bool
     requires { There s.now from }
     ensures { result ≡ some_marked table.now (left_of s.now from) }
 {
-    let mut left = from.count;
-    let mut at = from.at;
-    while left > 0 {
-        if table[s[at + 8] as usize] {
+    for i in 0..from.count {
+        if table[s[from.at + RECORD_SIZE * i + 8] as usize] {
             return true;
         }
-        at += RECORD_SIZE;
-        left -= 1;
     }
     false
 }

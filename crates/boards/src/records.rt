@@ -1,5 +1,5 @@
 // Records: which are good, and one copied.
-ghost use Rattle.std.specs.Prelude.{◌≡◌, [], ◌||◌, ◌+◌, ◌*◌, ◌≤◌, eqb, length, drop};
+ghost use Rattle.std.specs.Prelude.{◌≡◌, [], ◌+◌, ◌≤◌, length, drop};
 ghost use Rattle.std.proofs.lemmas.List.Edits.{sets};
 ghost use Rattle.boards.specs.Files.{record_bytes};
 ghost use Rattle.boards.specs.Places.{record_at, good_at, good_from, There};
@@ -13,33 +13,17 @@ const ORDER_SC: u8 = 2;
 
 const ORDER_VL: u8 = 3;
 
-// The value is 0 unless the order is SC.
-fn good_value(order: u8, value: usize) -> bool
-    ensures { result ≡ (eqb order 2 || eqb value 0) }
-{
-    if order == ORDER_SC {
-        return true;
-    }
-    value == 0
-}
-
-// A good record at a place.
+// A good record at a place: its value is 0 unless the order is SC.
+#[tactic(auto, unfolding(crate::specs::Places::good_at))]
 fn good_at(s: &[u8], at: usize) -> bool
     requires { at + 12 ≤ length s.now }
     ensures { result ≡ good_at s.now at }
 {
     let order = s[at + 9];
-    let value = number_at(s, at + 4);
-    if order > ORDER_VL {
-        return false;
-    }
-    if !good_value(order, value) {
-        return false;
-    }
-    if s[at + 10] != 0 {
-        return false;
-    }
-    s[at + 11] == 0
+    order <= ORDER_VL
+        && (order == ORDER_SC || number_at(s, at + 4) == 0)
+        && s[at + 10] == 0
+        && s[at + 11] == 0
 }
 
 // What row 26 asks of a file: good records, whose ticks never fall.
@@ -47,20 +31,14 @@ pub fn good_records(s: &[u8], from: Left) -> bool
     requires { There s.now from }
     ensures { result ≡ good_from 0 from.count (drop from.at s.now) }
 {
-    let mut left = from.count;
-    let mut at = from.at;
     let mut tick = 0;
-    while left > 0 {
-        if !good_at(s, at) {
-            return false;
-        }
+    for i in 0..from.count {
+        let at = from.at + RECORD_SIZE * i;
         let next = number_at(s, at);
-        if next < tick {
+        if !good_at(s, at) || next < tick {
             return false;
         }
         tick = next;
-        at += RECORD_SIZE;
-        left -= 1;
     }
     true
 }
@@ -72,5 +50,5 @@ pub fn copy_record(s: &[u8], at: usize, out: &mut [u8], to: usize)
 {
     let tick = number_at(s, at);
     let value = number_at(s, at + 4);
-    put_twelve(out, to, tick, value, s[at + 8], s[at + 9], 0, 0);
+    put_twelve(out, to, tick, value, [s[at + 8], s[at + 9], 0, 0]);
 }

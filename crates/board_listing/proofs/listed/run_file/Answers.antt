@@ -6,28 +6,28 @@ use Rattle.board_listing.proofs.listed.run_file.Goals as goal
 
 pub refused-requires : goal.refused-requires
 refused-requires c =
-    (file_small _ c.file_refusal-number.ensures, c.requires.2)
+    (file_small _ (c.number_of-number.ensures ∙ c.file_refusal.ensures), c.requires.2)
 
 pub returns-then-number-ne0 : goal.returns-then-number-ne0
 returns-then-number-ne0 c =
     let a = c.args in
-    file_refused a.run a.words.now a.file.now a.list.now c.file_refusal-number.ensures c.if-number-ne0.true c.refused.ensures
+    file_refused a.run a.words.now a.file.now a.list.now (c.number_of-number.ensures ∙ c.file_refusal.ensures) c.if-number-ne0.true c.refused.ensures
 
 pub records_of-from-requires : goal.records_of-from-requires
 records_of-from-requires c =
-    long_enough c.args.file.now (has_trailer c.args.file.now (sym c.file_refusal-number.ensures ∙ c.if-number-ne0.false))
+    long_enough c.args.file.now (has_trailer c.args.file.now (sym (c.number_of-number.ensures ∙ c.file_refusal.ensures) ∙ c.if-number-ne0.false))
 
 pub obey_records-done-requires : goal.obey_records-done-requires
 obey_records-done-requires c =
     let x = c.args in
     let f = c.records_of-from in (
-      records_there x.run x.words.now x.file.now x.list.now c.file_refusal-number.ensures c.if-number-ne0.false _ f.ensures,
+      records_there x.run x.words.now x.file.now x.list.now (c.number_of-number.ensures ∙ c.file_refusal.ensures) c.if-number-ne0.false _ f.ensures,
       c.requires.0,
-      records_few x.run x.words.now x.file.now x.list.now c.file_refusal-number.ensures c.if-number-ne0.false _ f.ensures,
+      records_few x.run x.words.now x.file.now x.list.now (c.number_of-number.ensures ∙ c.file_refusal.ensures) c.if-number-ne0.false _ f.ensures,
     )
 
 pub returns : goal.returns
 returns c =
     let x = c.args in
-    file_run_is x.run x.words.now x.file.now x.list.now c.file_refusal-number.ensures c.if-number-ne0.false _ c.records_of-from.ensures c.requires.1
+    file_run_is x.run x.words.now x.file.now x.list.now (c.number_of-number.ensures ∙ c.file_refusal.ensures) c.if-number-ne0.false _ c.records_of-from.ensures c.requires.1
     c.obey_records-done.ensures c.close.ensures

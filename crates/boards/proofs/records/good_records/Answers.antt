@@ -1,38 +1,23 @@
 -- `boards::records::good_records` meets its contract.
-use mathlib.Core.Path.{refl}
 use native.Mathlib.Omega.{arith}
-use Rattle.boards.proofs.FrontLaws.{record_fails, tick_falls, record_passes, none_left}
+use Rattle.boards.proofs.FrontLaws.{at_next, Rising, record_fails, tick_falls, record_passes, none_left}
 use Rattle.boards.proofs.records.good_records.Goals as goal
-
-pub loop-left-init : goal.loop-left-init
-loop-left-init c = record { there = c.requires; same = refl }
-
-pub good_at-requires : goal.good_at-requires
-good_at-requires c = omega (arith, c.loop-left.invariant.there, c.loop-left-test.true)
+use Rattle.boards.proofs.records.good_records.Goals.{then-not-good_at-via-then-not-good_at, then-not-good_at-via-else-not-good_at+then-next-tick}
 
 pub returns-then-not-good_at : goal.returns-then-not-good_at
 returns-then-not-good_at c =
-    record_fails c.loop-left.invariant c.loop-left-test.true _ c.good_at.ensures c.if-not-good_at.true
+    let i = c.loop-i.invariant in let good = c.good_at.ensures in
+    elim c.then-not-good_at.branch [
+      | then-not-good_at-via-then-not-good_at w ↦ record_fails i (omega (arith, c.loop-i-test.true)) _ good w.if-not-good_at.true
+      | then-not-good_at-via-else-not-good_at+then-next-tick w ↦
+          tick_falls i (omega (arith, c.loop-i-test.true)) _ good _ c.number_at-next.ensures.same w.if-not-good_at.false (omega (arith, w.if-next-tick.true))
+    ]
 
-pub number_at-next-requires : goal.number_at-next-requires
-number_at-next-requires c = omega (arith, c.loop-left.invariant.there, c.loop-left-test.true)
-
-pub returns-then-next-tick : goal.returns-then-next-tick
-returns-then-next-tick c =
-    tick_falls c.loop-left.invariant c.loop-left-test.true _ c.good_at.ensures _ c.number_at-next.ensures.same c.if-not-good_at.false (omega (arith, c.if-next-tick.true))
-
-pub overflow_add-at : goal.overflow_add-at
-overflow_add-at c = omega (arith, c.loop-left.invariant.there, c.loop-left-test.true)
-
-pub overflow_sub-left : goal.overflow_sub-left
-overflow_sub-left c = omega (arith, c.loop-left-test.true)
-
-pub loop-left-smaller : goal.loop-left-smaller
-loop-left-smaller c = omega (arith, c.loop-left-test.true)
-
-pub loop-left-preserved : goal.loop-left-preserved
-loop-left-preserved c =
-    record_passes c.loop-left.invariant c.loop-left-test.true _ c.good_at.ensures _ c.number_at-next.ensures.same c.if-not-good_at.false (omega (arith, c.if-next-tick.false))
+pub loop-i-preserved : goal.loop-i-preserved
+loop-i-preserved c =
+    at_next (λ left at. Rising c.args.s.now c.args.from.count c.args.from.at left at c.number_at-next.result) _ _ c.loop-i.i
+    (record_passes c.loop-i.invariant (omega (arith, c.loop-i-test.true)) _ c.good_at.ensures _ c.number_at-next.ensures.same c.if-not-good_at.false
+    (omega (arith, c.if-next-tick.false)))
 
 pub returns : goal.returns
-returns c = none_left c.loop-left.invariant (omega arith)
+returns c = none_left c.loop-i.invariant (omega (arith, c.loop-i-test.false))
