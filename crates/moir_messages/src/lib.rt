@@ -10,8 +10,6 @@ use messages::calls;
 use messages::calls::{Call, Method, process_number};
 use moir_lines::points;
 use moir_model::Process;
-use moir_rows::records;
-use moir_rows::records::Records;
 use positions::StopReport;
 use std::io;
 use std::io::Write;
@@ -28,7 +26,7 @@ pub fn explain(
     number: u8,
     entries: usize,
     report: StopReport,
-    all: Records,
+    all: [Process; 16],
     text: &[u8],
 ) -> io::Result<()> {
     if number != 0 {
@@ -94,20 +92,20 @@ fn call_of(process: Process) -> Call
 }
 
 // The call of process p; of a number that is none of N it is not looked at.
-fn call_at(p: u64, all: Records) -> Call
-    ensures { result ≡ call_at p all.list }
+fn call_at(p: u64, all: [Process; 16]) -> Call
+    ensures { result ≡ call_at p all }
 {
     let i = process_number(p);
-    call_of(records::record_at(all, i))
+    call_of(all[i.0 as usize])
 }
 
 // A line for each process below N that has an open call.
-fn still_open(to: &mut impl Write, n: u64, w: u64, all: Records) -> io::Result<()> {
+fn still_open(to: &mut impl Write, n: u64, w: u64, all: [Process; 16]) -> io::Result<()> {
     let mut p = 0;
     while p < 16 {
         if (p as u64) < n {
             let method = Method { figure: FIGURE, w };
-            calls::open_line(to, p, method, call_of(all.list[p]))?;
+            calls::open_line(to, p, method, call_of(all[p]))?;
         }
         p += 1;
     }
