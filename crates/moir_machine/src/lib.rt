@@ -6,6 +6,7 @@ ghost use Rattle.std.specs.Prelude.{◌≡◌, length};
 ghost use Rattle.moir_rows.specs.CommandRows.{decision_number};
 ghost use Rattle.moir_machine.specs.Decision.{refused_outcome, obeyed_outcome, decided};
 
+use llsc::refusals::number_of;
 use llsc::{Order, ProcessNumber};
 use moir_model::{Bench, Moved, Process, Reply};
 use moir_rows::records::Records;
@@ -84,6 +85,7 @@ pub fn decide(
 ) -> Outcome
     ensures { (result, words.new) ≡ decided bench all.list len p order value.now words.old }
 {
-    let number = table::refusal(bench, all, len, p, order, value.len(), words.len());
+    let refusal = table::refusal(bench, all, len, p, order, value.len(), words.len());
+    let number = number_of(refusal);
     decide_by(number, bench, all, len, p, order, value, words)
 }

@@ -4,7 +4,6 @@ ghost use Rattle.moir_model.specs.SetUp.{bench_at_set_up, words_at_set_up};
 ghost use Rattle.moir_machine.specs.SetUpByValue.{set_up_number, tags_set, Accepted, prepared};
 
 use moir_model::{Bench, sizes};
-use moir_rows::causes;
 use moir_steps::items;
 use words::word_runs;
 
@@ -26,7 +25,7 @@ pub fn set_up_number(n: usize, w: usize, records: usize, words: usize, value: us
     if rows::causes::w_out_of_range(w) {
         return rows::causes::W_OUT_OF_RANGE;
     }
-    if causes::too_little_lent(n, w, records, words) {
+    if rows::causes::too_little_lent(n, sizes::lent_words(n, w), records, words) {
         return rows::causes::TOO_LITTLE_LENT;
     }
     if value != w {

@@ -1,7 +1,7 @@
 // Row 9 of the refusal table: whether the numbers of the lent records are in their ranges, over what N needs.
-ghost use Rattle.std.specs.Prelude.{◌≡◌, ◌≤◌, ◌&&◌, [], ltb, take};
-ghost use Rattle.llsc.specs.Rows.{every};
-ghost use Rattle.moir_model.specs.Refusals.{header_ok, line_ok, count_ok, process_ok, in_range};
+ghost use Rattle.std.specs.Prelude.{◌≡◌, ◌≤◌, [], take};
+ghost use Rattle.std.specs.List.{list_all};
+ghost use Rattle.moir_model.specs.Refusals.{header_ok, is_idle, line_ok, count_ok, process_ok, in_range};
 
 use crate::records::Records;
 use moir_lines::points;
@@ -14,19 +14,36 @@ pub fn header_ok(n: usize, header: Header) -> bool
     (header.pid.0 as usize) < n
 }
 
-// Idle, or a point of Figure 6: whether each number up to that of the last point stands for one.
+// Whether a process has no open call.
+pub fn is_idle(process: Process) -> bool
+    ensures { result ≡ is_idle process }
+{
+    process.line == points::IDLE
+}
+
+// Idle, or a point of Figure 6.
 pub fn line_ok(process: Process) -> bool
     ensures { result ≡ line_ok process }
 {
-    let line = process.line as usize;
-    if line > points::SC_7 as usize {
-        return false;
-    }
-    let points = [
-        true, false, true, false, true, true, true, true, false, false, true, false, false, true,
-        true, false, false, true, false, true, false, false, true, false, true, true, true, true,
-    ];
-    points[line]
+    matches!(
+        process.line,
+        points::IDLE
+            | points::WLL_2
+            | points::WLL_4
+            | points::WLL_5
+            | points::WLL_6
+            | points::WLL_7
+            | points::WLL_10
+            | points::VL_13
+            | points::SC_14
+            | points::SC_17
+            | points::SC_19
+            | points::SC_2
+            | points::SC_4
+            | points::SC_5
+            | points::SC_6
+            | points::SC_7
+    )
 }
 
 // An idle process has count 0, a busy one at most 6W+1.
@@ -34,26 +51,12 @@ pub fn count_ok(w: usize, process: Process) -> bool
     requires { w ≤ 64 }
     ensures { result ≡ count_ok w process }
 {
-    let count = process.count;
-    if process.line == points::IDLE {
-        return count <= 0;
-    }
-    count <= sizes::busy_most(w)
-}
-
-// The line, the word place and the count of a process.
-fn progress_ok(w: usize, process: Process) -> bool
-    requires { w ≤ 64 }
-    ensures { result ≡ (line_ok process && (ltb process.word w && count_ok w process)) }
-{
-    let word = process.word;
-    if !line_ok(process) {
-        return false;
-    }
-    if word >= w {
-        return false;
-    }
-    count_ok(w, process)
+    let most = if is_idle(process) {
+        0
+    } else {
+        sizes::busy_most(w)
+    };
+    process.count <= most
 }
 
 // A process record.
@@ -61,45 +64,31 @@ pub fn process_ok(n: usize, w: usize, process: Process) -> bool
     requires { w ≤ 64 }
     ensures { result ≡ process_ok n w process }
 {
-    if !header_ok(n, process.x) {
-        return false;
-    }
-    if !header_ok(n, process.oldhdr) {
-        return false;
-    }
-    if !header_ok(n, process.newhdr) {
-        return false;
-    }
-    if !header_ok(n, process.h) {
-        return false;
-    }
-    progress_ok(w, process)
+    header_ok(n, process.x)
+        && header_ok(n, process.oldhdr)
+        && header_ok(n, process.newhdr)
+        && header_ok(n, process.h)
+        && line_ok(process)
+        && process.word < w
+        && count_ok(w, process)
 }
 
 // The first N of sixteen records.
-pub fn records_ok(n: usize, w: usize, all: Records) -> bool
+fn records_ok(n: usize, w: usize, all: Records) -> bool
     requires { (n ≤ 16) × (w ≤ 64) }
-    ensures { result ≡ every (process_ok n w) (take n all.list) }
+    ensures { result ≡ list_all (process_ok n w) (take n all.list) }
 {
-    let mut i = 0;
-    while i < n {
-        let process = all.list[i];
-        if !process_ok(n, w, process) {
-            return false;
-        }
-        i += 1;
-    }
-    true
+    all.list
+        .iter()
+        .take(n)
+        .all(|process| process_ok(n, w, *process))
 }
 
 // Row 9, over the bench and the records.
-#[tactic(auto, unfolding(moir_model::specs::Refusals::in_range))]
+#[tactic(auto, using(laws::proofs::ListLaws::every_is_all), unfolding(moir_model::specs::Refusals::in_range))]
 pub fn in_range(bench: Bench, all: Records) -> bool
     requires { (bench.n ≤ 16) × (bench.w ≤ 64) }
     ensures { result ≡ in_range (record { bench = bench; records = all.list; words = [] }) }
 {
-    if !header_ok(bench.n, bench.header) {
-        return false;
-    }
-    records_ok(bench.n, bench.w, all)
+    header_ok(bench.n, bench.header) && records_ok(bench.n, bench.w, all)
 }

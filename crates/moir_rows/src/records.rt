@@ -25,14 +25,12 @@ pub fn records_of(q: Process) -> Records
 }
 
 // The record of process p replaced.
-pub fn with_record(all: Records, p: ProcessNumber, q: Process) -> Records
+pub fn with_record(mut all: Records, p: ProcessNumber, q: Process) -> Records
     requires { p.0 < 16 }
     ensures { result ≡ record { list = set all.list p.0 q } }
 {
-    let i = p.0 as usize;
-    let mut next = all;
-    next.list[i] = q;
-    next
+    all.list[p.0 as usize] = q;
+    all
 }
 
 // The record at place i of those that are lent is that of process i.
@@ -48,6 +46,5 @@ pub fn record_at(all: Records, p: ProcessNumber) -> Process
     requires { p.0 < 16 }
     ensures { result ≡ record_at all.list p }
 {
-    let i = p.0 as usize;
-    all.list[i]
+    all.list[p.0 as usize]
 }

@@ -101,7 +101,8 @@ pub fn turn(run: Run, e: Entry, list: &mut [u8], words: &mut [u64]) -> Run
     let p = entries::process_of(e) as usize;
     let order = entries::order_of(e);
     let count = entries::words_of(e, run.bench.w);
-    let number = table::refusal(run.bench, run.all, 16, p, order, count, words.len());
+    let refusal = table::refusal(run.bench, run.all, 16, p, order, count, words.len());
+    let number = number_of(refusal);
     if number != 0 {
         return stopped(run, number);
     }
