@@ -11,8 +11,10 @@ ghost use Rattle.station.specs.StationSetUp.{station_set_up};
 ghost use Rattle.station_run.specs.StationText.{station_run_text};
 
 use llsc::Order;
+use llsc::refusals::number_of;
 use model::Reply;
 use station::{Station, StationProcess};
+use station_setup::gathered::set_up_gathered;
 
 // Process `process`, any number, is given an order: a start names a record, any number, and brings the words of `value`
 // where it starts an SC; a step goes to the record of the open call, whatever `named` and `value` are.
@@ -33,11 +35,9 @@ pub fn command(
         ≡ station_command (station_memory station.old processes.old words.old)
         (record { process = process; order = order; called = named; value = value.now }) }
 {
-    let s = *station;
     let len = processes.len();
-    let none = station::empty_process();
-    let all = lent::gather(processes, none);
-    let out = station_machine::decide(s, all, len, process, order, named, value, words);
+    let all = lent::gather(processes, station::empty_process());
+    let out = station_machine::decide(*station, all, len, process, order, named, value, words);
     *station = out.station;
     // A refusal names a place past the end, and there nothing is stored.
     lent::store_at(processes, out.at, out.process);
@@ -62,14 +62,17 @@ pub fn set_up(
     ensures { (result, station_memory station.new processes.new words.new)
         ≡ station_set_up (station_memory station.old processes.old words.old) n w r value.now }
 {
-    let s = *station;
     let len = processes.len();
-    let none = station::empty_process();
-    let all = lent::gather(processes, none);
-    let out = station_setup::gathered::set_up_gathered(s, all, len, n, w, r, value, words);
-    *station = out.station;
-    lent::store_back(processes, out.all, out.stored);
-    out.number
+    let all = lent::gather(processes, station::empty_process());
+    // Kept: 01 promises its users a number.
+    match set_up_gathered(*station, all, len, n, w, r, value, words) {
+        Ok(set) => {
+            *station = set.station;
+            lent::store_back(processes, &set.all, station::empty_process(), n);
+            0
+        }
+        Err(refusal) => refusal.number(),
+    }
 }
 
 // What a text run returns: its number, 0 at `end`, the entries done and the listing bytes written.
@@ -100,13 +103,11 @@ pub fn run_text(
     }
         ≡ station_run_text (station_memory station.old processes.old words.old) text.now listing.old }
 {
-    let s = *station;
     let len = processes.len();
-    let none = station::empty_process();
-    let all = lent::gather(processes, none);
-    let out = station_run::run_by_value(s, all, len, words, text, listing);
+    let all = lent::gather(processes, station::empty_process());
+    let out = station_run::run_by_value(*station, all, len, words, text, listing);
     *station = out.station;
-    lent::store_back(processes, out.all, out.stored);
+    lent::store_back(processes, &out.all, station::empty_process(), out.stored);
     TextRun {
         number: out.number,
         entries: out.entries,
@@ -120,7 +121,8 @@ pub fn run_text(
 pub fn view_number(w: usize, value: &[u64], written: &[u64], k: usize) -> u8
     ensures { result ≡ view_number w value.now written.now k }
 {
-    viewing::view_number(w, value, written, k)
+    // Kept: 01 promises its users a number.
+    number_of(viewing::view_refusal(w, value, written, k))
 }
 
 // The words of success k, no copy: the set-up value for 0, else a part of the list; an empty part of the set-up value

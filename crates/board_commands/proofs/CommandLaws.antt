@@ -21,7 +21,6 @@ use Rattle.station_rows.specs.StationCommandRows.{station_number}
 use Rattle.station_machine.specs.declared.Outcome.{Outcome}
 use Rattle.station_machine.specs.StationDecision.{station_decided}
 use Rattle.station_machine.proofs.StationObeyLaws.{refused_law, obeyed_law}
-use Rattle.station_records.specs.declared.processes.Processes.{Processes}
 use Rattle.board_commands.specs.BoardRun.{order_of}
 use Rattle.board_commands.specs.ByValue.{at_most64, decided}
 
@@ -102,15 +101,15 @@ module _ (s : Station) (list : List StationProcess) (len p : ℕ) (o : Order) (n
             absurd (omega (arith, r, e, z))
 
 -- what the code brings is the record's command
-pub record_decided : (s : Station) (all : Processes) (len : ℕ) (r : BoardRecord) (ws : List ℕ) {k w : ℕ} {o : Order} {v : List ℕ} {out : Outcome × List ℕ}
+pub record_decided : (s : Station) (all : List StationProcess) (len : ℕ) (r : BoardRecord) (ws : List ℕ) {k w : ℕ} {o : Order} {v : List ℕ} {out : Outcome × List ℕ}
     → k ≡ r.value → w ≡ at_most64 s.w → o ≡ order_of r.order → v ≡ take w (replicate 64 k) → w ≤ 64
-    → out ≡ station_decided s all.list len r.process o 0 v ws → out ≡ decided s all len r ws
+    → out ≡ station_decided s all len r.process o 0 v ws → out ≡ decided s all len r ws
 unfolding decided
 record_decided s all len r ws {k} {w} {o} ek ew eo ev h e =
     e
-    ∙ ap₂ (λ (x : Order) (v : List ℕ). station_decided s all.list len r.process x 0 v ws) eo
+    ∙ ap₂ (λ (x : Order) (v : List ℕ). station_decided s all len r.process x 0 v ws) eo
     (ev ∙ take_replicate w 64 k h ∙ ap₂ (λ (i j : ℕ). replicate i j) ew ek)
-    ∙ enough s all.list len r.process (order_of r.order) 0 r.value ws
+    ∙ enough s all len r.process (order_of r.order) 0 r.value ws
 
 pub at_most : (w : ℕ) → at_most64 w ≤ 64
 at_most w = go (ltb 64 w) refl
@@ -120,10 +119,10 @@ at_most w = go (ltb 64 w) refl
     go false e = omega (arith, ltb-false 64 w e)
 
 -- the place of an accepted command's process record
-pub accepted_place : (s : Station) (all : Processes) (len : ℕ) (r : BoardRecord) (ws : List ℕ) (out : Outcome) (ws' : List ℕ) → (out, ws') ≡ decided s all len r ws
+pub accepted_place : (s : Station) (all : List StationProcess) (len : ℕ) (r : BoardRecord) (ws : List ℕ) (out : Outcome) (ws' : List ℕ) → (out, ws') ≡ decided s all len r ws
     → (k : ℕ) → k ≡ number_of out.reply → k ≡ 0 → Accepted s len out
 unfolding decided
 accepted_place s all len r ws out ws' e k n z =
     let same : out ≡ (decided s all len r ws).0 = ap (λ (x : Outcome × List ℕ). x.0) e in
     subst (Accepted s len) (sym same)
-    (accepted s all.list len r.process (order_of r.order) 0 (replicate s.w r.value) ws (ap (λ (x : Outcome). number_of x.reply) (sym same) ∙ sym n ∙ z))
+    (accepted s all len r.process (order_of r.order) 0 (replicate s.w r.value) ws (ap (λ (x : Outcome). number_of x.reply) (sym same) ∙ sym n ∙ z))

@@ -10,11 +10,11 @@ use Rattle.boards.specs.declared.Left.{Left}
 use Rattle.boards.proofs.RefusalLaws.{its_records, as_left, they_are_there}
 use Rattle.board_rows.proofs.FileRows.{has_trailer}
 use Rattle.station.specs.declared.Station.{Station}
-use Rattle.station_records.specs.declared.processes.Processes.{Processes}
+use Rattle.station.specs.declared.StationProcess.{StationProcess}
 use Rattle.board_commands.specs.declared.RunLeft.{RunLeft}
 use Rattle.board_commands.specs.ByValue.{left_with, records_run, file_run}
 
-module _ (file : List ℕ) (s : Station) (all : Processes) (len : ℕ) (ws : List ℕ) (k : ℕ) (e : k ≡ file_number file) where
+module _ (file : List ℕ) (s : Station) (all : List StationProcess) (len : ℕ) (ws : List ℕ) (k : ℕ) (e : k ≡ file_number file) where
   pub refused_file : (k ≡ 0 → ⊥) → (r : RunLeft) → r ≡ left_with s all k 0 → (r, ws) ≡ file_run file s all len ws
   unfolding file_run
   refused_file h r q =

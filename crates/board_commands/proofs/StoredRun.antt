@@ -18,9 +18,9 @@ use Rattle.station.specs.declared.StationProcess.{StationProcess}
 use Rattle.station.specs.Station.{StationMemory, station_memory}
 use Rattle.station.specs.StationCommand.{station_command}
 use Rattle.station.specs.StationSetUp.{empty_process}
-use Rattle.station_records.specs.declared.processes.Processes.{Processes}
-use Rattle.station_records.specs.Gathered.{gathered, processes_stored}
-use Rattle.station_records.proofs.GatheredLaws.{gathered_length, gathered_here}
+use Rattle.lent.specs.Gathered.{gathered, stored}
+use Rattle.station_records.specs.Gathered.{processes_stored}
+use Rattle.lent.proofs.GatheredLaws.{gathered_length, gathered_here}
 use Rattle.station_machine.specs.declared.Outcome.{Outcome}
 use Rattle.station_machine.specs.StationDecision.{stored_back}
 use Rattle.station_machine.proofs.StationDecisionLaws.{decision_law}
@@ -36,12 +36,12 @@ e = empty_process
 
 -- process records stored one by one
 stored_length : (l a : List StationProcess) (k : ℕ) → length (processes_stored l a k) ≡ length l
-unfolding processes_stored
+unfolding stored
 stored_length l a zero = refl
 stored_length l a (suc k) = length-set (processes_stored l a k) k (get_or a k e) ∙ stored_length l a k
 
 stored_below : (l a : List StationProcess) (k j : ℕ) → j < k → j < length l → get_or (processes_stored l a k) j e ≡ get_or a j e
-unfolding processes_stored
+unfolding stored
 stored_below l a zero j h i = absurd (not-suc-le-zero h)
 stored_below l a (suc k) j h i = go (λ lt. stored_below l a k j lt i) (eqb j k) refl
   where
@@ -52,28 +52,27 @@ stored_below l a (suc k) j h i = go (λ lt. stored_below l a k j lt i) (eqb j k)
     go f false q = let ne = eqb-false j k q in get_or-set_other (processes_stored l a k) k j (get_or a k e) e ne ∙ f (omega (arith, ne))
 
 stored_above : (l a : List StationProcess) (k j : ℕ) → k ≤ j → get_or (processes_stored l a k) j e ≡ get_or l j e
-unfolding processes_stored
+unfolding stored
 stored_above l a zero j h = refl
 stored_above l a (suc k) j h =
     get_or-set_other (processes_stored l a k) k j (get_or a k e) e (λ z. omega arith) ∙ stored_above l a k j (omega arith)
 
 -- a process record replaced and then gathered, or gathered and then replaced
 set_gathered : (l : List StationProcess) (i : ℕ) (q : StationProcess) → i < 16 → i < length l
-    → record { list = set (gathered l e 16).list i q } ≡ gathered (set l i q) e 16
+    → set (gathered l e 16) i q ≡ gathered (set l i q) e 16
 set_gathered l i q h k =
-    ap (λ (x : List StationProcess). record { list = x })
-    (ext_get_or e (set (gathered l e 16).list i q) (gathered (set l i q) e 16).list
-    (length-set (gathered l e 16).list i q ∙ gathered_length l e 16 ∙ sym (gathered_length (set l i q) e 16))
-    (λ j b. at j (let x = length-set (gathered l e 16).list i q in let y = gathered_length l e 16 in omega arith) (eqb j i) refl))
+    ext_get_or e (set (gathered l e 16) i q) (gathered (set l i q) e 16)
+    (length-set (gathered l e 16) i q ∙ gathered_length l e 16 ∙ sym (gathered_length (set l i q) e 16))
+    (λ j b. at j (let x = length-set (gathered l e 16) i q in let y = gathered_length l e 16 in omega arith) (eqb j i) refl)
   where
-    at : (j : ℕ) → j < 16 → (t : Bool) → eqb j i ≡ t → get_or (set (gathered l e 16).list i q) j e ≡ get_or (gathered (set l i q) e 16).list j e
+    at : (j : ℕ) → j < 16 → (t : Bool) → eqb j i ≡ t → get_or (set (gathered l e 16) i q) j e ≡ get_or (gathered (set l i q) e 16) j e
     at j b true z =
         let same : j ≡ i = eqb-true j i z in
-        rw same (get_or-set_same (gathered l e 16).list i q e (let y = gathered_length l e 16 in omega arith)
+        rw same (get_or-set_same (gathered l e 16) i q e (let y = gathered_length l e 16 in omega arith)
         ∙ sym (gathered_here (set l i q) e 16 i (omega arith) h ∙ get_or-set_same l i q e k))
     at j b false z =
         let ne = eqb-false j i z in
-        get_or-set_other (gathered l e 16).list i j q e ne ∙ gathered_here l e 16 j (omega arith) b
+        get_or-set_other (gathered l e 16) i j q e ne ∙ gathered_here l e 16 j (omega arith) b
         ∙ sym (gathered_here (set l i q) e 16 j (omega arith) b ∙ get_or-set_other l i j q e ne)
 
 -- The process records now, after so many commands done, and those that were lent: the first N may have changed.
@@ -84,27 +83,27 @@ record Kept (n done : ℕ) (lent ps : List StationProcess) : Type 0 where
   some_done : (done ≡ 0 → ⊥) → n ≤ 16
 
 stored_as_kept : (n done : ℕ) (lent ps : List StationProcess) → Kept n done lent ps
-    → processes_stored lent (gathered ps e 16).list (cond (eqb done 0) 0 n) ≡ ps
-unfolding processes_stored
+    → processes_stored lent (gathered ps e 16) (cond (eqb done 0) 0 n) ≡ ps
+unfolding stored
 stored_as_kept n done lent ps k = go (eqb done 0) refl
   where
-    go : (t : Bool) → eqb done 0 ≡ t → processes_stored lent (gathered ps e 16).list (cond t 0 n) ≡ ps
+    go : (t : Bool) → eqb done 0 ≡ t → processes_stored lent (gathered ps e 16) (cond t 0 n) ≡ ps
     go true z = sym (k.none_done (eqb-true done 0 z))
     go false z =
-        ext_get_or e (processes_stored lent (gathered ps e 16).list n) ps
-        (stored_length lent (gathered ps e 16).list n ∙ sym k.long)
-        (λ j h. at j (let x = stored_length lent (gathered ps e 16).list n in omega arith) (dec_lt j n))
+        ext_get_or e (processes_stored lent (gathered ps e 16) n) ps
+        (stored_length lent (gathered ps e 16) n ∙ sym k.long)
+        (λ j h. at j (let x = stored_length lent (gathered ps e 16) n in omega arith) (dec_lt j n))
       where
         few : n ≤ 16
         few = k.some_done (eqb-false done 0 z)
 
-        at : (j : ℕ) → j < length lent → Dec (j < n) → get_or (processes_stored lent (gathered ps e 16).list n) j e ≡ get_or ps j e
-        at j h (yes b) = stored_below lent (gathered ps e 16).list n j b h ∙ gathered_here ps e 16 j (omega arith) (omega (arith, b, few))
-        at j h (no b) = stored_above lent (gathered ps e 16).list n j (omega arith) ∙ sym (k.others j (omega arith))
+        at : (j : ℕ) → j < length lent → Dec (j < n) → get_or (processes_stored lent (gathered ps e 16) n) j e ≡ get_or ps j e
+        at j h (yes b) = stored_below lent (gathered ps e 16) n j b h ∙ gathered_here ps e 16 j (omega arith) (omega (arith, b, few))
+        at j h (no b) = stored_above lent (gathered ps e 16) n j (omega arith) ∙ sym (k.others j (omega arith))
 
 -- one record: its command by value, stored back, is the command
 module _ (lent : List StationProcess) (r : BoardRecord) (s : Station) (ps : List StationProcess) (ws : List ℕ) where
-  abbrev all : Processes
+  abbrev all : List StationProcess
   all = gathered ps e 16
 
   abbrev out : Outcome × List ℕ
@@ -138,7 +137,7 @@ module _ (lent : List StationProcess) (r : BoardRecord) (s : Station) (ps : List
   refused_as : (number_of out.0.reply ≡ 0 → ⊥) → (out.1 ≡ ws) × (made.1 ≡ station_memory s ps ws)
   unfolding decided
   refused_as h =
-      let same = refusal_stays s all.list (length ps) r.process (order_of r.order) 0 (replicate s.w r.value) ws h in
+      let same = refusal_stays s all (length ps) r.process (order_of r.order) 0 (replicate s.w r.value) ws h in
       let stays : set ps (length ps) empty_process ≡ ps = set_out ps (length ps) empty_process (omega arith) in (
         ap (λ (x : Outcome × List ℕ). x.1) same,
         ap (λ (x : Reply × StationMemory). x.1) (sym as_command ∙ ap (stored_back ps) same) ∙ ap (λ (l : List StationProcess). station_memory s l ws) stays,
@@ -180,7 +179,7 @@ module _ (lent : List StationProcess) (r : BoardRecord) (rs : List BoardRecord) 
   either_way k rest true z =
       let n = eqb-true number 0 z in
       let as_long : length (after lent r s ps ws) ≡ length ps = length-set ps o.0.at o.0.process in
-      ap₂ (λ (x : Processes) (i : ℕ). stored_run lent (records_run (suc done) rs o.0.station x i o.1)) (gathered_after lent r s ps ws n) (sym as_long)
+      ap₂ (λ (x : List StationProcess) (i : ℕ). stored_run lent (records_run (suc done) rs o.0.station x i o.1)) (gathered_after lent r s ps ws n) (sym as_long)
       ∙ rest (kept_after lent r s ps ws n done k)
       ∙ ap (λ (x : Reply × StationMemory). run_records (suc done) rs x.1) (as_command lent r s ps ws)
   either_way k rest false z =

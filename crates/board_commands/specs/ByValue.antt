@@ -7,7 +7,6 @@ use Rattle.boards.specs.Files.{BoardRecord, decode, file_number}
 use Rattle.station.specs.declared.Station.{Station}
 use Rattle.station.specs.declared.StationProcess.{StationProcess}
 use Rattle.station.specs.Station.{StationMemory, station_memory}
-use Rattle.station_records.specs.declared.processes.Processes.{Processes}
 use Rattle.station_records.specs.Gathered.{processes_stored}
 use Rattle.station_machine.specs.declared.Outcome.{Outcome}
 use Rattle.station_machine.specs.StationDecision.{station_decided}
@@ -20,20 +19,20 @@ abbrev pub at_most64 : ℕ → ℕ
 at_most64 w = cond (ltb 64 w) 64 w
 
 -- what a record's command comes to
-unfoldable pub decided : Station → Processes → ℕ → BoardRecord → List ℕ → Outcome × List ℕ
+unfoldable pub decided : Station → List StationProcess → ℕ → BoardRecord → List ℕ → Outcome × List ℕ
 decided s all len r ws =
-    station_decided s all.list len r.process (order_of r.order) 0 (replicate s.w r.value) ws
+    station_decided s all len r.process (order_of r.order) 0 (replicate s.w r.value) ws
 
 -- a run that ends here: nothing is stored back where nothing was done
-abbrev pub left_with : Station → Processes → ℕ → ℕ → RunLeft
+abbrev pub left_with : Station → List StationProcess → ℕ → ℕ → RunLeft
 left_with s all number done =
     record { station = s; all = all; stored = cond (eqb done 0) 0 s.n; number = number; done = done }
 
-abbrev pub processes_after : Processes → Outcome → Processes
-processes_after all out = record { list = set all.list out.at out.process }
+abbrev pub processes_after : List StationProcess → Outcome → List StationProcess
+processes_after all out = set all out.at out.process
 
 -- the records that are left, after so many commands done
-unfoldable pub records_run : ℕ → List BoardRecord → Station → Processes → ℕ → List ℕ → RunLeft × List ℕ
+unfoldable pub records_run : ℕ → List BoardRecord → Station → List StationProcess → ℕ → List ℕ → RunLeft × List ℕ
 records_run done [] s all len ws = (left_with s all 0 done, ws)
 records_run done (r ∷ rs) s all len ws =
     let out : Outcome × List ℕ = decided s all len r ws in
@@ -42,7 +41,7 @@ records_run done (r ∷ rs) s all len ws =
     (records_run (suc done) rs out.0.station (processes_after all out.0) len out.1)
     (left_with s all number done, out.1)
 
-unfoldable pub file_run : List ℕ → Station → Processes → ℕ → List ℕ → RunLeft × List ℕ
+unfoldable pub file_run : List ℕ → Station → List StationProcess → ℕ → List ℕ → RunLeft × List ℕ
 file_run file s all len ws =
     cond (eqb (file_number file) 0) (records_run 0 (decode file) s all len ws) (left_with s all (file_number file) 0, ws)
 
@@ -50,5 +49,5 @@ file_run file s all len ws =
 abbrev pub stored_run : List StationProcess → RunLeft × List ℕ → FileRun × StationMemory
 stored_run ps x = (
   record { number = x.0.number; done = x.0.done },
-  station_memory x.0.station (processes_stored ps x.0.all.list x.0.stored) x.1,
+  station_memory x.0.station (processes_stored ps x.0.all x.0.stored) x.1,
 )

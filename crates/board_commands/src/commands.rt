@@ -2,16 +2,16 @@
 ghost use Rattle.std.specs.Prelude.{◌≡◌, ◌+◌, ◌≤◌, length};
 ghost use Rattle.boards.specs.Places.{record_at};
 ghost use Rattle.board_commands.specs.BoardRun.{order_of};
-ghost use Rattle.board_commands.specs.ByValue.{at_most64, decided};
+ghost use Rattle.board_commands.specs.ByValue.{decided};
 
 use boards::numbers::number_at;
 use entry::entries::repeated;
 use llsc::Order;
-use station::Station;
+use station::{Station, StationProcess};
 use station_machine::Outcome;
-use station_records::processes::Processes;
 
 // CR 12: "order (1: 0 step, 1 LL, 2 SC, 3 VL)".
+// Kept: neither `u8` nor `Order` is this crate's, so there is no `From` of one for the other.
 fn order_of(byte: u8) -> Order
     ensures { result ≡ order_of byte }
 {
@@ -23,20 +23,10 @@ fn order_of(byte: u8) -> Order
     }
 }
 
-// The words of a value. Where W is over 64 a command is refused before they are counted.
-fn at_most_64(w: usize) -> usize
-    ensures { result ≡ at_most64 w }
-{
-    if 64 < w {
-        return 64;
-    }
-    w
-}
-
 // The command of the record at a place.
 pub fn decide_at(
     station: Station,
-    all: Processes,
+    all: [StationProcess; 16],
     len: usize,
     file: &[u8],
     at: usize,
@@ -49,6 +39,7 @@ pub fn decide_at(
     let value = repeated(number_at(file, at + 4) as u64);
     let p = file[at + 8] as usize;
     let order = order_of(file[at + 9]);
-    let w = at_most_64(station.w);
+    // Where W is over 64 a command is refused before its value's words are counted.
+    let w = station.w.min(64);
     station_machine::decide(station, all, len, p, order, 0, &value[..w], words)
 }

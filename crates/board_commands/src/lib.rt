@@ -6,8 +6,7 @@
 pub mod commands;
 pub mod running;
 
-use station::Station;
-use station_records::processes::Processes;
+use station::{Station, StationProcess};
 
 // What a run returns: the number of the refusal that ended it, 0 for none, and the commands done.
 #[derive(Clone, Copy)]
@@ -21,7 +20,7 @@ pub struct FileRun {
 #[derive(Clone, Copy)]
 pub struct RunLeft {
     pub station: Station,
-    pub all: Processes,
+    pub all: [StationProcess; 16],
     pub stored: usize,
     pub number: u8,
     pub done: usize,

@@ -8,27 +8,17 @@ use crate::commands::decide_at;
 use board_rows::file_refusal;
 use boards::Left;
 use boards::trailers::{RECORD_SIZE, records_of};
-use station::Station;
-use station_records::processes::{Processes, with_lent};
+use station::{Station, StationProcess};
 
 // A run that ends here. Nothing is stored back where nothing was done.
-fn left_with(station: Station, all: Processes, number: u8, done: usize) -> RunLeft
+fn left_with(station: Station, all: [StationProcess; 16], number: u8, done: usize) -> RunLeft
     ensures { result ≡ left_with station all number done }
 {
-    let n = station.n;
-    if done == 0 {
-        return RunLeft {
-            station,
-            all,
-            stored: 0,
-            number,
-            done,
-        };
-    }
+    let stored = if done == 0 { 0 } else { station.n };
     RunLeft {
         station,
         all,
-        stored: n,
+        stored,
         number,
         done,
     }
@@ -36,7 +26,7 @@ fn left_with(station: Station, all: Processes, number: u8, done: usize) -> RunLe
 
 fn run_records(
     mut station: Station,
-    mut all: Processes,
+    mut all: [StationProcess; 16],
     len: usize,
     file: &[u8],
     from: Left,
@@ -46,24 +36,17 @@ fn run_records(
     ensures { (result, words.new)
         ≡ records_run 0 (left_of file.now from) station all len words.old }
 {
-    let mut left = from.count;
-    let mut at = from.at;
-    let mut done = 0;
-    while left > 0 {
+    for done in 0..from.count {
+        let at = from.at + done * RECORD_SIZE;
         let out = decide_at(station, all, len, file, at, words);
-        let reply = out.reply;
-        let number = model::number_of(reply);
+        let number = model::number_of(out.reply);
         if number != 0 {
             return left_with(station, all, number, done);
         }
-        let process = out.process;
         station = out.station;
-        all = with_lent(all, out.at, process);
-        at += RECORD_SIZE;
-        left -= 1;
-        done += 1;
+        all[out.at] = out.process;
     }
-    left_with(station, all, 0, done)
+    left_with(station, all, 0, from.count)
 }
 
 // The whole run: what it returns, the station and the process records after it, and the lent words are those of
@@ -71,7 +54,7 @@ fn run_records(
 // Ruled out: a refused command counted as done, the value in word 0 alone, a start on another record than 0.
 pub fn run_by_value(
     station: Station,
-    all: Processes,
+    all: [StationProcess; 16],
     len: usize,
     file: &[u8],
     words: &mut [u64],

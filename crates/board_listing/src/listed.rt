@@ -8,6 +8,7 @@ ghost use Rattle.text_runs.specs.TextRun.{room_needed};
 ghost use Rattle.board_listing.specs.BoardListing.{board_listed};
 ghost use Rattle.board_listing.specs.ListedRun.{Between, closed, end_of, RunsFile, SetsUp};
 
+use llsc::refusals::number_of;
 use crate::{ending, records};
 use board_rows::file_refusal;
 use boards::trailers::records_of;
@@ -54,7 +55,7 @@ fn set_up_and_run(
     requires { (all ≡ gathered (take 16 all.list) no_process 16) × (room_needed false ≤ length list.old) }
     ensures { SetsUp (memory_of bench all 16 words.old) n w initial file.now list.old (end_of result words.new list.new) }
 {
-    let number = setup::set_up_number(n, w, 16, words.len(), w);
+    let number = number_of(setup::set_up_refusal(n, w, 16, words.len(), w));
     if number != 0 {
         return refused(bench, all, number, list);
     }

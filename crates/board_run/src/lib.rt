@@ -23,14 +23,12 @@ pub fn run_file(
         ≡ run_file file.now
         (station_memory station.old processes.old words.old) }
 {
-    let s = *station;
     let len = processes.len();
-    let none = station::empty_process();
-    let all = lent::gather(processes, none);
-    let out = running::run_by_value(s, all, len, file, words);
+    let all = lent::gather(processes, station::empty_process());
+    let out = running::run_by_value(*station, all, len, file, words);
     *station = out.station;
     // Nothing is stored where nothing was done.
-    lent::store_back(processes, out.all, out.stored);
+    lent::store_back(processes, &out.all, station::empty_process(), out.stored);
     FileRun {
         number: out.number,
         done: out.done,

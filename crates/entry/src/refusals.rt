@@ -30,13 +30,14 @@ pub fn refusal(
     if n as u64 <= p {
         return causes::NO_SUCH_PROCESS;
     }
-    if causes::start_at_busy(order, process) {
+    let idle = rows::ranges::is_idle(process);
+    if causes::start_at_busy(order, idle) {
         return causes::START_AT_BUSY;
     }
-    if causes::step_at_idle(order, process) {
+    if causes::step_at_idle(order, idle) {
         return causes::STEP_AT_IDLE;
     }
-    if causes::never_linked(order, process) {
+    if causes::never_linked(order, process.answered) {
         return causes::NEVER_LINKED;
     }
     0

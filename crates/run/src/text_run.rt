@@ -9,6 +9,7 @@ ghost use Rattle.semantics.specs.StopPlaces.{StopInText};
 ghost use Rattle.text_runs.specs.KeptEntries.{entries_in, places_in, word_report};
 ghost use Rattle.run.specs.Finished.{memory_of, at_most_sixteen, Answers, Lending, Headed, TextRan, started_with, report_with, says_after, refused_with};
 
+use llsc::refusals::number_of;
 use crate::last_line::Finished;
 use crate::{last_line, set_up};
 use entry::{entries, limits, state};
@@ -105,7 +106,7 @@ fn started(
 {
     let n = first.n as usize;
     let w = first.w as usize;
-    let number = setup::set_up_number(n, w, len, words.len(), w);
+    let number = number_of(setup::set_up_refusal(n, w, len, words.len(), w));
     if number != 0 {
         return refused(bench, all, len, number, first.n, first.w, 0, words, list);
     }

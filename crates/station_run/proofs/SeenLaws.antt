@@ -14,8 +14,8 @@ use Rattle.station.specs.declared.StationProcess.{StationProcess}
 use Rattle.station.specs.Station.{no_station_process}
 use Rattle.station.specs.Projection.{process_of}
 use Rattle.station.specs.StationSetUp.{empty_process}
-use Rattle.station_records.specs.Gathered as S
-use Rattle.station_records.proofs.GatheredLaws as S'
+use Rattle.lent.specs.Gathered as S
+use Rattle.lent.proofs.GatheredLaws as S'
 use Rattle.station_run.specs.StationText.{record0}
 
 -- the gathered records, as many as are lent, are the first sixteen lent ones
@@ -52,10 +52,10 @@ map_at [] i = refl
 map_at (q ∷ l) zero = refl
 map_at (q ∷ l) (suc i) = map_at l i
 
-pub seen_gathered : (ps : List StationProcess) → gathered (map seen (S.gathered ps empty_process 16).list) no_process 16 ≡ gathered (map seen ps) no_process 16
+pub seen_gathered : (ps : List StationProcess) → gathered (map seen (S.gathered ps empty_process 16)) no_process 16 ≡ gathered (map seen ps) no_process 16
 seen_gathered ps =
-    gathered_alike (map seen (S.gathered ps empty_process 16).list) (map seen ps) no_process 16
-    (λ j h. map_at (S.gathered ps empty_process 16).list j ∙ ap seen (S'.gathered_here ps empty_process 16 j (omega arith) h) ∙ sym (map_at ps j))
+    gathered_alike (map seen (S.gathered ps empty_process 16)) (map seen ps) no_process 16
+    (λ j h. map_at (S.gathered ps empty_process 16) j ∙ ap seen (S'.gathered_here ps empty_process 16 j (omega arith) h) ∙ sym (map_at ps j))
 
 -- before the first record, and one record more
 pub seen_none : (l : List StationProcess) → ◌≡◌ {A = Records} (record { list = replicate 16 no_process }) (gathered (map seen l) no_process 0)

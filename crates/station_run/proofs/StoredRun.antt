@@ -25,8 +25,8 @@ use Rattle.station.specs.Station.{StationMemory, station_memory}
 use Rattle.station.specs.Projection.{process_of, put_process}
 use Rattle.station.specs.StationSetUp.{empty_process, firsts}
 use Rattle.station_facts.proofs.Firsts.{firsts_same}
-use Rattle.station_records.specs.declared.processes.Processes.{Processes}
-use Rattle.station_records.specs.Gathered.{gathered, LentProcesses, processes_stored}
+use Rattle.lent.specs.Gathered.{gathered, stored as stored_from}
+use Rattle.station_records.specs.Gathered.{LentProcesses, processes_stored}
 use Rattle.station_records.proofs.StoredLaws.{stored_firsts}
 use Rattle.station_run.specs.declared.RunLeft.{RunLeft}
 use Rattle.station_run.specs.StationText.{record0, before_run, put_record, after_run, left_by, on_station, StationEnded, station_run_text}
@@ -84,21 +84,21 @@ module _ (s : Station) (ps : List StationProcess) (ws text list : List ℕ) (out
         (omega (arith, h, lent_enough, l, few, sixteen, sizes.most)))
 
     -- the process records put back and stored
-    processes_stored_is : processes_stored ps (firsts (put_at out.all) 0 n (gathered ps empty_process 16).list) n ≡ firsts (put_record ran) 0 n ps
+    processes_stored_is : processes_stored ps (firsts (put_at out.all) 0 n (gathered ps empty_process 16)) n ≡ firsts (put_record ran) 0 n ps
     processes_stored_is =
         stored_firsts (put_at out.all) ps n sizes.most lent_enough
         ∙ firsts_same (put_at out.all) (put_record ran) 0 n ps
         (λ i q h. ap (put_process record0 q) (record_at_is (0 + i) (omega arith)))
 
     abbrev stored : RunLeft → StationEnded
-    stored x = ended_with x (processes_stored ps x.all.list x.stored) ws' list'
+    stored x = ended_with x (processes_stored ps x.all x.stored) ws' list'
 
     -- refused before the set-up: nothing is stored, and the words are as they were
     words_stay : n ≡ 0 → ws' ≡ ws
     words_stay e = ap (λ (m : Memory). m.words) (sizes.before e)
 
     back : (t : Bool) → eqb n 0 ≡ t → stored (put_back s (gathered ps empty_process 16) out) ≡ answer ran
-    unfolding put_back processes_stored
+    unfolding put_back stored_from
     back true e =
         simp e
         (ap (λ (l : List ℕ). record { number = out.number; entries = out.entries; written = out.written; memory = station_memory s ps l; listing = list' })
@@ -118,14 +118,14 @@ module _ (s : Station) (ps : List StationProcess) (ws text list : List ℕ) (out
     stored_run_is = back (eqb n 0) refl ∙ sym said
 
 -- so for whatever process records were lent, with what the code took out for the run, and what it put back
-module _ (s : Station) (all : Processes) (len : ℕ) (ws text list : List ℕ) (out : Finished) (ws' list' : List ℕ) where
+module _ (s : Station) (all : List StationProcess) (len : ℕ) (ws text list : List ℕ) (out : Finished) (ws' list' : List ℕ) where
   of_lent : TextRan false (bench_before s) (records_before all) len ws text list out ws' list' → StationRan s all len ws text list (put_back s all out) ws' list'
   of_lent r = record { stored = of }
     where
       of : (ps : List StationProcess) → all ≡ gathered ps empty_process 16 → len ≡ length ps
-          → ended_with (put_back s all out) (processes_stored ps (put_back s all out).all.list (put_back s all out).stored) ws' list' ≡ station_run_text (station_memory s ps ws) text list
+          → ended_with (put_back s all out) (processes_stored ps (put_back s all out).all (put_back s all out).stored) ws' list' ≡ station_run_text (station_memory s ps ws) text list
       of ps e h =
-          ap (λ (a : Processes). ended_with (put_back s a out) (processes_stored ps (put_back s a out).all.list (put_back s a out).stored) ws' list') e
+          ap (λ (a : List StationProcess). ended_with (put_back s a out) (processes_stored ps (put_back s a out).all (put_back s a out).stored) ws' list') e
           ∙ stored_run_is s ps ws text list out ws' list'
           (subst (λ (k : ℕ). TextRan false (bench_before s) (T.gathered (map (process_of record0) ps) no_process 16) k ws text list out ws' list')
           (h ∙ sym (length-map ps (process_of record0)))
@@ -139,7 +139,7 @@ module _ (s : Station) (all : Processes) (len : ℕ) (ws text list : List ℕ) (
       (subst (λ (a : Bench). TextRan false a rs len ws text list out ws' list') eb x)))
 
 -- what the run by value asks of its records
-pub records_again : (all : Processes) (len : ℕ) → LentProcesses all len → (rs : Records) → rs ≡ records_before all → rs ≡ T.gathered (take len rs.list) no_process 16
+pub records_again : (all : List StationProcess) (len : ℕ) → LentProcesses all len → (rs : Records) → rs ≡ records_before all → rs ≡ T.gathered (take len rs.list) no_process 16
 records_again all len l rs e =
     let seen : List Process = map (process_of record0) l.lent in
     let is : rs ≡ T.gathered seen no_process 16 = e ∙ ap records_before l.is ∙ seen_gathered l.lent in

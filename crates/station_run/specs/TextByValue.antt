@@ -12,8 +12,8 @@ use Rattle.station.specs.declared.StationProcess.{StationProcess}
 use Rattle.station.specs.Station.{station_memory, no_tables}
 use Rattle.station.specs.Projection.{process_of, put_tables, put_process}
 use Rattle.station.specs.StationSetUp.{empty_process, firsts}
-use Rattle.station_records.specs.declared.processes.Processes.{Processes}
-use Rattle.station_records.specs.Gathered.{gathered, processes_stored}
+use Rattle.lent.specs.Gathered.{gathered}
+use Rattle.station_records.specs.Gathered.{processes_stored}
 use Rattle.station_run.specs.declared.RunLeft.{RunLeft}
 use Rattle.station_run.specs.StationText.{record0, unsized, StationEnded, station_run_text}
 
@@ -21,8 +21,8 @@ abbrev pub bench_before : Station → Bench
 bench_before s = unsized (get_or s.tables 0 no_tables)
 
 -- sixteen processes as record 0 has them
-abbrev pub records_before : Processes → Records
-records_before all = T.gathered (map (process_of record0) all.list) no_process 16
+abbrev pub records_before : List StationProcess → Records
+records_before all = T.gathered (map (process_of record0) all) no_process 16
 
 -- the station record after the run
 abbrev pub station_ran : Station → Bench → Station
@@ -32,13 +32,13 @@ station_ran s b = record { n = b.n; w = b.w; r = 1; tables = set s.tables 0 (put
 abbrev pub put_at : Records → ℕ → StationProcess → StationProcess
 put_at rs p q = put_process record0 q (get_or rs.list p no_process)
 
-abbrev pub processes_ran : Processes → Records → ℕ → Processes
-processes_ran all rs k = record { list = firsts (put_at rs) 0 k all.list }
+abbrev pub processes_ran : List StationProcess → Records → ℕ → List StationProcess
+processes_ran all rs k = firsts (put_at rs) 0 k all
 
-abbrev pub left_with : Station → Processes → ℕ → Finished → RunLeft
+abbrev pub left_with : Station → List StationProcess → ℕ → Finished → RunLeft
 left_with s all k out = record { station = s; all = all; stored = k; number = out.number; entries = out.entries; written = out.written }
 
-unfoldable pub put_back : Station → Processes → Finished → RunLeft
+unfoldable pub put_back : Station → List StationProcess → Finished → RunLeft
 put_back s all out =
     cond (eqb out.bench.n 0) (left_with s all 0 out)
     (left_with (station_ran s out.bench) (processes_ran all out.all (at_most_sixteen out.bench.n)) (at_most_sixteen out.bench.n) out)
@@ -50,6 +50,6 @@ ended_with r ps ws list =
 
 -- what a text run answers where `all` holds the first sixteen of `len` lent process records: stored back, the run of
 -- `station_run_text`
-pub record StationRan (s : Station) (all : Processes) (len : ℕ) (ws text list : List ℕ) (r : RunLeft) (ws' list' : List ℕ) : Type 0 where
+pub record StationRan (s : Station) (all : List StationProcess) (len : ℕ) (ws text list : List ℕ) (r : RunLeft) (ws' list' : List ℕ) : Type 0 where
   pub stored : (ps : List StationProcess) → all ≡ gathered ps empty_process 16 → len ≡ length ps
-      → ended_with r (processes_stored ps r.all.list r.stored) ws' list' ≡ station_run_text (station_memory s ps ws) text list
+      → ended_with r (processes_stored ps r.all r.stored) ws' list' ≡ station_run_text (station_memory s ps ws) text list

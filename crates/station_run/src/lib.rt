@@ -7,13 +7,10 @@ ghost use Rattle.std.specs.Prelude.{◌≡◌, ◌≤◌};
 ghost use Rattle.station_records.specs.Gathered.{LentProcesses};
 ghost use Rattle.station_run.specs.TextByValue.{bench_before, records_before, station_ran, processes_ran, put_back, StationRan};
 
-use llsc::ProcessNumber;
 use model::Bench;
 use run::last_line::Finished;
 use run::text_run;
-use station::{RecordNumber, Station};
-use station_records::processes;
-use station_records::processes::Processes;
+use station::{RecordNumber, Station, StationProcess, Tables};
 use tables::records;
 use tables::records::Records;
 
@@ -22,7 +19,7 @@ use tables::records::Records;
 #[derive(Clone, Copy)]
 pub struct RunLeft {
     pub station: Station,
-    pub all: Processes,
+    pub all: [StationProcess; 16],
     pub stored: usize,
     pub number: u8,
     pub entries: usize,
@@ -33,10 +30,7 @@ pub struct RunLeft {
 fn bench_before(station: Station) -> Bench
     ensures { result ≡ bench_before station }
 {
-    let t = station_records::tables_at(station, RecordNumber(0));
-    let x = t.x;
-    let bank = t.bank;
-    let help = t.help;
+    let Tables { x, bank, help } = station_records::tables_at(station, RecordNumber(0));
     Bench {
         n: 0,
         w: 0,
@@ -47,16 +41,12 @@ fn bench_before(station: Station) -> Bench
 }
 
 // The processes as record 0 has them.
-fn records_before(all: Processes) -> Records
+fn records_before(all: [StationProcess; 16]) -> Records
     ensures { result ≡ records_before all }
 {
     let mut next = records::records_of(records::no_process());
-    let mut i: usize = 0;
-    while i < 16 {
-        let me = ProcessNumber(i as u8);
-        let q = station_records::process_of(RecordNumber(0), processes::process_at(all, me));
-        next = records::with_record(next, me, q);
-        i += 1;
+    for i in 0..16 {
+        next.list[i] = station_records::process_of(RecordNumber(0), all[i]);
     }
     next
 }
@@ -65,43 +55,41 @@ fn records_before(all: Processes) -> Records
 fn station_ran(station: Station, bench: Bench) -> Station
     ensures { result ≡ station_ran station bench }
 {
-    let n = bench.n;
-    let w = bench.w;
     let mut next = station_records::put_bench(station, RecordNumber(0), bench);
-    next.n = n;
-    next.w = w;
+    next.n = bench.n;
+    next.w = bench.w;
     next.r = 1;
     next
 }
 
 // The first `count` processes, with what record 0's run made of them.
-fn processes_ran(all: Processes, records: Records, count: usize) -> Processes
+fn processes_ran(
+    mut all: [StationProcess; 16],
+    records: Records,
+    count: usize,
+) -> [StationProcess; 16]
     requires { count ≤ 16 }
     ensures { result ≡ processes_ran all records count }
 {
-    let mut next = all;
-    let mut i = 0;
-    while i < count {
-        let me = ProcessNumber(i as u8);
-        let before = processes::process_at(next, me);
-        let ran = records.list[tables::records::record_place(me)];
-        let q = station_records::put_process(RecordNumber(0), before, ran);
-        next = processes::with_process(next, me, q);
-        i += 1;
+    for i in 0..count {
+        all[i] = station_records::put_process(RecordNumber(0), all[i], records.list[i]);
     }
-    next
+    all
 }
 
 // Where N is still 0, the run was refused before its set-up, and nothing is to be stored.
 #[tactic(auto, unfolding(crate::specs::TextByValue::put_back))]
-fn put_back(station: Station, all: Processes, out: Finished) -> RunLeft
+fn put_back(station: Station, all: [StationProcess; 16], out: Finished) -> RunLeft
     ensures { result ≡ put_back station all out }
 {
-    let bench = out.bench;
-    let records = out.all;
-    let number = out.number;
-    let entries = out.entries;
-    let written = out.written;
+    let Finished {
+        bench,
+        all: records,
+        number,
+        entries,
+        written,
+        ..
+    } = out;
     if bench.n == 0 {
         return RunLeft {
             station,
@@ -113,9 +101,10 @@ fn put_back(station: Station, all: Processes, out: Finished) -> RunLeft
         };
     }
     let stored = text_run::records_seen(bench.n);
+    let all = processes_ran(all, records, stored);
     RunLeft {
         station: station_ran(station, bench),
-        all: processes_ran(all, records, stored),
+        all,
         stored,
         number,
         entries,
@@ -126,7 +115,7 @@ fn put_back(station: Station, all: Processes, out: Finished) -> RunLeft
 // `all` holds the first sixteen of `len` lent process records, with a filler where there are fewer.
 pub fn run_by_value(
     station: Station,
-    all: Processes,
+    all: [StationProcess; 16],
     len: usize,
     words: &mut [u64],
     text: &[u8],

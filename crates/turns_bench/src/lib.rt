@@ -28,11 +28,9 @@ pub fn turn(
         ≡ turn_of (station_memory station.old processes.old words.old)
         turn next value.now left }
 {
-    let s = *station;
     let len = processes.len();
-    let none = station::empty_process();
-    let all = lent::gather(processes, none);
-    let out = turns_machine::decide_turn(s, all, len, turn, next, left, value, words);
+    let all = lent::gather(processes, station::empty_process());
+    let out = turns_machine::decide_turn(*station, all, len, turn, next, left, value, words);
     *station = out.station;
     // Where no command is obeyed, the place is past the end, and there nothing is stored.
     lent::store_at(processes, out.at, out.process);

@@ -1,22 +1,43 @@
 -- `bench::set_up` meets its contract: what the set-up of the gathered records comes to, stored back, is the station's.
-use mathlib.Core.Path.{ap, ◌∙◌}
+use mathlib.Core.Path.{◌≡◌, sym, ap, ◌∙◌}
+use mathlib.Core.Bool.{Bool, cond}
 use mathlib.Core.List.{List}
+use Prim.Native.Nat.{ℕ}
 use lib.ListN.{length}
+use borrow.Author.Tests.{ne_eqb}
+use Rattle.llsc.specs.Refusals.{refusal_number}
+use Rattle.rows.proofs.Refused.{number_some}
 use Rattle.station.specs.declared.StationProcess.{StationProcess}
 use Rattle.station.specs.Station.{station_memory}
-use Rattle.station_records.specs.declared.processes.Processes.{Processes}
-use Rattle.station_records.specs.Gathered.{gathered}
+use Rattle.lent.specs.Gathered.{gathered, stored}
+use Rattle.station_records.specs.Gathered.{processes_stored}
 use Rattle.station_setup.specs.SetUpGathered.{set_up_gathered, stored_up}
 use Rattle.station_setup.proofs.StoredSetUp.{set_up_same}
 use Rattle.bench.proofs.set_up.Goals as goal
 
-pub returns : goal.returns
-returns c =
+pub returns-in-Ok : goal.returns-in-Ok
+returns-in-Ok c =
     let a = c.args in
     let ps = a.processes.now in
-    let out = c.set_up_gathered-out in
-    ap (λ (r : List StationProcess). (out.result.number, station_memory out.result.station r out.new.words)) c.store_back.ensures ∙
-    ap (stored_up ps)
-    (out.ensures ∙ ap (λ (all : Processes). set_up_gathered a.station.now all (length ps) a.n a.w a.r a.value.now a.words.now)
-    (c.gather-all.ensures ∙ ap (λ (q : StationProcess). gathered ps q 16) c.empty_process-none.ensures)) ∙
+    let set = c.in-Ok.set in
+    let ws = c.set_up_gathered.new.words in
+    ap (λ (r : List StationProcess). (0, station_memory set.station r ws))
+    (c.store_back.ensures ∙ ap (λ (q : StationProcess). stored ps set.all q a.n) c.empty_process-in-Ok.ensures) ∙
+    ap (stored_up ps a.n)
+    (c.in-Ok.ensures ∙ ap (λ (all : List StationProcess). set_up_gathered a.station.now all (length ps) a.n a.w a.r a.value.now a.words.now)
+    (c.gather-all.ensures ∙ ap (λ (q : StationProcess). gathered ps q 16) c.empty_process.ensures)) ∙
+    set_up_same a.station.now ps a.words.now a.n a.w a.r a.value.now
+
+pub returns-in-Err : goal.returns-in-Err
+returns-in-Err c =
+    let a = c.args in
+    let ps = a.processes.now in
+    let k : ℕ = refusal_number c.in-Err.refusal in
+    let ws = c.set_up_gathered.new.words in
+    ap (λ (i : ℕ). (i, station_memory a.station.now ps ws)) c.number.ensures ∙
+    ap (λ (t : Bool). (k, station_memory a.station.now (cond t (processes_stored ps c.gather-all.result a.n) ps) ws))
+    (sym (ne_eqb k 0 (number_some c.in-Err.refusal))) ∙
+    ap (stored_up ps a.n)
+    (c.in-Err.ensures ∙ ap (λ (all : List StationProcess). set_up_gathered a.station.now all (length ps) a.n a.w a.r a.value.now a.words.now)
+    (c.gather-all.ensures ∙ ap (λ (q : StationProcess). gathered ps q 16) c.empty_process.ensures)) ∙
     set_up_same a.station.now ps a.words.now a.n a.w a.r a.value.now

@@ -1,7 +1,6 @@
 -- `station_run::records_before` meets its contract: the processes below i are seen.
 use mathlib.Core.Path.{◌≡◌}
 use mathlib.Core.List.{map}
-use Prim.Native.Nat.{◌≤◌, ◌-◌}
 use Rattle.model.specs.Records.{no_process}
 use Rattle.tables.specs.Gathered.{gathered}
 use Rattle.station.specs.Projection.{process_of}
@@ -9,7 +8,4 @@ use Rattle.station_run.specs.StationText.{record0}
 use Rattle.station_run.proofs.records_before.Given as goal
 
 abbrev pub invariant-loop-i : goal.invariant-loop-i
-invariant-loop-i l = (l.i ≤ 16) × (l.next ≡ gathered (map (process_of record0) l.all.list) no_process l.i)
-
-abbrev pub decreases-loop-i : goal.decreases-loop-i
-decreases-loop-i l = 16 - l.i
+invariant-loop-i l = l.next ≡ gathered (map (process_of record0) l.all) no_process l.i

@@ -1,5 +1,7 @@
 -- `board_commands::commands::decide_at` meets its contract.
-use mathlib.Core.Path.{ap}
+use mathlib.Core.Path.{◌≡◌, ap}
+use borrow.Author.Rules.{rules}
+use Rattle.board_commands.specs.ByValue.{at_most64}
 use Prim.Native.Nat.{◌+◌, ◌≤◌}
 use native.Mathlib.Omega.{arith}
 use lib.ListN.{length, take, length-replicate}
@@ -13,18 +15,20 @@ overflow_cast-p c = record { fits = omega (arith, c.type_inv.file (c.args.at + 8
 
 pub slice_bounds-value-end : goal.slice_bounds-value-end
 slice_bounds-value-end c =
-    let w = c.at_most_64-w in let v = c.repeated-value in
-    omega (arith, w.ensures, at_most c.args.station.w, ap length v.ensures, length-replicate 64 c.number_at.result)
+    let v = c.repeated-value in
+    omega (arith, c.min-w.ensures, ap length v.ensures, length-replicate 64 c.number_at.result)
 
 pub slice_bounds-decide-end : goal.slice_bounds-decide-end
 slice_bounds-decide-end c =
-    let w = c.at_most_64-w in let v = c.repeated-value in
-    let few : w.result ≤ 64 = omega (arith, w.ensures, at_most c.args.station.w) in
+    let w = c.min-w in let v = c.repeated-value in
+    let same : w.result ≡ at_most64 c.args.station.w = search rules in
+    let few : w.result ≤ 64 = omega (arith, same, at_most c.args.station.w) in
     prefix_length few v.ensures
 
 pub returns : goal.returns
 returns c =
-    let w = c.at_most_64-w in let k = c.number_at in let a = c.args in
-    let few : w.result ≤ 64 = omega (arith, w.ensures, at_most a.station.w) in
+    let w = c.min-w in let k = c.number_at in let a = c.args in
+    let same : w.result ≡ at_most64 a.station.w = grind arith in
+    let few : w.result ≤ 64 = omega (arith, same, at_most a.station.w) in
     record_decided a.station a.all a.len (record_at a.file.now a.at) a.words.now
-    k.ensures.same w.ensures c.order_of-order.ensures (ap (take w.result) c.repeated-value.ensures) few c.decide.ensures
+    k.ensures.same same c.order_of-order.ensures (ap (take w.result) c.repeated-value.ensures) few c.decide.ensures
