@@ -11,13 +11,9 @@ ghost use Rattle.moir_messages.specs.MoirCalls.{kind_of, figure_line, moves_of, 
 use messages::calls::{Call, Figure, Kind, Moves};
 use moir_lines::points;
 use moir_model::Process;
-use moir_rows::records::Records;
 use positions::StopReport;
 use std::io;
 use std::io::Write;
-
-// The points of an SC's Copy have 20 more than Figure 6's lines.
-const COPY_OF_SC: u8 = 20;
 
 // The message of a run on this bench.
 pub fn explain<W: Write>(
@@ -25,13 +21,13 @@ pub fn explain<W: Write>(
     number: u8,
     entries: usize,
     report: StopReport,
-    all: Records,
+    all: [Process; 16],
     text: &[u8],
 ) -> io::Result<()>
     ensures { number ≡ 0 → OnOk result (Appends (W.contents to.old) (W.contents to.new)
-        (open_lines (record { figure = Figure.Six; w = report.w }) 0 (take (min report.n 16) (map call_of all.list)))) }
+        (open_lines (record { figure = Figure.Six; w = report.w }) 0 (take (min report.n 16) (map call_of all)))) }
 {
-    let calls = all.list.map(|process| call_of(process));
+    let calls = all.map(|process| call_of(process));
     messages::explain(to, Figure::Six, number, entries, report, &calls, text)
 }
 
@@ -64,8 +60,8 @@ fn kind_of(line: u8) -> Option<Kind>
 fn figure_line(line: u8) -> u8
     ensures { result ≡ figure_line line }
 {
-    if line > COPY_OF_SC {
-        line - COPY_OF_SC
+    if line > points::COPY_OF_SC {
+        line - points::COPY_OF_SC
     } else {
         line
     }
