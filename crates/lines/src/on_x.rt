@@ -59,7 +59,8 @@ pub fn do_line_14_valid(p: ProcessNumber, x: XPlace, process: Process) -> LineSt
     valid(p, x, process, points::LINE_15, points::LINE_17)
 }
 
-// Lines 19 to 22: SC(X, (mybuf, (x.seq + 1) mod 2N)) and the answer; a success takes e, the buffer that it freed. n is N.
+// Lines 19 to 22: SC(X, (mybuf, (x.seq + 1) mod 2N)) and the answer; a success takes e, the buffer that it freed. n is
+// N.
 pub fn do_line_19(n: usize, p: ProcessNumber, x: XPlace, process: Process) -> LineStep<XPlace>
     requires { Stepping p process × Sized n }
     ensures { result ≡ do_line19 n p x process }

@@ -16,7 +16,11 @@ use Rattle.model.specs.Records.{to_line, to, rest, next_word, first_word, marked
 
 -- Line 1, on Help[p]: Help[p] = (1, mybuf).
 abbrev pub do_line1 : HelpPlace → Process → LineStep HelpPlace
-do_line1 h q = record { place = write_place (record { flag = 1; buf = q.mybuf }); process = to line2 q; reply = Accepted }
+do_line1 h q = record {
+  place = write_place (record { flag = 1; buf = q.mybuf });
+  process = to line2 q;
+  reply = Accepted;
+}
 
 -- Lines 2 and 5, on X: x = LL(X). The line that follows, 3 or 6, is given by its number, or as a point.
 abbrev pub do_line2_then : ℕ → ProcessNumber → XPlace → Process → LineStep XPlace
@@ -28,7 +32,11 @@ do_line2 y p x q = do_line2_then (line_number y) p x q
 -- Line 4, on Help[p]: if LL(Help[p]) = (0, b). "b, c and d are set only when the flag read is the one their line
 -- names."
 abbrev pub do_line4 : ProcessNumber → HelpPlace → Process → LineStep HelpPlace
-do_line4 p h q = record { place = ll_place h p; process = cond (eqb h.content.flag 0) (to line5 (with_b h.content.buf q)) (to line8 q); reply = Accepted }
+do_line4 p h q = record {
+  place = ll_place h p;
+  process = cond (eqb h.content.flag 0) (to line5 (with_b h.content.buf q)) (to line8 q);
+  reply = Accepted;
+}
 
 -- Line 7, on X: if not VL(X), the copy from BUF[b] follows.
 abbrev pub do_line7 : ProcessNumber → XPlace → Process → LineStep XPlace
@@ -36,11 +44,19 @@ do_line7 p x q = record { place = x; process = cond (linked x.links p) (to line8
 
 -- Line 8, on Help[p]: if LL(Help[p]) = (1, c).
 abbrev pub do_line8 : ProcessNumber → HelpPlace → Process → LineStep HelpPlace
-do_line8 p h q = record { place = ll_place h p; process = cond (eqb h.content.flag 1) (to line9 (with_c h.content.buf q)) (to line10 q); reply = Accepted }
+do_line8 p h q = record {
+  place = ll_place h p;
+  process = cond (eqb h.content.flag 1) (to line9 (with_c h.content.buf q)) (to line10 q);
+  reply = Accepted;
+}
 
 -- Line 9, on Help[p]: SC(Help[p], (0, c)).
 abbrev pub do_line9 : ProcessNumber → HelpPlace → Process → LineStep HelpPlace
-do_line9 p h q = record { place = sc_place h p (record { flag = 0; buf = q.c }); process = to line10 q; reply = Accepted }
+do_line9 p h q = record {
+  place = sc_place h p (record { flag = 0; buf = q.c });
+  process = to line10 q;
+  reply = Accepted;
+}
 
 -- Line 10, on Help[p]: mybuf = Help[p].buf, a plain read.
 abbrev pub do_line10 : HelpPlace → Process → LineStep HelpPlace
@@ -48,7 +64,11 @@ do_line10 h q = record { place = h; process = to line11 (with_mybuf h.content.bu
 
 -- Line 12, on Bank[x.seq]: if LL(Bank[x.seq]) /= x.buf, the VL(X) follows, else line 14.
 abbrev pub do_line12 : ProcessNumber → BankPlace → Process → LineStep BankPlace
-do_line12 p k q = record { place = ll_place k p; process = cond (eqb k.content.0 q.x.buf.0) (to line14 q) (to line12valid q); reply = Accepted }
+do_line12 p k q = record {
+  place = ll_place k p;
+  process = cond (eqb k.content.0 q.x.buf.0) (to line14 q) (to line12valid q);
+  reply = Accepted;
+}
 
 -- The VL(X) of line 12: "only if true, 13".
 abbrev pub do_line12_valid : ProcessNumber → XPlace → Process → LineStep XPlace
@@ -60,7 +80,11 @@ do_line13 p k q = record { place = sc_place k p q.x.buf; process = to line14 q; 
 
 -- Line 14, on Help[x.seq mod N]: if LL(..) = (1, d), the VL(X) follows, else line 17.
 abbrev pub do_line14 : ProcessNumber → HelpPlace → Process → LineStep HelpPlace
-do_line14 p h q = record { place = ll_place h p; process = cond (eqb h.content.flag 1) (to line14valid (with_d h.content.buf q)) (to line17 q); reply = Accepted }
+do_line14 p h q = record {
+  place = ll_place h p;
+  process = cond (eqb h.content.flag 1) (to line14valid (with_d h.content.buf q)) (to line17 q);
+  reply = Accepted;
+}
 
 -- The VL(X) of line 14: "only if true, 15".
 abbrev pub do_line14_valid : ProcessNumber → XPlace → Process → LineStep XPlace
@@ -68,7 +92,11 @@ do_line14_valid p x q = record { place = x; process = cond (linked x.links p) (t
 
 -- Lines 15 and 16, on Help[x.seq mod N]: if SC(.., (0, mybuf)) then mybuf = d.
 abbrev pub do_line15 : ProcessNumber → HelpPlace → Process → LineStep HelpPlace
-do_line15 p h q = record { place = sc_place h p (record { flag = 0; buf = q.mybuf }); process = to line17 (cond (linked h.links p) (with_mybuf q.d q) q); reply = Accepted }
+do_line15 p h q = record {
+  place = sc_place h p (record { flag = 0; buf = q.mybuf });
+  process = to line17 (cond (linked h.links p) (with_mybuf q.d q) q);
+  reply = Accepted;
+}
 
 -- Line 18, on Bank[(x.seq + 1) mod 2N]: e = Bank[..], a plain read.
 abbrev pub do_line18 : BankPlace → Process → LineStep BankPlace

@@ -104,6 +104,7 @@ impl<P> LineStep<P> {
 }
 
 // What a line that moves a word makes of its own process, with its reply.
+// Kept: no `LineStep` of `()`, as there is no place to name.
 #[derive(Clone, Copy)]
 pub struct WordStep {
     pub process: Process,
@@ -111,6 +112,7 @@ pub struct WordStep {
 }
 
 // What an accepted command leaves of the bench and of its process, with its reply.
+// Kept: no `LineStep<Bench>`, as a bench is no place.
 #[derive(Clone, Copy)]
 pub struct Moved {
     pub bench: Bench,

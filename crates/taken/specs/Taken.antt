@@ -51,10 +51,12 @@ abbrev pub after_x : Taken → LineStep XPlace → Stepped
 after_x t s = record { taken = record { x = s.place; bank = t.bank; help = t.help }; process = s.process; reply = s.reply }
 
 abbrev pub after_bank : Taken → LineStep BankPlace → Stepped
-after_bank t s = record { taken = record { x = t.x; bank = s.place; help = t.help }; process = s.process; reply = s.reply }
+after_bank t s =
+    record { taken = record { x = t.x; bank = s.place; help = t.help }; process = s.process; reply = s.reply }
 
 abbrev pub after_help : Taken → LineStep HelpPlace → Stepped
-after_help t s = record { taken = record { x = t.x; bank = t.bank; help = s.place }; process = s.process; reply = s.reply }
+after_help t s =
+    record { taken = record { x = t.x; bank = t.bank; help = s.place }; process = s.process; reply = s.reply }
 
 -- a word is no part of the three places
 abbrev pub after_word : Taken → WordStep → Stepped

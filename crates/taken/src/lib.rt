@@ -24,6 +24,7 @@ pub struct Taken {
 }
 
 // What a step makes of them and of its own process, with its reply.
+// Kept: no `LineStep<Taken>`, as `place` would be three places.
 #[derive(Clone, Copy)]
 pub struct Stepped {
     pub taken: Taken,
