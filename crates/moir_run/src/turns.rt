@@ -7,6 +7,7 @@ ghost use Rattle.moir_run.specs.RunState.{progress, stopped_run, Sound, Free};
 
 use crate::{entries, written_lines};
 use llsc::ProcessNumber;
+use llsc::refusals::number_of;
 use moir_model::Bench;
 use moir_rows::records::Records;
 use moir_rows::{records, table};
