@@ -5,7 +5,7 @@ ghost use Rattle.board_commands.specs.BoardRun.{order_of};
 ghost use Rattle.board_commands.specs.ByValue.{at_most64, decided};
 
 use boards::numbers::number_at;
-use entry::entries::repeated;
+use text_runs::lists::repeated;
 use llsc::Order;
 use station::Station;
 use station_machine::Outcome;
