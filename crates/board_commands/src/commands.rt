@@ -5,7 +5,7 @@ ghost use Rattle.board_commands.specs.BoardRun.{order_of};
 ghost use Rattle.board_commands.specs.ByValue.{decided};
 
 use boards::numbers::number_at;
-use entry::entries::repeated;
+use text_runs::lists::repeated;
 use llsc::Order;
 use station::{Station, StationProcess};
 use station_machine::Outcome;

@@ -28,6 +28,11 @@ pub record Obeying (file ws₀ list₀ : List ℕ) (run₀ : Run) (left₀ at₀
   pub listing : length list ≡ length list₀
   pub same : obey_all (records_of left₀ (drop at₀ file)) (progress 16 (state_of run₀ ws₀ list₀)) ≡ obey_all (records_of left (drop at file)) (recounted done (progress 16 (state_of run ws list)))
 
+pub with_left : {file ws₀ list₀ ws list : List ℕ} {run₀ run : Run} {left₀ at₀ left left' at done : ℕ} → left ≡ left'
+    → Obeying file ws₀ list₀ run₀ left₀ at₀ ws list run left at done → Obeying file ws₀ list₀ run₀ left₀ at₀ ws list run left' at done
+with_left {file} {ws₀} {list₀} {ws} {list} {run₀} {run} {left₀} {at₀} {at = at} {done = done} e m =
+    subst (λ (k : ℕ). Obeying file ws₀ list₀ run₀ left₀ at₀ ws list run k at done) e m
+
 pub first_record : (file ws list : List ℕ) (run : Run) (left at : ℕ) → at + 12 * left ≤ length file → left ≤ 9999999 → Between (state_of run ws list)
     → Obeying file ws list run left at ws list run left at 0
 first_record file ws list run left at h f b = record {

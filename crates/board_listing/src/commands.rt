@@ -29,9 +29,7 @@ pub fn entry_of(file: &[u8], at: usize) -> Entry
 pub fn with_entries(run: Run, entries: usize) -> Run
     ensures { result ≡ with_entries run entries }
 {
-    let mut next = run;
-    next.entries = entries;
-    next
+    Run { entries, ..run }
 }
 
 // One entry, as the only one of its list.

@@ -3,14 +3,12 @@ ghost use Rattle.std.specs.Prelude.{◌≡◌};
 ghost use Rattle.board_listing.specs.ListedRun.{Closable, with_written, closed};
 
 use entry::state::Run;
-use run::last_line;
+use text_runs::last_lines;
 
 fn with_written(run: Run, written: usize) -> Run
     ensures { result ≡ with_written run written }
 {
-    let mut next = run;
-    next.written = written;
-    next
+    Run { written, ..run }
 }
 
 // "The last line is `end E` or `refused C E`".
@@ -18,6 +16,6 @@ pub fn close(run: Run, list: &mut [u8]) -> Run
     requires { Closable run list.old }
     ensures { (result, list.new) ≡ closed run list.old }
 {
-    let next = last_line::write(run, list);
+    let next = last_lines::write(run.stop, run.entries, list, run.written);
     with_written(run, next)
 }

@@ -8,16 +8,15 @@ ghost use Rattle.text_runs.specs.TextRun.{room_needed};
 ghost use Rattle.board_listing.specs.BoardListing.{board_listed};
 ghost use Rattle.board_listing.specs.ListedRun.{Between, closed, end_of, RunsFile, SetsUp};
 
-use llsc::refusals::number_of;
 use crate::{ending, records};
 use board_rows::file_refusal;
 use boards::trailers::records_of;
 use entry::state::Run;
-use entry::{entries, limits};
-use llsc::refusals::number_of;
+use llsc::refusals::{Refusal, number_of};
 use model::Bench;
 use run::{last_line, set_up};
 use tables::records::Records;
+use text_runs::{limits, lists};
 
 // A run that is refused before its first command.
 fn refused(bench: Bench, all: Records, number: u8, list: &mut [u8]) -> Run
@@ -60,7 +59,7 @@ fn set_up_and_run(
     if number != 0 {
         return refused(bench, all, number, list);
     }
-    let value = entries::repeated(initial as u64);
+    let value = lists::repeated(initial as u64);
     setup::words_at_set_up(words, n, w, &value[..w]);
     let begun = setup::bench_at_set_up(bench, n, w);
     let records = set_up::records_at_set_up(all, n);
@@ -86,7 +85,7 @@ pub fn run_listed(
     ensures { end_of result words.new list.new ≡ board_listed (memory_of bench all 16 words.old) n w initial file.now list.old }
 {
     if list.len() < limits::LISTING_ROOM {
-        return last_line::fresh(bench, all, limits::NO_ROOM, false);
+        return last_line::fresh(bench, all, Refusal::NoRoom.number(), false);
     }
     set_up_and_run(bench, all, n, w, initial, file, words, list)
 }

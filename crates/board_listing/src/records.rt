@@ -15,10 +15,8 @@ pub fn obey_records(run: Run, file: &[u8], from: Left, words: &mut [u64], list: 
     ensures { Obeys (left_of file.now from) (state_of run words.old list.old) (state_of result words.new list.new) }
 {
     let mut state = run;
-    let mut left = from.count;
     let mut at = from.at;
-    let mut done = 0;
-    while left > 0 {
+    for done in 0..from.count {
         let e = commands::entry_of(file, at);
         let next = commands::obey(state, e, words, list);
         if next.stop != 0 {
@@ -26,8 +24,6 @@ pub fn obey_records(run: Run, file: &[u8], from: Left, words: &mut [u64], list: 
         }
         state = commands::with_entries(next, 0);
         at += RECORD_SIZE;
-        left -= 1;
-        done += 1;
     }
-    commands::with_entries(state, done)
+    commands::with_entries(state, from.count)
 }

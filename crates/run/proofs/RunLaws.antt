@@ -19,7 +19,7 @@ use Rattle.notation.specs.Groups.{ItemsEnded}
 use Rattle.notation.specs.Listed.{Keeps}
 use Rattle.entry.specs.declared.state.Run.{Run}
 use Rattle.run.specs.declared.last_line.Finished.{Finished}
-use Rattle.run.specs.declared.text_run.First.{First}
+use Rattle.notation.specs.declared.First.{First}
 use Rattle.text_runs.specs.TextRun.{room_needed}
 use Rattle.semantics.specs.TextRun.{figure2, Ended, ended, begun, carry_all, run_with}
 use Rattle.positions.specs.declared.StopReport.{StopReport}

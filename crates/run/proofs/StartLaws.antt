@@ -10,7 +10,6 @@ use lib.Seq.{sets, sets-eq, take-set-lt}
 use borrow.Author.Tests.{ltb-false}
 use Rattle.model.specs.declared.Bench.{Bench}
 use Rattle.model.specs.declared.Process.{Process}
-use Rattle.model.specs.Records.{no_process}
 use Rattle.llsc.specs.Rows.{row1, row2}
 use Rattle.model.specs.SetUp.{numbers, process_at_set_up, records_at_set_up, words_at_set_up, bench_at_set_up, at_set_up, set_up_refusal, set_up}
 use Rattle.model.specs.Machine.{Memory, Shaped}

@@ -2,7 +2,7 @@
 use mathlib.Core.Path.{◌≡◌, sym, ap, subst, ◌∙◌}
 use mathlib.Core.Bool.{Bool, cond}
 use mathlib.Core.List.{List}
-use Prim.Native.Nat.{ℕ, ◌-◌, ◌≤◌, ◌<◌}
+use Prim.Native.Nat.{ℕ, ◌≤◌, ◌<◌}
 use lib.Dec.{eqb}
 use lib.ListN.{length, get_or, take, replicate}
 use Rattle.model.specs.declared.Bench.{Bench}
@@ -15,7 +15,7 @@ use Rattle.tables.specs.Gathered.{gathered}
 use Rattle.setup.specs.SetUpByValue.{set_up_number}
 use Rattle.notation.specs.declared.Entry.{Entry}
 use Rattle.notation.specs.Grammar.{largest}
-use Rattle.run.specs.declared.text_run.First.{First}
+use Rattle.notation.specs.declared.First.{First}
 use Rattle.positions.specs.declared.StopReport.{StopReport}
 use Rattle.semantics.specs.TextRun.{figure2, Progress, begun}
 use Rattle.text_runs.specs.StopPlaces.{at_no_item}

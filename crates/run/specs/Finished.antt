@@ -9,12 +9,11 @@ use Rattle.tables.specs.declared.records.Records.{Records}
 use Rattle.tables.specs.Gathered.{gathered}
 use Rattle.notation.specs.declared.Entry.{Entry}
 use Rattle.notation.specs.EntryWords.{largest_place}
-use Rattle.notation.specs.FirstLine.{whole}
 use Rattle.notation.specs.Readers as R
 use Rattle.listing.specs.Lines.{end_line, refused_line}
 use Rattle.entry.specs.declared.state.Run.{Run}
 use Rattle.run.specs.declared.last_line.Finished.{Finished}
-use Rattle.run.specs.declared.text_run.First.{First}
+use Rattle.notation.specs.declared.First.{First}
 use Rattle.positions.specs.declared.StopReport.{StopReport}
 use Rattle.text_runs.specs.TextRun.{most_entries, room_needed}
 use Rattle.text_runs.specs.KeptEntries as K

@@ -1,13 +1,12 @@
 // The end of a text run: its last line and what it returns.
 ghost use Rattle.std.specs.Prelude.{◌≡◌};
-ghost use Rattle.text_runs.specs.StopPlaces.{at_no_entry};
-ghost use Rattle.listing.specs.Writing.{Room, Wrote};
-ghost use Rattle.run.specs.Finished.{fresh_run, finished_of, last_of, closed, Closable};
+ghost use Rattle.run.specs.Finished.{fresh_run, finished_of, closed, Closable};
 
 use entry::state::Run;
 use model::Bench;
 use positions::StopReport;
 use tables::records::Records;
+use text_runs::last_lines;
 
 // What a text run leaves of the bench and the records, and what it returns: its number, the entries done, the listing
 // bytes written, and where it stopped.
@@ -19,18 +18,6 @@ pub struct Finished {
     pub entries: usize,
     pub written: usize,
     pub report: StopReport,
-}
-
-// A stop at no entry.
-pub fn at_no_entry(n: u64, w: u64, place: usize) -> StopReport
-    ensures { result ≡ at_no_entry n w place }
-{
-    StopReport {
-        n,
-        w,
-        place,
-        process: 0,
-    }
 }
 
 // A run before its first entry, or one that a refusal keeps from it.
@@ -63,24 +50,11 @@ pub fn returned(run: Run, report: StopReport, written: usize) -> Finished
     }
 }
 
-// "The last line is `end E` or `refused C E`", and the place after it.
-pub fn write(run: Run, list: &mut [u8]) -> usize
-    requires { Room list.old run.written (last_of run) }
-    ensures { Wrote list.old run.written (last_of run) list.new result }
-{
-    let entries = run.entries as u64;
-    let stop = run.stop as u64;
-    if stop == 0 {
-        return listing::end_line(list, run.written, entries);
-    }
-    listing::refused_line(list, run.written, stop, entries)
-}
-
 // A run with its last line.
 pub fn ended(run: Run, report: StopReport, list: &mut [u8]) -> Finished
     requires { Closable run list.old }
     ensures { (result, list.new) ≡ closed run report list.old }
 {
-    let next = write(run, list);
+    let next = last_lines::write(run.stop, run.entries, list, run.written);
     returned(run, report, next)
 }

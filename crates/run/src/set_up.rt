@@ -12,12 +12,10 @@ pub fn records_at_set_up(all: Records, n: usize) -> Records
     ensures { result ≡ record { list = records_at_set_up all.list n } }
 {
     let mut next = all;
-    let mut p = 0;
-    while p < n {
+    for p in 0..n {
         let me = ProcessNumber(p as u8);
         let process = setup::record_at_set_up(n, me);
         next = records::with_record(next, me, process);
-        p += 1;
     }
     next
 }

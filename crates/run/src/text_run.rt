@@ -1,88 +1,43 @@
 // A whole text run (01, "When the bench says no"): "A text run takes 14 at its start, then 12 for length, then 10 and
 // 11 over the whole text, then 1, 2, 3, then the set-up, then the entries".
-ghost use Rattle.std.specs.Prelude.{◌≡◌, true, false, cond, ◌≤◌, ◌<◌, eqb, length, get_or, take};
+ghost use Rattle.std.specs.Prelude.{◌≡◌, true, false, ◌≤◌, length, take};
+ghost use Rattle.llsc.specs.Refusals.{refusal_number};
 ghost use Rattle.model.specs.Records.{no_process};
 ghost use Rattle.tables.specs.Gathered.{gathered};
 ghost use Rattle.notation.specs.Grammar.{largest};
-ghost use Rattle.text_runs.specs.StopPlaces.{reported_process, at_no_entry, at_no_item};
+ghost use Rattle.text_runs.specs.StopPlaces.{at_no_entry};
 ghost use Rattle.semantics.specs.StopPlaces.{StopInText};
-ghost use Rattle.text_runs.specs.KeptEntries.{entries_in, places_in, word_report};
+ghost use Rattle.text_runs.specs.KeptEntries.{entries_in, places_in};
 ghost use Rattle.run.specs.Finished.{memory_of, at_most_sixteen, Answers, Lending, Headed, TextRan, started_with, report_with, says_after, refused_with};
 
-use llsc::refusals::number_of;
 use crate::last_line::Finished;
 use crate::{last_line, set_up};
-use entry::{entries, limits, state};
+use llsc::refusals::Refusal;
 use model::Bench;
 use notation::items::Items;
-use notation::{Header, entry_words, items};
-use positions::StopReport;
+use notation::{First, items};
 use tables::records::Records;
-
-// The first line's numbers, and where the items begin.
-#[derive(Clone, Copy)]
-pub struct First {
-    pub n: u64,
-    pub w: u64,
-    pub initial: u64,
-    pub items: usize,
-}
+use text_runs::{limits, lists, reports};
 
 // A run that is refused before its set-up, in either style, at no entry.
 fn refused(
     bench: Bench,
     all: Records,
     len: usize,
-    number: u8,
+    cause: Refusal,
     n: u64,
     w: u64,
     place: usize,
     words: &mut [u64],
     list: &mut [u8],
 ) -> Finished
-    requires { (Lending len all list.old) × (number ≤ 15) }
-    ensures { Answers len result words.new list.new (refused_with number (memory_of bench all len words.old) list.old) ×
+    requires { (Lending len all list.old) × (refusal_number cause ≤ 15) }
+    ensures { Answers len result words.new list.new (refused_with (refusal_number cause) (memory_of bench all len words.old) list.old) ×
         (result.report ≡ at_no_entry n w place) }
 {
-    let run = last_line::fresh(bench, all, number, false);
-    let report = last_line::at_no_entry(n, w, place);
+    let run = last_line::fresh(bench, all, cause.number(), false);
+    let report = reports::at_no_entry(n, w, place);
     last_line::ended(run, report, list)
-}
-
-// N is at most 16, so that all above 15 are reported alike.
-fn reported_process(p: u64) -> u64
-    ensures { result ≡ reported_process p }
-{
-    if p <= 15 {
-        return p;
-    }
-    16
-}
-
-// The item that a number of the list keeps: its place, and the process of its entry.
-fn word_report(n: u64, w: u64, word: u64) -> StopReport
-    ensures { result ≡ word_report n w word }
-{
-    let e = entry_words::entry_in(word);
-    let place = entry_words::item_place(word);
-    let process = reported_process(entries::process_of(e));
-    StopReport {
-        n,
-        w,
-        place,
-        process,
-    }
-}
-
-// The item that stopped a run at a place of its list; none where none did.
-fn stop_report(n: u64, w: u64, stop: u8, entries: &[u64], at: usize) -> StopReport
-    requires { (stop ≡ 0 → ⊥) → at < length entries.now }
-    ensures { result ≡ cond (eqb stop 0) (at_no_item n w) (word_report n w (get_or entries.now at 0)) }
-{
-    if stop == 0 {
-        return last_line::at_no_entry(n, w, 0);
-    }
-    word_report(n, w, entries[at])
 }
 
 // "then 1, 2, 3, then the set-up, then the entries": those of the list, up to `count`. The value is looked at only
@@ -106,26 +61,18 @@ fn started(
 {
     let n = first.n as usize;
     let w = first.w as usize;
-    let number = number_of(setup::set_up_refusal(n, w, len, words.len(), w));
-    if number != 0 {
-        return refused(bench, all, len, number, first.n, first.w, 0, words, list);
+    if let Err(cause) = setup::set_up_refusal(n, w, len, words.len(), w) {
+        return refused(bench, all, len, cause, first.n, first.w, 0, words, list);
     }
-    let value = entries::repeated(first.initial);
+    let value = lists::repeated(first.initial);
     setup::words_at_set_up(words, n, w, &value[..w]);
     let begun = setup::bench_at_set_up(bench, n, w);
     let records = set_up::records_at_set_up(all, n);
     let run = last_line::fresh(begun, records, 0, traced);
     let carried = carrying::carry_out(run, len, entries, count, words, list);
     let done = carried.run;
-    let report = stop_report(first.n, first.w, done.stop, entries, carried.at);
+    let report = reports::stop_report(first.n, first.w, done.stop, entries, carried.at);
     last_line::ended(done, report, list)
-}
-
-// Room for the list of a text's entries: 60,000, and the one that is 12 whatever it says.
-fn empty_list() -> [u64; 60001]
-    ensures { length result ≡ 60001 }
-{
-    [0; 60001]
 }
 
 // "then 10 and 11 over the whole text": its items are read once, into the list of its entries.
@@ -144,25 +91,20 @@ fn checked(
         (says_after traced text.now first (memory_of bench all len words.old) list.old) ×
         StopInText traced (memory_of bench all len words.old) text.now list.old result.report }
 {
-    let mut kept = empty_list();
-    let read = items::read_items(text, first.items, limits::DEEPEST, &mut kept, 0);
+    let mut kept = lists::empty_list();
+    let read = match items::read_items(text, first.items, limits::DEEPEST, &mut kept, 0) {
+        Ok(read) => read,
+        Err(fault) => {
+            return refused(bench, all, len, fault.cause, 0, 0, fault.place, words, list);
+        }
+    };
     match read {
-        Items::Broken(k, place) => refused(bench, all, len, k, 0, 0, place, words, list),
+        Items::Ended(count) => started(bench, all, len, traced, first, &kept, count, words, list),
         Items::Closed(next, _) => {
             let place = next - 1;
-            refused(
-                bench,
-                all,
-                len,
-                items::TEXT_BROKEN,
-                0,
-                0,
-                place,
-                words,
-                list,
-            )
+            let cause = Refusal::TextBroken;
+            refused(bench, all, len, cause, 0, 0, place, words, list)
         }
-        Items::Ended(count) => started(bench, all, len, traced, first, &kept, count, words, list),
     }
 }
 
@@ -170,10 +112,7 @@ fn checked(
 pub fn records_seen(len: usize) -> usize
     ensures { result ≡ at_most_sixteen len }
 {
-    if 16 < len {
-        return 16;
-    }
-    len
+    len.min(16)
 }
 
 // A text run in one of the two styles.
@@ -191,39 +130,31 @@ fn run_in_style(
         result words.new list.new }
 {
     let lent = records_seen(len);
-    if list.len() < state::room_needed(traced) {
-        let run = last_line::fresh(bench, all, limits::NO_ROOM, traced);
-        return last_line::returned(run, last_line::at_no_entry(0, 0, 0), 0);
+    if list.len() < limits::room_needed(traced) {
+        let run = last_line::fresh(bench, all, Refusal::NoRoom.number(), traced);
+        return last_line::returned(run, reports::at_no_entry(0, 0, 0), 0);
     }
     if limits::LONGEST_TEXT < text.len() {
-        return refused(bench, all, lent, limits::TOO_MUCH, 0, 0, 0, words, list);
+        return refused(bench, all, lent, Refusal::TooMuch, 0, 0, 0, words, list);
     }
     let header = notation::first_line(text);
     match header {
-        Header::NoFirst(place) => {
-            refused(
-                bench,
-                all,
-                lent,
-                items::TEXT_BROKEN,
-                0,
-                0,
-                place,
-                words,
-                list,
-            )
-        }
-        Header::First(n, w, initial, items) => {
-            let first = First {
-                n,
-                w,
-                initial,
-                items,
-            };
-            checked(bench, all, lent, traced, first, words, text, list)
-        }
+        Err(place) => refused(
+            bench,
+            all,
+            lent,
+            Refusal::TextBroken,
+            0,
+            0,
+            place,
+            words,
+            list,
+        ),
+        Ok(first) => checked(bench, all, lent, traced, first, words, text, list),
     }
 }
+
+// Kept: two names for the two styles, since each call says its own; the one function is `run_in_style`.
 
 // The text run: the number of its refusal, 0 at `end`, the entries done, the listing bytes written, where it stopped, and
 // all memory after it.

@@ -1,16 +1,13 @@
 -- `board_listing::listed::run_listed`: 14 at the start, or the rest.
-use mathlib.Core.Path.{ap, ◌∙◌}
-use Rattle.entry.specs.declared.state.Run.{Run}
 use Rattle.run.specs.Finished.{memory_of}
-use Rattle.board_listing.specs.ListedRun.{end_of}
 use Rattle.board_listing.proofs.ListedLaws.{no_room, with_room}
 use Rattle.board_listing.proofs.listed.run_listed.Goals as goal
 
 pub returns-then-list-lt-LISTING_ROOM : goal.returns-then-list-lt-LISTING_ROOM
 returns-then-list-lt-LISTING_ROOM c =
     let x = c.args in
-    ap (λ (r : Run). end_of r x.words.now x.list.now) c.fresh.ensures
-    ∙ no_room (memory_of x.bench x.all 16 x.words.now) x.n x.w x.initial x.file.now x.list.now c.if-list-lt-LISTING_ROOM.true
+    rw (c.fresh.ensures, c.number.ensures)
+    (no_room (memory_of x.bench x.all 16 x.words.now) x.n x.w x.initial x.file.now x.list.now c.if-list-lt-LISTING_ROOM.true)
 
 pub returns : goal.returns
 returns c =

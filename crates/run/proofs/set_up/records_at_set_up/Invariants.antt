@@ -1,11 +1,7 @@
 -- `run::set_up::records_at_set_up`: one record after another.
 use mathlib.Core.Path.{◌≡◌}
-use Prim.Native.Nat.{◌-◌, ◌≤◌}
 use Rattle.run.proofs.SetUpLaws.{records_set}
 use Rattle.run.proofs.set_up.records_at_set_up.Given as goal
 
 abbrev pub invariant-loop-p : goal.invariant-loop-p
-invariant-loop-p l = (l.next ≡ record { list = records_set l.initial.next.list l.n l.p }) × (l.p ≤ l.n)
-
-abbrev pub decreases-loop-p : goal.decreases-loop-p
-decreases-loop-p l = l.n - l.p
+invariant-loop-p l = l.next ≡ record { list = records_set l.initial.next.list l.n l.p }

@@ -1,8 +1,7 @@
 -- `run::text_run::checked`: the items read once, and then carried out or refused.
-use mathlib.Core.Path.{subst}
 use native.Mathlib.Omega.{arith}
-use Rattle.notation.specs.Listed.{ItemsSay}
 use Rattle.notation.proofs.HeaderLaws.{headed_within, headed_small}
+use Rattle.notation.proofs.ItemsLaws.{items_as}
 use Rattle.notation.proofs.ListedLaws.{kept_within}
 use Rattle.run.specs.Finished.{memory_of}
 use Rattle.text_runs.proofs.FaultLaws.{broken_small}
@@ -13,34 +12,27 @@ use Rattle.semantics.proofs.FarLaws.{far_refused}
 use Rattle.run.proofs.RunLaws.{answers_as, kept_says}
 use Rattle.run.proofs.text_run.checked.Goals as goal
 
-pub read_items-read-requires : goal.read_items-read-requires
-read_items-read-requires c =
+pub read_items-requires : goal.read_items-requires
+read_items-requires c =
     (headed_within c.requires.1.line, omega arith, c.requires.1.placeable)
 
 pub refused-requires : goal.refused-requires
-refused-requires c =
-    let read = (subst (ItemsSay _ _ _ _ _ _) c.in-Broken.is c.read_items-read.ensures).are in
-    (c.requires.0, broken_small read.is)
+refused-requires c = (c.requires.0, broken_small c.in-Err.ensures.are.is)
 
 pub overflow_sub-place : goal.overflow_sub-place
-overflow_sub-place c =
-    let read = (subst (ItemsSay _ _ _ _ _ _) c.in-Closed.is c.read_items-read.ensures).are in
-    omega (arith, read.read.on)
+overflow_sub-place c = omega (arith, (items_as c.in-Ok.ensures c.in-Closed.is).read.on)
 
 pub refused-requires-in-Closed : goal.refused-requires-in-Closed
-refused-requires-in-Closed c =
-    (c.requires.0, omega arith)
+refused-requires-in-Closed c = (c.requires.0, omega arith)
 
 pub started-requires : goal.started-requires
-started-requires c =
-    let read = (subst (ItemsSay _ _ _ _ _ _) c.in-Ended.is c.read_items-read.ensures).are in
-    (c.requires.0, (headed_small c.requires.1.line).2, kept_within read.lists)
+started-requires c = (c.requires.0, (headed_small c.requires.1.line).2, kept_within (items_as c.in-Ok.ensures c.in-Ended.is).lists)
 
-pub returns-in-Broken : goal.returns-in-Broken
-returns-in-Broken c =
+pub returns-in-Err : goal.returns-in-Err
+returns-in-Err c =
     let a = c.args in
     let m = memory_of a.bench a.all a.len a.words.now in
-    let read = (subst (ItemsSay _ _ _ _ _ _) c.in-Broken.is c.read_items-read.ensures).are in
+    let read = c.in-Err.ensures.are in
     let x = c.refused.ensures in
     (answers_as x.0 (broken_says figure2 a.traced a.text.now _ _ _ _ m a.list.now read.is), report_is figure2 x.1 (broken_stops figure2 c.requires.1.line read.is))
 
@@ -48,7 +40,7 @@ pub returns-in-Closed : goal.returns-in-Closed
 returns-in-Closed c =
     let a = c.args in
     let m = memory_of a.bench a.all a.len a.words.now in
-    let read = (subst (ItemsSay _ _ _ _ _ _) c.in-Closed.is c.read_items-read.ensures).are in
+    let read = items_as c.in-Ok.ensures c.in-Closed.is in
     let x = c.refused-in-Closed.ensures in
     (answers_as x.0 (closed_says figure2 a.traced a.text.now _ _ _ _ m a.list.now read.read), report_is figure2 x.1 (closed_stops figure2 c.requires.1.line read.read))
 
@@ -56,7 +48,7 @@ pub returns-in-Ended : goal.returns-in-Ended
 returns-in-Ended c =
     let a = c.args in
     let m = memory_of a.bench a.all a.len a.words.now in
-    let read = (subst (ItemsSay _ _ _ _ _ _) c.in-Ended.is c.read_items-read.ensures).are in
+    let read = items_as c.in-Ok.ensures c.in-Ended.is in
     let x = c.started.ensures in (
       answers_as x.0 (kept_says a.traced a.text.now a.first m a.list.now c.empty_list-kept.ensures read),
       kept_stops figure2 far_refused a.traced m a.list.now c.empty_list-kept.ensures c.requires.1.line read x.1,

@@ -1,10 +1,8 @@
 -- `run::text_run::run_in_style`: 14, 12, the first line, and the rest.
-use mathlib.Core.Path.{subst}
 use Prim.Native.Nat.{◌≤◌, ◌<◌}
 use native.Mathlib.Omega.{arith}
 use lib.ListN.{length}
-use Rattle.notation.specs.Readers.{HeaderSays}
-use Rattle.run.specs.declared.text_run.First.{First}
+use Rattle.notation.specs.declared.First.{First}
 use Rattle.text_runs.specs.TextRun.{room_needed}
 use Rattle.run.specs.Finished.{memory_of, refused_with, says_after}
 use Rattle.text_runs.proofs.TextLaws.{run_14, run_12, run_not_headed, run_headed}
@@ -12,7 +10,6 @@ use Rattle.text_runs.proofs.StopLaws.{report_is, line_stops, stops_14, stops_12,
 use Rattle.semantics.specs.TextRun.{figure2}
 use Rattle.run.proofs.RunLaws.{lending_sixteen, answered, ended_as}
 use Rattle.run.proofs.StopLaws.{report_sixteen}
-use borrow.Author.Rules.{rules}
 use Rattle.run.proofs.text_run.run_in_style.Goals as goal
 
 pub returns-then-list-room_needed : goal.returns-then-list-room_needed
@@ -20,7 +17,7 @@ returns-then-list-room_needed c =
     let a = c.args in
     let m = memory_of a.bench a.all a.len a.words.now in
     let short : length a.list.now < room_needed a.traced = omega (arith, c.if-list-room_needed.true, c.room_needed.ensures) in
-    rw (c.returned.ensures, c.at_no_entry.ensures, c.fresh-run.ensures)
+    rw (c.returned.ensures, c.at_no_entry.ensures, c.fresh-run.ensures, c.number.ensures)
     (record { same = run_14 figure2 a.traced m a.text.now a.list.now short; again = c.requires; stops = stops_14 figure2 short })
 
 pub refused-requires : goal.refused-requires
@@ -37,8 +34,8 @@ returns-then-text-gt-LONGEST_TEXT c =
     let room : room_needed a.traced ≤ length a.list.now = omega (arith, c.if-list-room_needed.false, c.room_needed.ensures) in
     ended_as all (run_12 figure2 a.traced m a.text.now a.list.now room c.if-text-gt-LONGEST_TEXT.true) (stops_12 figure2 c.if-text-gt-LONGEST_TEXT.true c.refused.ensures.1)
 
-pub refused-requires-in-NoFirst : goal.refused-requires-in-NoFirst
-refused-requires-in-NoFirst c =
+pub refused-requires-in-Err : goal.refused-requires-in-Err
+refused-requires-in-Err c =
     let a = c.args in
     let lent = lending_sixteen {list = a.list.now} a.traced a.len c.records_seen-lent.ensures c.requires (omega (arith, c.if-list-room_needed.false, c.room_needed.ensures)) in
     (lent, omega arith)
@@ -47,28 +44,28 @@ pub checked-requires : goal.checked-requires
 checked-requires c =
     let a = c.args in
     let lent = lending_sixteen {list = a.list.now} a.traced a.len c.records_seen-lent.ensures c.requires (omega (arith, c.if-list-room_needed.false, c.room_needed.ensures)) in
-    let first = subst (HeaderSays _) c.in-First.is c.first_line-header.ensures in
+    let first = c.in-Ok.ensures in
     (lent, record { line = first; placeable = omega (arith, c.if-text-gt-LONGEST_TEXT.false) })
 
-pub returns-in-NoFirst : goal.returns-in-NoFirst
-returns-in-NoFirst c =
+pub returns-in-Err : goal.returns-in-Err
+returns-in-Err c =
     let a = c.args in
     let m = memory_of a.bench a.all a.len a.words.now in
-    let all = answered a.len a.bench a.all a.words.now (λ m. refused_with 10 m a.list.now) c.records_seen-lent.ensures c.requires c.refused-in-NoFirst.ensures.0 in
-    let first = subst (HeaderSays _) c.in-NoFirst.is c.first_line-header.ensures in
+    let all = answered a.len a.bench a.all a.words.now (λ m. refused_with 10 m a.list.now) c.records_seen-lent.ensures c.requires c.refused-in-Err.ensures.0 in
+    let first = c.in-Err.ensures in
     let room : room_needed a.traced ≤ length a.list.now = omega (arith, c.if-list-room_needed.false, c.room_needed.ensures) in
-    let report = report_is figure2 c.refused-in-NoFirst.ensures.1 (line_stops figure2 first) in
+    let report = report_is figure2 c.refused-in-Err.ensures.1 (line_stops figure2 first) in
     ended_as all (run_not_headed figure2 a.traced m a.text.now a.list.now room c.if-text-gt-LONGEST_TEXT.false first) (stops_looked figure2 room c.if-text-gt-LONGEST_TEXT.false report)
 
-pub returns-in-First : goal.returns-in-First
-returns-in-First c =
+pub returns-in-Ok : goal.returns-in-Ok
+returns-in-Ok c =
     let a = c.args in
     let m = memory_of a.bench a.all a.len a.words.now in
-    let f : First = record { n = c.in-First.n; w = c.in-First.w; initial = c.in-First.initial; items = c.in-First.items } in
+    let f : First = c.in-Ok.first in
     let all = answered a.len a.bench a.all a.words.now
     (λ m. says_after a.traced a.text.now f m a.list.now) c.records_seen-lent.ensures c.requires
     c.checked.ensures.0 in
-    let first = subst (HeaderSays _) c.in-First.is c.first_line-header.ensures in
+    let first = c.in-Ok.ensures in
     let room : room_needed a.traced ≤ length a.list.now = omega (arith, c.if-list-room_needed.false, c.room_needed.ensures) in
     let report = report_sixteen a.len a.bench a.all a.words.now c.records_seen-lent.ensures c.requires c.checked.ensures.1 in
     ended_as all (run_headed figure2 a.traced m a.text.now a.list.now room c.if-text-gt-LONGEST_TEXT.false first) (stops_looked figure2 room c.if-text-gt-LONGEST_TEXT.false report)
