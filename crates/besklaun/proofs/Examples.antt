@@ -5,7 +5,10 @@ use mathlib.Core.List.{[], ◌∷◌}
 use mathlib.Core.Bool.{true, false}
 use lib.ListN.{replicate}
 use Rattle.verdicts.specs.declared.Verdict.TheVariants.{Refused, Yes, No}
+use Rattle.llsc.specs.declared.refusals.Refusal.TheVariants.{NoSuchProcess}
+use Rattle.verdicts.specs.declared.Fault.TheVariants.{Overlap}
 use Rattle.verdicts.specs.declared.Judgement.{Judgement as Said}
+use Rattle.verdicts.specs.declared.Judgement.TheVariants.{No as No·said}
 use Rattle.std.specs.Prelude.{Result, Ok}
 use Rattle.llsc.specs.declared.refusals.Refusal.{Refusal}
 use Rattle.enumeration.specs.declared.Schedule.{Schedule}
@@ -14,7 +17,7 @@ use Rattle.besklaun.specs.TurnBytes.{schedule_into}
 
 -- a refused log has its number and no yes; yes and no have none
 record Verdicts : Type 0 where
-  refused_log : judgement_of (Refused 4) ≡ record { number = 4; yes = false }
+  refused_log : judgement_of (Refused NoSuchProcess) ≡ record { number = 4; yes = false }
   yes_log : judgement_of Yes ≡ record { number = 0; yes = true }
   no_log : judgement_of No ≡ record { number = 0; yes = false }
 
@@ -23,7 +26,7 @@ verdicts = record { refused_log = refl; yes_log = refl; no_log = refl }
 
 -- calls 3 and 7 overlap: both are told
 overlap : Said
-overlap = record { verdict = No; reason = record { condition = 2; given = false; truth = false; call = 3; other = 7 } }
+overlap = No·said (Overlap 3 7)
 
 both_calls : reasoned_of overlap
     ≡ record { number = 0; yes = false; condition = 2; given = false; truth = false; call = 3; other = 7 }

@@ -2,9 +2,9 @@
 ghost use Rattle.std.specs.Prelude.{◌≡◌};
 ghost use Rattle.verdicts.specs.Verdicts.{judged};
 ghost use Rattle.verdicts.specs.Reasons.{judged_with_reason};
-ghost use Rattle.besklaun.specs.Judgements.{judgement_of, reasoned_of};
+ghost use Rattle.besklaun.specs.Judgements.{judgement_of, fault_of, refused_of, reasoned_of};
 
-use verdicts::Verdict;
+use verdicts::{Fault, Place, Shown, Verdict};
 
 // A verdict in C's terms: the number of the refusal, 0 for none, and whether the log earns a yes.
 #[repr(C)]
@@ -18,7 +18,10 @@ fn judgement_of(verdict: Verdict) -> Judgement
     ensures { result ≡ judgement_of verdict }
 {
     match verdict {
-        Verdict::Refused(number) => Judgement { number, yes: false },
+        Verdict::Refused(refusal) => Judgement {
+            number: refusal.number(),
+            yes: false,
+        },
         Verdict::Yes => Judgement {
             number: 0,
             yes: true,
@@ -42,6 +45,7 @@ pub fn besklaun_judge(n: usize, w: usize, value: &[u64], log: &[u64]) -> Judgeme
 
 // The same with the reason: the first condition that fails, 0 for none, the calls at fault by their index, and what the
 // object would have answered; of a refusal the call that it is about. 0 and false where they mean nothing.
+// Kept: no enum crosses to C.
 #[repr(C)]
 #[derive(Clone, Copy)]
 pub struct Reasoned {
@@ -54,21 +58,97 @@ pub struct Reasoned {
     pub other: usize,
 }
 
+// A no without its reason.
+fn plain_no() -> Reasoned
+    ensures { result ≡ record { number = 0; yes = false; condition = 0; given = false; truth = false; call = 0; other = 0 } }
+{
+    Reasoned {
+        number: 0,
+        yes: false,
+        condition: 0,
+        given: false,
+        truth: false,
+        call: 0,
+        other: 0,
+    }
+}
+
+fn fault_of(fault: Fault) -> Reasoned
+    ensures { result ≡ fault_of fault }
+{
+    let mut r = plain_no();
+    match fault {
+        Fault::Unknown(call) => {
+            r.condition = 1;
+            r.call = call;
+        }
+        Fault::Overlap(call, other) => {
+            r.condition = 2;
+            r.call = call;
+            r.other = other;
+        }
+        Fault::Moment(call, other) => {
+            r.condition = 3;
+            r.call = call;
+            r.other = other;
+        }
+        Fault::Outside(call) => {
+            r.condition = 4;
+            r.call = call;
+        }
+        Fault::Answer(call, Shown::Value) => {
+            r.condition = 5;
+            r.call = call;
+            r.given = true;
+        }
+        Fault::Answer(call, Shown::WordsOf(other)) => {
+            r.condition = 5;
+            r.call = call;
+            r.other = other;
+        }
+        Fault::Answer(call, Shown::Truth(truth)) => {
+            r.condition = 5;
+            r.call = call;
+            r.truth = truth;
+        }
+        Fault::Unled(call) => {
+            r.condition = 6;
+            r.call = call;
+        }
+    }
+    r
+}
+
+fn refused_of(number: u8, place: Option<Place>) -> Reasoned
+    ensures { result ≡ refused_of number place }
+{
+    let mut r = plain_no();
+    r.number = number;
+    match place {
+        None => {}
+        Some(Place::Value) => r.given = true,
+        Some(Place::Call(call)) => r.call = call,
+    }
+    r
+}
+
+fn reasoned_of(said: verdicts::Judgement) -> Reasoned
+    ensures { result ≡ reasoned_of said }
+{
+    match said {
+        verdicts::Judgement::Refused(refusal, place) => refused_of(refusal.number(), place),
+        verdicts::Judgement::Yes => {
+            let mut r = plain_no();
+            r.yes = true;
+            r
+        }
+        verdicts::Judgement::No(fault) => fault_of(fault),
+    }
+}
+
 // Wrong programs that this rules out: one that tells no reason where it says no; one that exchanges the two calls.
 pub fn besklaun_judge_with_reason(n: usize, w: usize, value: &[u64], log: &[u64]) -> Reasoned
     ensures { result ≡ reasoned_of (judged_with_reason n w value.now log.now) }
 {
-    let said = reasons::judge_with_reason(n, w, value, log);
-    let verdict = said.verdict;
-    let short = judgement_of(verdict);
-    let reason = said.reason;
-    Reasoned {
-        number: short.number,
-        yes: short.yes,
-        condition: reason.condition,
-        given: reason.given,
-        truth: reason.truth,
-        call: reason.call,
-        other: reason.other,
-    }
+    reasoned_of(reasons::judge_with_reason(n, w, value, log))
 }

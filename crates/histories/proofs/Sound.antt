@@ -1,5 +1,5 @@
 -- A yes is given exactly where nothing refuses and the conditions hold, and then the moments are a linearization.
-use mathlib.Core.Path.{◌≡◌, refl, sym, ap, subst}
+use mathlib.Core.Path.{◌≡◌, refl, sym, ap, subst, ◌∙◌}
 use mathlib.Core.Bool.{Bool, true, false, cond}
 use mathlib.Core.List.{List, [], ◌∷◌, map}
 use Prim.Native.Nat.{ℕ, ◌≤◌, ◌<◌}
@@ -12,17 +12,12 @@ use Rattle.laws.proofs.Updates.{contra}
 use Rattle.laws.proofs.AndLaws.{left, right}
 use Rattle.laws.specs.Lists.{Pairs}
 use Rattle.laws.proofs.AllLaws.{all_of, all_map, every_all, pairs_of, pairs_map, map_map}
-use Rattle.verdicts.specs.declared.Verdict.{Verdict}
-use Rattle.verdicts.specs.declared.Verdict.TheVariants.{Refused, Yes, No}
+use Rattle.verdicts.specs.declared.Verdict.TheVariants.{Yes}
 use Rattle.verdicts.specs.Log.{Entry, entries}
-use Rattle.verdicts.specs.Verdicts.{number_of, call_of, timed_of, each_two, differ, inside, truth_told, conditions, earns_yes, log_refusal, judged}
+use Rattle.verdicts.specs.Verdicts.{number_of, says_yes, call_of, timed_of, each_two, differ, inside, truth_told, conditions, earns_yes, log_refusal, judged}
+use Rattle.verdicts.proofs.VerdictLaws.{verdict_says}
 use Rattle.histories.specs.Promises.{YesIsRight}
 use Rattle.histories.proofs.Answers.{equal_answers}
-
-abbrev is_yes : Verdict → Bool
-is_yes (Refused k) = false
-is_yes Yes = true
-is_yes No = false
 
 module _ (n w : ℕ) (value log : List ℕ) where
   abbrev earned : Bool
@@ -33,23 +28,11 @@ module _ (n w : ℕ) (value log : List ℕ) where
 
   -- a yes: no refusal, and every condition
   pub yes_means : judged n w value log ≡ Yes → (number ≡ 0) × (earned ≡ true)
-  unfolding judged
-  yes_means e = go (eqb number 0) refl earned refl e
-    where
-      go : (a : Bool) → eqb number 0 ≡ a → (b : Bool) → earned ≡ b → cond a (cond b Yes No) (Refused number) ≡ Yes → (number ≡ 0) × (earned ≡ true)
-      go true x true y e = (eqb-true _ 0 x, y)
-      go true x false y e = absurd (contra {b = false} (ap is_yes e) refl)
-      go false x b y e = absurd (contra {b = false} (ap is_yes e) refl)
+  yes_means e = let s = verdict_says n w value log in (sym s.number ∙ ap number_of e, right (eqb number 0) earned (sym s.yes ∙ ap says_yes e))
 
   -- the number that a verdict says is that of the refusal
   pub number_said : number_of (judged n w value log) ≡ number
-  unfolding judged
-  number_said = go (eqb number 0) refl earned
-    where
-      go : (a : Bool) → eqb number 0 ≡ a → (b : Bool) → number_of (cond a (cond b Yes No) (Refused number)) ≡ number
-      go true x true = sym (eqb-true _ 0 x)
-      go true x false = sym (eqb-true _ 0 x)
-      go false x b = refl
+  number_said = (verdict_says n w value log).number
 
 two_each : (r : Entry → Entry → Bool) (es : List Entry) → each_two r es ≡ true → Pairs (λ e f. r e f ≡ true) es
 two_each r [] e = tt

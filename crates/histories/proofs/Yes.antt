@@ -18,10 +18,11 @@ use Rattle.laws.proofs.Updates.{Split, same, other, split, contra}
 use Rattle.laws.proofs.AllLaws.{and_both, or_left, or_right, all_of, all_both, all_map, map_all, all_every, all_none, map_map}
 use Rattle.laws.specs.Lists.{Pairs, Any}
 use Rattle.laws.proofs.AllLaws.{map_pairs, pairs_map, pairs_of, any_of, any_map, map_any, any_some, all_any}
-use Rattle.verdicts.specs.declared.Verdict.TheVariants.{Refused, Yes, No}
+use Rattle.verdicts.specs.declared.Verdict.TheVariants.{Yes, No}
 use Rattle.verdicts.specs.Log.{Entry, entries}
 use Rattle.verdicts.specs.Verdicts.{timed_of, each_two, kind_known, apart, differ, inside, truth_told, served_alike, in_order, answers_of, leads, ll_before}
-use Rattle.verdicts.specs.Verdicts.{conditions, earns_yes, log_rows, log_refusal, judged}
+use Rattle.verdicts.specs.Verdicts.{conditions, earns_yes, log_rows, log_refusal}
+use Rattle.verdicts.proofs.VerdictLaws.{judged_earns}
 use Rattle.histories.specs.BenchLogs.{kind_number, truth_for, words_for, entry_for, log_for}
 use Rattle.histories.specs.CallFacts.{Formed, WellFormed, Follows, needs_ll, Leads, Led}
 use Rattle.histories.specs.Promises.{LinearizedEarnsYes}
@@ -188,7 +189,6 @@ led_back ts a =
     (map_all to_call (λ c. needs_ll c.kind ≡ true → Any (Leads c) (map to_call ts)) ts a)
 
 pub linearized_earns_yes : LinearizedEarnsYes
-unfolding judged
 linearized_earns_yes places n w value cs pos hn hw hv hl facts l =
     let ts = l.timed in let log = log_for w places ts in
     let f : All (λ t. WellFormed n w (to_call t)) ts = map_all to_call (WellFormed n w) ts (subst (All (WellFormed n w)) (sym l.same_calls) facts.formed) in
@@ -198,4 +198,4 @@ linearized_earns_yes places n w value cs pos hn hw hv hl facts l =
     let no_refusal = refuses_not places pos n w value ts f l.inside hn hw hv len in
     let is = log_entries w places ts (wide places pos n w value ts f l.inside) in
     let y : earns_yes value (entries w log) ≡ true = ap (earns_yes value) is ∙ earns places pos n w value ts f l.inside p l.distinct l.served b in
-    ap (λ r. cond (eqb r 0) (cond (earns_yes value (entries w log)) Yes No) (Refused r)) no_refusal ∙ ap (λ b. cond b Yes No) y
+    judged_earns n w value log no_refusal ∙ ap (λ b. cond b Yes No) y

@@ -22,10 +22,7 @@ pub(crate) const MOMENT: usize = 5;
 pub(crate) fn at(numbers: &[u64], i: usize) -> u64
     ensures { result ≡ get_or numbers.now i 0 }
 {
-    if i < numbers.len() {
-        return numbers[i];
-    }
-    0
+    numbers.get(i).copied().unwrap_or(0)
 }
 
 // W, where it is at most 64.
@@ -64,10 +61,7 @@ pub(crate) fn part(numbers: &[u64], call: usize, k: usize) -> u64
 pub(crate) fn after(numbers: &[u64], index: usize) -> u64
     ensures { result ≡ length numbers.now - index }
 {
-    if index < numbers.len() {
-        return (numbers.len() - index) as u64;
-    }
-    0
+    numbers.len().saturating_sub(index) as u64
 }
 
 // The line in which a call begins.
@@ -101,11 +95,8 @@ pub(crate) fn name(to: &mut impl Write, numbers: &[u64], call: usize) -> io::Res
 pub(crate) fn words(to: &mut impl Write, numbers: &[u64], from: usize) -> io::Result<()>
     requires { from ≤ 5000006 }
 {
-    let w = width(numbers);
-    let mut k = 0;
-    while k < w {
+    for k in 0..width(numbers) {
         word(to, at(numbers, from + k), k)?;
-        k += 1;
     }
     Ok(())
 }

@@ -16,7 +16,7 @@ use logtext::Reading;
 use std::io;
 use std::io::Write;
 use std::process::ExitCode;
-use verdicts::{Judgement, Verdict};
+use verdicts::Judgement;
 
 fn main(rt: HostRuntime) -> ExitCode {
     let mut text = text_room();
@@ -92,13 +92,12 @@ fn judged(
 }
 
 fn print(to: &mut impl Write, errors: &mut impl Write, judgement: Judgement) -> io::Result<()> {
-    let verdict = judgement.verdict;
-    match verdict {
-        Verdict::Yes => out(to, errors, b"yes\n"),
-        Verdict::No => out(to, errors, b"no\n"),
-        Verdict::Refused(number) => {
+    match judgement {
+        Judgement::Yes => out(to, errors, b"yes\n"),
+        Judgement::No(_) => out(to, errors, b"no\n"),
+        Judgement::Refused(refusal, _) => {
             out(to, errors, b"refused ")?;
-            shown(console::print_decimal(to, number as u64))?;
+            shown(console::print_decimal(to, u64::from(refusal.number())))?;
             out(to, errors, b"\n")
         }
     }

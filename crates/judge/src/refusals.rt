@@ -1,29 +1,38 @@
 // Why a log is refused, and where.
 use crate::calls;
+use llsc::refusals::Refusal;
 use logtext::number_places;
 use std::io;
 use std::io::Write;
-use verdicts::Reason;
+use verdicts::Place;
 
 pub(crate) fn refused(
     to: &mut impl Write,
-    number: u8,
-    reason: Reason,
+    refusal: Refusal,
+    place: Option<Place>,
     numbers: &[u64],
     text: &[u8],
 ) -> io::Result<()> {
     saying::say(to, b"refused ")?;
-    saying::number(to, number as u64)?;
+    saying::number(to, u64::from(refusal.number()))?;
     saying::say(to, b": ")?;
-    match number {
-        1 => range(to, 0, b"N", b"16", numbers, text),
-        2 => range(to, 1, b"W", b"64", numbers, text),
-        4 => process(to, reason.call, numbers, text),
-        8 => cut_off(to, reason, numbers, text),
-        16 => too_many(to, numbers, text),
-        _ => backwards(to, reason.call, numbers, text),
+    match refusal {
+        Refusal::NOutOfRange => range(to, 0, b"N", b"16", numbers, text),
+        Refusal::WOutOfRange => range(to, 1, b"W", b"64", numbers, text),
+        Refusal::NoSuchProcess => process(to, call_of(place), numbers, text),
+        Refusal::ValueNotWWords => cut_off(to, place, numbers, text),
+        Refusal::TooManyCalls => too_many(to, numbers, text),
+        _ => backwards(to, call_of(place), numbers, text),
     }?;
     saying::say(to, b"\n")
+}
+
+// The call that a refusal is about, which 4 and 17 have.
+fn call_of(place: Option<Place>) -> usize {
+    match place {
+        Some(Place::Call(call)) => call,
+        _ => 0,
+    }
 }
 
 // N or W, the number of an index, is not in its range.
@@ -52,20 +61,26 @@ fn process(to: &mut impl Write, call: usize, numbers: &[u64], text: &[u8]) -> io
     saying::number(to, calls::at(numbers, 0))
 }
 
-fn cut_off(to: &mut impl Write, reason: Reason, numbers: &[u64], text: &[u8]) -> io::Result<()> {
+fn cut_off(
+    to: &mut impl Write,
+    place: Option<Place>,
+    numbers: &[u64],
+    text: &[u8],
+) -> io::Result<()> {
     let w = calls::width(numbers);
-    if reason.given {
-        saying::say(to, b"the text ends within the value; W is ")?;
-        return saying::number(to, w as u64);
+    match place {
+        Some(Place::Call(call)) => {
+            calls::line(to, numbers, call, text)?;
+            saying::say(to, b": the last call has ")?;
+            saying::number(to, calls::after(numbers, calls::first_of(numbers, call)))?;
+            saying::say(to, b" numbers, not ")?;
+            saying::number(to, (6 + w) as u64)
+        }
+        _ => {
+            saying::say(to, b"the text ends within the value; W is ")?;
+            saying::number(to, w as u64)
+        }
     }
-    calls::line(to, numbers, reason.call, text)?;
-    saying::say(to, b": the last call has ")?;
-    saying::number(
-        to,
-        calls::after(numbers, calls::first_of(numbers, reason.call)),
-    )?;
-    saying::say(to, b" numbers, not ")?;
-    saying::number(to, (6 + w) as u64)
 }
 
 fn too_many(to: &mut impl Write, numbers: &[u64], text: &[u8]) -> io::Result<()> {

@@ -1,7 +1,5 @@
-pub mod HeadLaws
-pub mod TestLaws
-pub mod RowLoops
-pub mod OrderLaws
-pub mod ObjectLaws
-pub mod RefusalLaws
+pub mod CallLoops
 pub mod JudgeLaws
+pub mod ObjectLaws
+pub mod OrderLaws
+pub mod RefusalLaws

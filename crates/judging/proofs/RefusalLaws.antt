@@ -2,7 +2,7 @@
 use mathlib.Core.Path.{◌≡◌, refl, sym, ap, ◌∙◌}
 use Prim.Native.Nat.{ℕ, zero, suc, ◌+◌, ◌*◌, ◌/◌, ◌%◌, ◌≤◌, ◌<◌}
 use mathlib.Core.List.{List}
-use mathlib.Core.Bool.{Bool, true, false, not, ◌||◌}
+use mathlib.Core.Bool.{Bool, true, false, not, ◌||◌, cond}
 use native.Mathlib.Omega.{arith}
 use native.Mathlib.Decide.{dec_lt}
 use native.Mathlib.Nat.{add-zero, suc-mul, div-mul-le_self, div-eq_of_lt-le, div-add-mod', lt-div-mul-add}
@@ -12,24 +12,22 @@ use lib.ListN.{length, get_or, drop}
 use lib.Seq.{get_or-drop, drop-drop}
 use borrow.Author.Tests.{eqb-true, ltb-false, leb-false, lt-leb, not-false}
 use Rattle.llsc.specs.Rows.{row1, row2, some}
-use Rattle.rows.proofs.RowLaws.{cleared, n_in, w_in}
+use Rattle.rows.proofs.RowLaws.{n_in, w_in}
+use Rattle.std.specs.Prelude.{Result, Ok, Err}
+use Rattle.llsc.specs.declared.refusals.Refusal.{Refusal}
 use Rattle.laws.proofs.AllLaws.{all_of, all_none, none_all, or_none}
 use Rattle.verdicts.specs.Log.{Entry, width, entry_of, rows, entries, begun}
-use Rattle.verdicts.specs.Verdicts.{row4log, row8log, row16, log_refusal}
-use Rattle.judging.specs.Heads.{Fit}
-use Rattle.judging.specs.Orders.{SortFit}
-use Rattle.judging.proofs.HeadLaws.{rows_length}
+use Rattle.verdicts.specs.Verdicts.{row4log, row8log, row16, log_checked}
+use Rattle.judging.specs.Orders.{Fits}
+use Rattle.judging.proofs.CallLoops.{rows_length}
 
-pub fit_whole : (w : ℕ) (log : List ℕ) → w ≤ 64 → Fit w 0 (length log / width w) log
-fit_whole w log h = record { narrow = h; inside = let z = div-mul-le_self (length log) (width w) in omega arith }
+or_no : (b : Bool) → (b || false) ≡ b
+or_no true = refl
+or_no false = refl
 
 -- one row more
 some_last : (f : Entry → Bool) (w k : ℕ) (ns : List ℕ) → some f (rows (suc k) w ns) ≡ (some f (rows k w ns) || f (entry_of w (drop (k * width w) ns)))
 some_last f w zero ns = or_no (f (entry_of w ns)) ∙ ap (λ i. f (entry_of w (drop i ns))) (let z : 0 ≡ 0 * width w = omega arith in z)
-  where
-    or_no : (b : Bool) → (b || false) ≡ b
-    or_no true = refl
-    or_no false = refl
 some_last f w (suc k) ns =
     let next = drop (width w) ns in
     let far : width w + k * width w ≡ suc k * width w = let z = suc-mul k (width w) in omega (arith, z) in
@@ -77,48 +75,72 @@ module _ (n w : ℕ) (log : List ℕ) where
   cut h =
       ap (some strange) (begun_cut h) ∙ some_last strange w left log ∙ ap (λ p. some strange (rows left w log) || leb n p) (first_number (left * width w))
 
-  pub stranger : (r : Bool) → r ≡ some strange (rows left w log) → r ≡ true → true ≡ cause
-  stranger r e z = go (dec_lt (left * width w) (length log))
+  pub stranger : (r : Bool) → r ≡ some strange (rows left w log) → (s : Bool) → s ≡ r → s ≡ true → s ≡ cause
+  stranger r e s es z = go (dec_lt (left * width w) (length log))
     where
       found : some strange (rows left w log) ≡ true
-      found = sym e ∙ z
+      found = sym e ∙ sym es ∙ z
 
-      go : Dec (left * width w < length log) → true ≡ cause
-      go (yes h) = sym (cut h ∙ ap (λ b. b || leb n (get_or log (left * width w) 0)) found)
-      go (no h) = sym (no_cut (omega arith) ∙ found)
+      go : Dec (left * width w < length log) → s ≡ cause
+      go (yes h) = z ∙ sym (cut h ∙ ap (λ b. b || leb n (get_or log (left * width w) 0)) found)
+      go (no h) = z ∙ sym (no_cut (omega arith) ∙ found)
 
-  module _ (r : Bool) (e : r ≡ some strange (rows left w log)) (z : r ≡ false) where
-    pub cut_stranger : left * width w < length log → leb n (get_or log (left * width w) 0) ≡ cause
-    cut_stranger h = sym (cut h ∙ ap (λ b. b || leb n (get_or log (left * width w) 0)) (sym e ∙ z))
+  module _ (r : Bool) (e : r ≡ some strange (rows left w log)) (z : r ≡ false) (k : ℕ) (ek : k ≡ left) where
+    at : k * width w ≡ left * width w
+    at = ap (◌* width w) ek
 
-    pub no_stranger : length log ≤ left * width w → false ≡ cause
-    no_stranger h = sym (no_cut h ∙ sym e ∙ z)
+    pub at_stranger : k * width w < length log → leb n (get_or log (k * width w) 0) ≡ cause
+    at_stranger h =
+        ap (λ i. leb n (get_or log i 0)) at
+        ∙ sym (cut (let y = at in omega arith) ∙ ap (λ b. b || leb n (get_or log (left * width w) 0)) (sym e ∙ z))
+
+    pub no_stranger : length log ≤ k * width w → false ≡ cause
+    no_stranger h = sym (no_cut (let y = at in omega arith) ∙ sym e ∙ z)
+
+-- the first cause that holds, here or further on
+pub stops : (b : Bool) (r : Refusal) (rest : Result (Unit {0}) Refusal) → b ≡ true → Err r ≡ cond b (Err r) rest
+stops b r rest e = sym (ap (λ b. cond b (Err r) rest) e)
+
+pub goes : (b : Bool) (r : Refusal) (rest y : Result (Unit {0}) Refusal) → b ≡ false → y ≡ rest → y ≡ cond b (Err r) rest
+goes b r rest y e v = v ∙ sym (ap (λ b. cond b (Err r) rest) e)
 
 -- what it means that nothing refuses
 pub record Taken (n w : ℕ) (value log : List ℕ) : Type 0 where
   pub narrow : w ≤ 64
   pub value_words : length value ≡ w
-  pub sortable : SortFit log w (length log / width w)
+  pub fits : Fits w log
 
-pub taken : (n w : ℕ) (value log : List ℕ) → log_refusal n w value log ≡ 0 → Taken n w value log
-unfolding log_refusal
+-- the causes before one that does not hold
+record Cleared (b : Bool) (rest : Result (Unit {0}) Refusal) : Type 0 where
+  clear : b ≡ false
+  next : rest ≡ Ok tt
+
+cleared : (b : Bool) (r : Refusal) (rest : Result (Unit {0}) Refusal) → cond b (Err r) rest ≡ Ok tt → Cleared b rest
+cleared true r rest e = absurd (let z : ◌≡◌ {A = ℕ} 1 0 = ap refused e in omega arith)
+  where
+    refused : Result (Unit {0}) Refusal → ℕ
+    refused (Ok x) = 0
+    refused (Err r) = 1
+cleared false r rest e = record { clear = refl; next = e }
+
+pub taken : (n w : ℕ) (value log : List ℕ) → log_checked n w value log ≡ Ok tt → Taken n w value log
+unfolding log_checked
 taken n w value log e =
     let es = entries w log in
-    let c1 = cleared (row1 n).holds 0 _ e in
-    let c2 = cleared (row2 w).holds 1 _ c1.1 in
-    let c4 = cleared (row4log n (begun w log)).holds 3 _ c2.1 in
-    let c8 = cleared (row8log w value log).holds 7 _ c4.1 in
-    let c16 = cleared (row16 es).holds 15 _ c8.1 in
-    let hw = (w_in w c2.0).1 in let v = or_none (not (eqb (length value) w)) _ c8.0 in
+    let c1 = cleared (row1 n).holds _ _ e in
+    let c2 = cleared (row2 w).holds _ _ c1.next in
+    let c4 = cleared (row4log n (begun w log)).holds _ _ c2.next in
+    let c8 = cleared (row8log w value log).holds _ _ c4.next in
+    let c16 = cleared (row16 es).holds _ _ c8.next in
+    let hw = (w_in w c2.clear).1 in let v = or_none (not (eqb (length value) w)) _ c8.clear in
     let whole : length log % width w ≡ 0 = eqb-true _ 0 (not-false _ v.1) in
-    let no_4 = sym (no_cut n w log (omega (arith, div-add-mod' (length log) (width w), whole))) ∙ c4.0 in
-    let low : (e : Entry) → leb n e.process ≡ false → leb 16 e.process ≡ false = λ e x. lt-leb 16 e.process (let z = leb-false n e.process x in omega (arith, (n_in n c1.0).1)) in
+    let no_4 = sym (no_cut n w log (omega (arith, div-add-mod' (length log) (width w), whole))) ∙ c4.clear in
+    let low : (e : Entry) → leb n e.process ≡ false → leb 16 e.process ≡ false = λ e x. lt-leb 16 e.process (let z = leb-false n e.process x in omega (arith, (n_in n c1.clear).1)) in
     record {
       narrow = hw;
       value_words = eqb-true _ w (not-false _ v.0);
-      sortable = record {
-        fit = fit_whole w log hw;
-        few = let z = ltb-false 512 (length es) c16.0 in let y = rows_length (length log / width w) w log in omega arith;
+      fits = record {
+        few = let z = ltb-false 512 (length es) c16.clear in let y = rows_length (length log / width w) w log in omega arith;
         known = all_none (λ e. leb 16 e.process) es (all_of (λ (e : Entry). leb n e.process ≡ false) _ low es (none_all (λ (e : Entry). leb n e.process) es no_4));
       };
     }

@@ -1,15 +1,10 @@
--- Inner: entries without their words, and the conditions as tests that a log is looked through for. `earns_is`
+-- Inner: calls without their words, and the conditions as tests that a log is looked through for. `earns_is`
 -- (proofs/JudgeLaws) ties them to what `verdicts` says.
-use Rattle.std.specs.Prelude.{ℕ, ◌+◌, ◌*◌, ◌≤◌, List, Bool, not, ◌&&◌, ◌||◌, eqb, ltb, leb, length, get_or}
+use Rattle.std.specs.Prelude.{◌≡◌, ℕ, ◌+◌, ◌*◌, List, Bool, Option, Some, None, not, ◌&&◌, ◌||◌, cond, eqb, ltb, leb, get_or, drop}
 use Rattle.llsc.specs.Rows.{some, between}
-use Rattle.verdicts.specs.Log.{Entry, width}
-use Rattle.verdicts.specs.Verdicts.{each_two, apart, differ}
+use Rattle.verdicts.specs.Log.{Entry, width, entry_of}
 use Rattle.verdicts.specs.Reasons.{first_with}
 use Rattle.judging.specs.declared.heads.Head.{Head}
-use Rattle.judging.specs.declared.heads.Test.{Test}
-use Rattle.judging.specs.declared.heads.Test.TheVariants.{Stranger, Backwards, Unknown, Outside, Wrong, Overlaps, Coincides, Clashes, Leads}
-use Rattle.judging.specs.declared.heads.Pairing.{Pairing}
-use Rattle.judging.specs.declared.heads.Pairing.TheVariants.{Overlap, Moment, Either}
 
 abbrev pub head_of : List ℕ → Head
 head_of ns = record { process = get_or ns 0 0; kind = get_or ns 1 0; start = get_or ns 2 0; answer = get_or ns 3 0; truth = get_or ns 4 0; moment = get_or ns 5 0 }
@@ -17,54 +12,40 @@ head_of ns = record { process = get_or ns 0 0; kind = get_or ns 1 0; start = get
 abbrev pub head : Entry → Head
 head e = record { process = e.process; kind = e.kind; start = e.start; answer = e.answer; truth = e.truth; moment = e.moment }
 
--- two entries of one process do not overlap
-abbrev pub heads_apart : Head → Head → Bool
-heads_apart e f = not (eqb e.process f.process) || (ltb e.answer f.start || ltb f.answer e.start)
+-- the call of an index
+abbrev pub entry_at : ℕ → List ℕ → ℕ → Entry
+entry_at w log k = entry_of w (drop (k * width w) log)
+
+-- the kind is one
+abbrev pub known : Head → Bool
+known e = between 1 3 e.kind
 
 -- a moment is inside its call
-abbrev pub head_inside : Head → Bool
-head_inside f = ltb f.start f.moment && leb f.moment f.answer
+abbrev pub inside : Head → Bool
+inside e = ltb e.start e.moment && leb e.moment e.answer
 
-abbrev pub test_of : Test → Head → Bool
-test_of (Stranger n) f = leb n f.process
-test_of Backwards f = leb f.answer f.start
-test_of Unknown f = not (between 1 3 f.kind)
-test_of Outside f = not (head_inside f)
-test_of Wrong f = not (between 1 3 f.kind && head_inside f)
-test_of (Overlaps e) f = not (heads_apart e f)
-test_of (Coincides e) f = not (not (eqb e.moment f.moment))
-test_of (Clashes e) f = not (heads_apart e f && not (eqb e.moment f.moment))
-test_of (Leads e) f = eqb f.process e.process && (eqb f.kind 1 && ltb f.moment e.moment)
+-- two calls of one process do not overlap
+abbrev pub apart : Head → Head → Bool
+apart e f = not (eqb e.process f.process) || (ltb e.answer f.start || ltb f.answer e.start)
 
-abbrev pub some_row : Test → List Entry → Bool
-some_row t es = some (λ e. test_of t (head e)) es
+-- f is an LL of e's process, before e in moment order
+abbrev pub leads : Head → Head → Bool
+leads e f = eqb f.process e.process && (eqb f.kind 1 && ltb f.moment e.moment)
 
-abbrev pub first_row : Test → List Entry → ℕ
-first_row t es = first_with (λ e. test_of t (head e)) es
+-- a closure decides as a test does
+abbrev pub Decides : (Head → Bool → Type 0) → (Head → Bool) → Type 0
+Decides post f = (e : Head) (b : Bool) → post e b → b ≡ f e
 
--- two entries that can't stand together
-abbrev pub against : Pairing → Head → Test
-against Overlap e = Overlaps e
-against Moment e = Coincides e
-against Either e = Clashes e
+abbrev pub DecidesTwo : (Head → Head → Bool → Type 0) → (Head → Head → Bool) → Type 0
+DecidesTwo post r = (e f : Head) (b : Bool) → post e f b → b ≡ r e f
 
-abbrev pub bad_pair : Pairing → Entry → Entry → Bool
-bad_pair p e f = test_of (against p (head e)) (head f)
+-- the first entry that passes a test, the list beginning with the call of index k
+abbrev pub first_from : (Entry → Bool) → ℕ → List Entry → Option ℕ
+first_from f k es = cond (some f es) (Some (k + first_with f es)) None
 
-abbrev pub some_clash : List Entry → Bool
-some_clash es = not (each_two (λ e f. apart e f && differ e f) es)
-
--- e is an SC or VL with no LL of its process before it among all; the first such entry; one is
+-- e is an SC or VL with no LL of its process before it among all; the first such entry
 abbrev pub lacks_ll : List Entry → Head → Bool
-lacks_ll all e = not (eqb e.kind 1 || some_row (Leads e) all)
+lacks_ll all e = not (eqb e.kind 1 || some (λ f. leads e (head f)) all)
 
-abbrev pub first_unled : List Entry → ℕ
-first_unled all = first_with (λ e. lacks_ll all (head e)) all
-
-abbrev pub some_unled : List Entry → Bool
-some_unled all = some (λ e. lacks_ll all (head e)) all
-
--- so many rows from a place on lie in the log
-pub record Fit (w at left : ℕ) (log : List ℕ) : Type 0 where
-  pub narrow : w ≤ 64
-  pub inside : at + left * width w ≤ length log
+abbrev pub first_unled : List Entry → Option ℕ
+first_unled all = first_from (λ e. lacks_ll all (head e)) 0 all

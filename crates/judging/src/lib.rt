@@ -2,37 +2,39 @@
 
 #![tactic(auto)]
 
+pub mod calls;
 pub mod heads;
-pub mod looking;
 pub mod object;
 pub mod order;
 pub mod refusals;
 
-ghost use Rattle.std.specs.Prelude.{◌≡◌, length};
-ghost use Rattle.verdicts.specs.Log.{rows};
+ghost use Rattle.std.specs.Prelude.{◌≡◌};
+ghost use Rattle.verdicts.specs.Log.{entries};
 ghost use Rattle.verdicts.specs.Verdicts.{earns_yes, judged};
-ghost use Rattle.judging.specs.Orders.{SortFit};
+ghost use Rattle.judging.specs.Orders.{Fits};
 
-use heads::Test;
+use calls::Calls;
 use verdicts::Verdict;
 
 // Whether the log earns a yes, where nothing refuses it.
-fn earns(log: &[u64], value: &[u64], w: usize, left: usize) -> bool
-    requires { (SortFit log.now w left) × (length value.now ≡ w) }
-    ensures { result ≡ earns_yes value.now (rows left w log.now) }
+fn earns(calls: &Calls, value: &[u64]) -> bool
+    requires { Fits calls.now.w calls.now.log.now }
+    ensures { result ≡ earns_yes value.now (entries calls.now.w calls.now.log.now) }
 {
-    if looking::some_row(log, w, 0, left, Test::Wrong) {
+    if calls.first(0, |e| !(e.known() && e.inside())).is_some() {
         return false;
     }
-    if looking::some_clash(log, w, left) {
+    if calls
+        .first_two(|e, f| !(e.apart(f) && e.moment != f.moment))
+        .is_some()
+    {
         return false;
     }
-    if looking::some_unled(log, w, left) {
+    if calls.first_unled().is_some() {
         return false;
     }
-    let order = order::sorted(log, w, left);
-    let r = object::not_alike(log, value, w, order);
-    r.condition == 0
+    let order = order::sorted(calls);
+    object::not_alike(calls, value, &order).is_none()
 }
 
 // The judge: N, W, the value with which the object begins, and the log, 6 + W numbers for each call.
@@ -41,13 +43,13 @@ fn earns(log: &[u64], value: &[u64], w: usize, left: usize) -> bool
 pub fn judge(n: usize, w: usize, value: &[u64], log: &[u64]) -> Verdict
     ensures { result ≡ judged n w value.now log.now }
 {
-    let number = refusals::refusal(n, w, value, log);
-    if number != 0 {
-        return Verdict::Refused(number);
+    if let Err(refusal) = refusals::checked(n, w, value, log) {
+        return Verdict::Refused(refusal);
     }
-    let left = log.len() / (6 + w);
-    if earns(log, value, w, left) {
-        return Verdict::Yes;
+    let calls = Calls { log, w };
+    if earns(&calls, value) {
+        Verdict::Yes
+    } else {
+        Verdict::No
     }
-    Verdict::No
 }

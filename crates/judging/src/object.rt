@@ -1,138 +1,91 @@
-// Figure 1's object, fed the rows of a log. Its words are not copied: they are those given, or those of the row at `from`.
-ghost use Rattle.std.specs.Prelude.{◌≡◌, ◌+◌, ◌≤◌, length, take, drop};
+// Figure 1's object, fed the calls of a log. Its words are not copied: they are the value, or those of an SC of the log.
+ghost use Rattle.std.specs.Prelude.{◌≡◌, ◌≤◌, ◌<◌, length, None};
 ghost use Rattle.llsc.specs.Object.{fresh};
-ghost use Rattle.verdicts.specs.Verdicts.{same_words};
-ghost use Rattle.verdicts.specs.Reasons.{in_value};
-ghost use Rattle.judging.specs.Orders.{places_of, Good, GoodPlaces};
-ghost use Rattle.judging.specs.Objects.{Sane, told_alike, MovedOn, answers_at, not_alike_at};
+ghost use Rattle.verdicts.specs.Reasons.{not_alike, in_value, numbered_in_order};
+ghost use Rattle.verdicts.specs.Log.{entries};
+ghost use Rattle.judging.specs.Orders.{count, calls_of, Fits, SortedBy};
+ghost use Rattle.judging.specs.Objects.{words_held, Sane, told_alike, MovedOn, shown_at};
 
+use crate::calls::Calls;
+use crate::heads;
 use crate::order::Order;
-use crate::{heads, looking};
-use verdicts::Reason;
+use verdicts::{Fault, Shown};
 
+// Whose links are set, and the SC whose words it holds, if it is not the value.
 #[derive(Clone, Copy)]
 pub struct Held {
     pub links: [bool; 16],
-    pub first: bool,
-    pub from: usize,
+    pub from: Option<usize>,
 }
 
-// Whether w words of two lists are the same.
-fn same_words(a: &[u64], i: usize, b: &[u64], j: usize, w: usize) -> bool
-    requires { (i + w ≤ length a.now) × (j + w ≤ length b.now) }
-    ensures { result ≡ same_words (take w (drop i a.now)) (take w (drop j b.now)) }
+// The words that it holds.
+fn words_held<'a>(calls: &Calls<'a>, value: &'a [u64], held: &Held) -> &'a [u64]
+    requires { Sane calls.now.w calls.now.log.now held.now }
+    ensures { result.now ≡ words_held calls.now.w calls.now.log.now value.now held.now.from }
 {
-    let mut k: usize = 0;
-    while k < w {
-        if a[i + k] != b[j + k] {
-            return false;
-        }
-        k = k + 1;
+    match held.from {
+        None => value,
+        Some(from) => calls.words(from),
     }
-    true
 }
 
-// Whether the object answers the row's call as the row says.
-fn alike(log: &[u64], value: &[u64], w: usize, at: usize, held: Held) -> bool
-    requires { (Good log.now w at) × ((Sane log.now w held) × (length value.now ≡ w)) }
-    ensures { result ≡ told_alike log.now value.now w at held }
+// Whether the object answers a call as the call says.
+fn alike<'a>(calls: &Calls<'a>, value: &'a [u64], held: &Held, k: usize) -> bool
+    requires { Fits calls.now.w calls.now.log.now × ((k < count calls.now.w calls.now.log.now) × (Sane calls.now.w calls.now.log.now held.now)) }
+    ensures { result ≡ told_alike calls.now.w calls.now.log.now value.now k held.now }
 {
-    let e = heads::head_at(log, at);
+    let e = calls.head(k);
     if e.kind == heads::LL {
-        if held.first {
-            return same_words(value, 0, log, at + 6, w);
-        }
-        let from = held.from;
-        return same_words(log, from + 6, log, at + 6, w);
+        return words_held(calls, value, held) == calls.words(k);
     }
-    let links = held.links;
-    let p = e.process as usize;
-    if links[p] {
-        return e.truth == 1;
-    }
-    e.truth == 0
+    e.truth == u64::from(held.links[e.process as usize])
 }
 
-// The object after the row's call.
-fn moved(log: &[u64], w: usize, at: usize, held: Held) -> Held
-    requires { (Good log.now w at) × (Sane log.now w held) }
-    ensures { MovedOn log.now w at held result }
+// The object serves a call.
+fn serve(calls: &Calls, held: &mut Held, k: usize)
+    requires { Fits calls.now.w calls.now.log.now × ((k < count calls.now.w calls.now.log.now) × (Sane calls.now.w calls.now.log.now held.old)) }
+    ensures { MovedOn calls.now.w calls.now.log.now k held.old held.new }
 {
-    let e = heads::head_at(log, at);
+    let e = calls.head(k);
     let p = e.process as usize;
     if e.kind == heads::LL {
-        let mut links = held.links;
-        links[p] = true;
-        return Held {
-            links: links,
-            first: held.first,
-            from: held.from,
-        };
+        held.links[p] = true;
+    } else if e.kind == heads::SC && held.links[p] {
+        held.links = [false; 16];
+        held.from = Some(k);
     }
-    if e.kind != heads::SC {
-        return held;
-    }
-    let links = held.links;
-    if links[p] {
-        let cleared = [false; 16];
-        return Held {
-            links: cleared,
-            first: false,
-            from: at,
-        };
-    }
-    held
 }
 
-// What the object answers the row's call, as a reason.
-fn answers(log: &[u64], w: usize, at: usize, held: Held) -> Reason
-    requires { (w ≤ 64) × (Good log.now w at) }
-    ensures { result ≡ answers_at log.now w at held }
+// What the object answers a call.
+fn shown(calls: &Calls, held: &Held, k: usize) -> Shown
+    requires { Fits calls.now.w calls.now.log.now × (k < count calls.now.w calls.now.log.now) }
+    ensures { result ≡ shown_at calls.now.w calls.now.log.now k held.now }
 {
-    let e = heads::head_at(log, at);
-    let call = at / (6 + w);
-    if e.kind == heads::LL {
-        return Reason {
-            condition: 5,
-            call: call,
-            other: held.from / (6 + w),
-            given: held.first,
-            truth: false,
-        };
+    let e = calls.head(k);
+    if e.kind != heads::LL {
+        return Shown::Truth(held.links[e.process as usize]);
     }
-    let links = held.links;
-    let p = e.process as usize;
-    Reason {
-        condition: 5,
-        call: call,
-        other: 0,
-        given: false,
-        truth: links[p],
+    match held.from {
+        None => Shown::Value,
+        Some(from) => Shown::WordsOf(from),
     }
 }
 
 // The first call, in the order given, that the object, begun with the value, does not answer alike.
-pub fn not_alike(log: &[u64], value: &[u64], w: usize, order: Order) -> Reason
-    requires { (w ≤ 64) × ((GoodPlaces log.now w order) × ((order.count ≤ 512) × (length value.now ≡ w))) }
-    ensures { result ≡ not_alike_at log.now w (fresh value.now) in_value (places_of order) }
+pub fn not_alike<'a>(calls: &Calls<'a>, value: &'a [u64], order: &Order) -> Option<Fault>
+    requires { Fits calls.now.w calls.now.log.now × SortedBy calls.now.w calls.now.log.now order.now }
+    ensures { result ≡ not_alike (fresh value.now) in_value (numbered_in_order (entries calls.now.w calls.now.log.now)) }
 {
-    let at = order.at;
-    let count = order.count;
-    let none = [false; 16];
     let mut held = Held {
-        links: none,
-        first: true,
-        from: 0,
+        links: [false; 16],
+        from: None,
     };
-    let mut i: usize = 0;
-    while i < count {
-        let p = at[i];
-        if alike(log, value, w, p, held) {
-            held = moved(log, w, p, held);
-            i = i + 1;
-        } else {
-            return answers(log, w, p, held);
+    for k in &order.at[..order.count] {
+        if !alike(calls, value, &held, *k) {
+            let answer = shown(calls, &held, *k);
+            return Some(Fault::Answer(*k, answer));
         }
+        serve(calls, &mut held, *k);
     }
-    looking::no_reason()
+    None
 }

@@ -1,32 +1,21 @@
 // The causes for which a log is refused, and their order: 1, 2, 4, 8, 16, 17.
-ghost use Rattle.std.specs.Prelude.{◌≡◌, ◌+◌, ◌≤◌};
+ghost use Rattle.std.specs.Prelude.{◌≡◌, ◌≤◌};
 ghost use Rattle.verdicts.specs.Log.{entries, begun};
-ghost use Rattle.verdicts.specs.Verdicts.{row4log, row8log, row16, row17, log_refusal};
+ghost use Rattle.verdicts.specs.Verdicts.{row4log, row8log, row16, row17, log_checked};
 
-use crate::heads::Test;
-use crate::looking;
+use crate::calls::Calls;
+use llsc::refusals::Refusal;
 use rows::causes;
-
-pub const TOO_MANY_CALLS: u8 = 16;
-
-pub const ANSWER_NOT_AFTER_START: u8 = 17;
 
 pub const MOST_CALLS: usize = 512;
 
 // Row 4: of a call that is cut off, too, where its first number stands.
-fn no_such_process(n: usize, w: usize, log: &[u64]) -> bool
-    requires { w ≤ 64 }
-    ensures { result ≡ (row4log n (begun w log.now)).holds }
+fn no_such_process(n: usize, calls: &Calls) -> bool
+    ensures { result ≡ (row4log n (begun calls.now.w calls.now.log.now)).holds }
 {
-    let left = log.len() / (6 + w);
-    if looking::some_row(log, w, 0, left, Test::Stranger(n as u64)) {
-        return true;
-    }
-    let at = left * (6 + w);
-    if at < log.len() {
-        return n as u64 <= log[at];
-    }
-    false
+    let n = n as u64;
+    let at = calls.len() * (6 + calls.w);
+    calls.first(0, |e| n <= e.process).is_some() || at < calls.log.len() && n <= calls.log[at]
 }
 
 // Row 8: the value given, or a call that is cut off.
@@ -34,50 +23,45 @@ fn not_w_words(w: usize, value: &[u64], log: &[u64]) -> bool
     requires { w ≤ 64 }
     ensures { result ≡ (row8log w value.now log.now).holds }
 {
-    if value.len() != w {
-        return true;
-    }
-    log.len() % (6 + w) != 0
+    value.len() != w || log.len() % (6 + w) != 0
 }
 
 // Row 16.
-fn too_many(w: usize, log: &[u64]) -> bool
-    requires { w ≤ 64 }
-    ensures { result ≡ (row16 (entries w log.now)).holds }
+fn too_many(calls: &Calls) -> bool
+    ensures { result ≡ (row16 (entries calls.now.w calls.now.log.now)).holds }
 {
-    log.len() / (6 + w) > MOST_CALLS
+    calls.len() > MOST_CALLS
 }
 
 // Row 17.
-fn not_after_start(w: usize, log: &[u64]) -> bool
-    requires { w ≤ 64 }
-    ensures { result ≡ (row17 (entries w log.now)).holds }
+fn not_after_start(calls: &Calls) -> bool
+    ensures { result ≡ (row17 (entries calls.now.w calls.now.log.now)).holds }
 {
-    let left = log.len() / (6 + w);
-    looking::some_row(log, w, 0, left, Test::Backwards)
+    calls.first(0, |e| e.answer <= e.start).is_some()
 }
 
-// The number of the first cause that holds, 0 for none.
-pub fn refusal(n: usize, w: usize, value: &[u64], log: &[u64]) -> u8
-    ensures { result ≡ log_refusal n w value.now log.now }
+// Refuses for the first cause that holds.
+pub fn checked(n: usize, w: usize, value: &[u64], log: &[u64]) -> Result<(), Refusal>
+    ensures { result ≡ log_checked n w value.now log.now }
 {
     if causes::n_out_of_range(n) {
-        return causes::N_OUT_OF_RANGE;
+        return Err(Refusal::NOutOfRange);
     }
     if causes::w_out_of_range(w) {
-        return causes::W_OUT_OF_RANGE;
+        return Err(Refusal::WOutOfRange);
     }
-    if no_such_process(n, w, log) {
-        return causes::NO_SUCH_PROCESS;
+    let calls = Calls { log, w };
+    if no_such_process(n, &calls) {
+        return Err(Refusal::NoSuchProcess);
     }
     if not_w_words(w, value, log) {
-        return causes::VALUE_NOT_W_WORDS;
+        return Err(Refusal::ValueNotWWords);
     }
-    if too_many(w, log) {
-        return TOO_MANY_CALLS;
+    if too_many(&calls) {
+        return Err(Refusal::TooManyCalls);
     }
-    if not_after_start(w, log) {
-        return ANSWER_NOT_AFTER_START;
+    if not_after_start(&calls) {
+        return Err(Refusal::AnswerNotAfterStart);
     }
-    0
+    Ok(())
 }

@@ -1,7 +1,7 @@
 -- The call that a refusal is about.
 use mathlib.Core.Path.{◌≡◌, refl, sym, ap, ap₂, ◌∙◌}
-use Prim.Native.Nat.{ℕ, zero, suc, ◌*◌, ◌/◌, ◌≤◌, ◌<◌}
-use mathlib.Core.List.{List}
+use Prim.Native.Nat.{ℕ, zero, suc, ◌+◌, ◌*◌, ◌/◌, ◌≤◌, ◌<◌}
+use mathlib.Core.List.{List, [], ◌∷◌}
 use mathlib.Core.Bool.{Bool, true, false, ◌||◌, cond}
 use native.Mathlib.Omega.{arith}
 use native.Mathlib.Decide.{dec_lt}
@@ -10,10 +10,13 @@ use lib.ListN.{length, drop}
 use borrow.Author.Tests.{eq-eqb, ne_eqb}
 use Rattle.llsc.specs.Rows.{some, row1, row2}
 use Rattle.rows.proofs.RowLaws.{w_in}
-use Rattle.verdicts.specs.declared.Reason.{Reason}
+use Rattle.std.specs.Prelude.{Option, Some, None, unwrap_or}
+use Rattle.judging.specs.Heads.{first_from}
+use Rattle.verdicts.specs.declared.Place.{Place}
+use Rattle.verdicts.specs.declared.Place.TheVariants.{Call}
 use Rattle.verdicts.specs.Log.{Entry, width, entry_of, rows, entries, begun}
 use Rattle.verdicts.specs.Verdicts.{row4log, row8log, row16, row17, log_refusal}
-use Rattle.verdicts.specs.Reasons.{no_reason, first_with, at_call, cut_off, refused_at}
+use Rattle.verdicts.specs.Reasons.{first_with, cut_off, refused_at}
 use Rattle.judging.proofs.RefusalLaws.{begun_whole, begun_cut}
 
 -- a last row adds no index where one of the rows passes: it has that index itself, or comes after it
@@ -76,19 +79,37 @@ module _ (n w : ℕ) (value log : List ℕ) (k : ℕ) (e : k ≡ log_refusal n w
       go (no l) = ap (first_with f) (begun_whole n w log (omega arith))
 
   -- the reason by the number: 4, 8 and 17 have one
-  abbrev as_number : Bool → Bool → Bool → Reason
+  abbrev as_number : Bool → Bool → Bool → Option Place
   as_number a b c =
-      cond a (at_call (first_with f (begun w log))) (cond b (cut_off w value log) (cond c (at_call (first_with (λ (e : Entry). leb e.answer e.start) (entries w log))) no_reason))
+      cond a (Some (Call (first_with f (begun w log))))
+      (cond b (Some (cut_off w value log)) (cond c (Some (Call (first_with (λ (e : Entry). leb e.answer e.start) (entries w log)))) None))
 
-  pub at_4 : k ≡ 4 → (i : ℕ) → i ≡ first_with f (rows left w log) → (x : Reason) → x ≡ at_call i → x ≡ refused_at k n w value log
-  at_4 h i ei x ex = ex ∙ ap at_call (ei ∙ sym (first_strange h)) ∙ sym (ap (λ a. as_number a (eqb k 8) (eqb k 17)) (eq-eqb k 4 h))
+  pub at_4 : k ≡ 4 → (i : ℕ) → i ≡ first_with f (rows left w log) → Some (Call i) ≡ refused_at k n w value log
+  at_4 h i ei = ap (λ i. Some (Call i)) (ei ∙ sym (first_strange h)) ∙ sym (ap (λ a. as_number a (eqb k 8) (eqb k 17)) (eq-eqb k 4 h))
 
-  pub at_8 : k ≡ 8 → (x : Reason) → x ≡ cut_off w value log → x ≡ refused_at k n w value log
-  at_8 h x ex = ex ∙ sym (ap₂ (λ a b. as_number a b (eqb k 17)) (ne_eqb k 4 (λ z. omega (arith, h, z))) (eq-eqb k 8 h))
+  pub at_8 : k ≡ 8 → (x : Place) → x ≡ cut_off w value log → Some x ≡ refused_at k n w value log
+  at_8 h x ex = ap Some ex ∙ sym (ap₂ (λ a b. as_number a b (eqb k 17)) (ne_eqb k 4 (λ z. omega (arith, h, z))) (eq-eqb k 8 h))
 
-  pub at_17 : k ≡ 17 → (i : ℕ) → i ≡ first_with (λ (e : Entry). leb e.answer e.start) (rows left w log) → (x : Reason) → x ≡ at_call i → x ≡ refused_at k n w value log
-  at_17 h i ei x ex =
-      ex ∙ ap at_call ei ∙ sym (ap₂ (λ a b. as_number a b (eqb k 17)) (ne_eqb k 4 (λ z. omega (arith, h, z))) (ne_eqb k 8 (λ z. omega (arith, h, z))) ∙ ap (as_number false false) (eq-eqb k 17 h))
+  pub at_17 : k ≡ 17 → (i : ℕ) → i ≡ first_with (λ (e : Entry). leb e.answer e.start) (rows left w log) → Some (Call i) ≡ refused_at k n w value log
+  at_17 h i ei =
+      ap (λ i. Some (Call i)) ei
+      ∙ sym (ap₂ (λ a b. as_number a b (eqb k 17)) (ne_eqb k 4 (λ z. omega (arith, h, z))) (ne_eqb k 8 (λ z. omega (arith, h, z))) ∙ ap (as_number false false) (eq-eqb k 17 h))
 
-  pub at_none : (k ≡ 4 → ⊥) → (k ≡ 8 → ⊥) → (k ≡ 17 → ⊥) → (x : Reason) → x ≡ no_reason → x ≡ refused_at k n w value log
-  at_none a b c x ex = ex ∙ sym (ap₂ (λ a b. as_number a b (eqb k 17)) (ne_eqb k 4 a) (ne_eqb k 8 b) ∙ ap (as_number false false) (ne_eqb k 17 c))
+  pub at_none : (k ≡ 4 → ⊥) → (k ≡ 8 → ⊥) → (k ≡ 17 → ⊥) → None ≡ refused_at k n w value log
+  at_none a b c = sym (ap₂ (λ a b. as_number a b (eqb k 17)) (ne_eqb k 4 a) (ne_eqb k 8 b) ∙ ap (as_number false false) (ne_eqb k 17 c))
+
+-- where none passes, all stand before
+first_not : (f : Entry → Bool) (es : List Entry) → some f es ≡ false → first_with f es ≡ length es
+first_not f [] e = refl
+first_not f (e ∷ es) h = go (f e) h (first_not f es)
+  where
+    go : (b : Bool) → (b || some f es) ≡ false → (some f es ≡ false → first_with f es ≡ length es) → cond b 0 (suc (first_with f es)) ≡ suc (length es)
+    go true h z = absurd (let z : ◌≡◌ {A = ℕ} 1 0 = ap (λ b. cond b 1 0) h in omega arith)
+    go false h z = ap suc (z h)
+
+pub index_told : (f : Entry → Bool) (es : List Entry) (r : Option ℕ) (n : ℕ) → r ≡ first_from f 0 es → n ≡ length es → unwrap_or r n ≡ first_with f es
+index_told f es r n e l = ap (λ r. unwrap_or r n) e ∙ go (some f es) refl
+  where
+    go : (b : Bool) → some f es ≡ b → unwrap_or (cond b (Some (0 + first_with f es)) None) n ≡ first_with f es
+    go true h = let z : 0 + first_with f es ≡ first_with f es = omega arith in z
+    go false h = l ∙ sym (first_not f es h)

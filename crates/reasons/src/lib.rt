@@ -1,4 +1,4 @@
-// The judge with its reason: why it says no, and which call a refusal is about (02, CR 1).
+// The judge with its reason: why it says no, and what a refusal is about (02, CR 1).
 
 #![tactic(auto)]
 
@@ -8,8 +8,9 @@ pub mod refused;
 ghost use Rattle.std.specs.Prelude.{◌≡◌};
 ghost use Rattle.verdicts.specs.Reasons.{judged_with_reason};
 
+use judging::calls::Calls;
 use judging::refusals;
-use verdicts::{Judgement, Verdict};
+use verdicts::Judgement;
 
 // N, W, the value with which the object begins, and the log, 6 + W numbers for each call.
 // Ruled out: a no without a reason, a reason beside a yes, a later condition or a later call in place of the first, and
@@ -17,24 +18,12 @@ use verdicts::{Judgement, Verdict};
 pub fn judge_with_reason(n: usize, w: usize, value: &[u64], log: &[u64]) -> Judgement
     ensures { result ≡ judged_with_reason n w value.now log.now }
 {
-    let number = refusals::refusal(n, w, value, log);
-    if number != 0 {
-        let at = refused::refused_at(number, n, w, value, log);
-        return Judgement {
-            verdict: Verdict::Refused(number),
-            reason: at,
-        };
+    if let Err(refusal) = refusals::checked(n, w, value, log) {
+        return Judgement::Refused(refusal, refused::refused_at(refusal, n, w, value, log));
     }
-    let left = log.len() / (6 + w);
-    let why = failing::reason_of_no(log, value, w, left);
-    if why.condition != 0 {
-        return Judgement {
-            verdict: Verdict::No,
-            reason: why,
-        };
-    }
-    Judgement {
-        verdict: Verdict::Yes,
-        reason: why,
+    let calls = Calls { log, w };
+    match failing::reason_of_no(&calls, value) {
+        Some(fault) => Judgement::No(fault),
+        None => Judgement::Yes,
     }
 }

@@ -1,36 +1,14 @@
 -- `judging::object::alike` meets its contract.
-use native.Mathlib.Omega.{arith}
-use Rattle.judging.proofs.ObjectLaws.{low_process, told_first, told_later, told_linked, told_unlinked}
-use borrow.Author.Rules.{rules}
+use mathlib.Core.Path.{sym, ap, ◌∙◌}
+use Rattle.judging.specs.declared.heads.Head.{Head}
+use Rattle.judging.proofs.ObjectLaws.{low_process, told_ll}
 use Rattle.judging.proofs.object.alike.Goals as goal
-
-pub returns-then-held : goal.returns-then-held
-returns-then-held c =
-    let a = c.args in
-    told_first a.log.now a.value.now a.w a.at a.held _ c.head_at-e.ensures (search rules) (search rules) (search rules) _ c.same_words.ensures
-
-pub overflow_add-from : goal.overflow_add-from
-overflow_add-from c =
-    let z = c.requires.1.0.inside c.if-held.false in omega arith
-
-pub same_words-requires-then-e-eq-LL : goal.same_words-requires-then-e-eq-LL
-same_words-requires-then-e-eq-LL c =
-    (let z = c.requires.1.0.inside c.if-held.false in omega arith, let z = c.requires.0.inside in omega arith)
 
 pub returns-then-e-eq-LL : goal.returns-then-e-eq-LL
 returns-then-e-eq-LL c =
-    let a = c.args in
-    told_later a.log.now a.value.now a.w a.at a.held _ c.head_at-e.ensures (search rules) (search rules) _ c.same_words-then-e-eq-LL.ensures
+    let a = c.args.calls.now in
+    c.eq.ensures
+    ∙ told_ll a.w a.log.now c.args.k c.args.held.now c.args.value.now (sym (ap (λ (e : Head). e.kind) c.head-e.ensures) ∙ c.if-e-eq-LL.true) _ _ c.words_held.ensures c.words.ensures
 
-pub bounds-links-p : goal.bounds-links-p
-bounds-links-p c = low_process _ _ _ _ c.requires.0 c.head_at-e.ensures
-
-pub returns-then-links-p : goal.returns-then-links-p
-returns-then-links-p c =
-    let a = c.args in
-    told_linked a.log.now a.value.now a.w a.at a.held _ c.head_at-e.ensures (search rules) (search rules)
-
-pub returns : goal.returns
-returns c =
-    let a = c.args in
-    told_unlinked a.log.now a.value.now a.w a.at a.held _ c.head_at-e.ensures (search rules) (search rules)
+pub bounds-held-e : goal.bounds-held-e
+bounds-held-e c = let a = c.args.calls.now in low_process a.w a.log.now c.requires.0 c.args.k c.requires.1.0 _ c.head-e.ensures

@@ -1,10 +1,7 @@
--- `judging::object::not_alike` meets its contract.
-use Prim.Native.Nat.{◌-◌}
+-- `judging::object::not_alike`: the calls passed are answered alike.
+use Rattle.judging.specs.Orders.{calls_of}
 use Rattle.judging.proofs.ObjectLaws.{ServeInv}
 use Rattle.judging.proofs.object.not_alike.Given as goal
 
-abbrev pub invariant-loop-i : goal.invariant-loop-i
-invariant-loop-i l = ServeInv l.log l.value l.w l.at l.count l.held l.i
-
-abbrev pub decreases-loop-i : goal.decreases-loop-i
-decreases-loop-i l = l.count - l.i
+abbrev pub invariant-loop-k : goal.invariant-loop-k
+invariant-loop-k l = ServeInv l.calls.w l.calls.log.now l.value (calls_of l.order) l.held l.k-index

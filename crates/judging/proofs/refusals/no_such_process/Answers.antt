@@ -1,22 +1,27 @@
--- `judging::refusals::no_such_process` meets its contract: the whole rows, then the one that is cut off.
-use native.Mathlib.Omega.{arith}
-use Rattle.judging.proofs.RefusalLaws.{fit_whole, stranger, cut_stranger, no_stranger}
+-- `judging::refusals::no_such_process` meets its contract: the whole calls, then the one that is cut off.
+use mathlib.Core.Path.{◌∙◌, sym}
+use lib.Dec.{leb}
+use borrow.Author.Tests.{le-ltb}
+use Rattle.judging.proofs.RefusalLaws.{stranger, at_stranger, no_stranger}
+use Rattle.judging.proofs.CallLoops.{found_some, es}
+use Rattle.judging.specs.declared.heads.Head.{Head}
 use borrow.Author.Rules.{rules}
 use Rattle.judging.proofs.refusals.no_such_process.Goals as goal
 
-pub some_row-requires : goal.some_row-requires
-some_row-requires c = fit_whole c.args.w c.args.log.now (search rules)
+pub returns-then-is_some : goal.returns-then-is_some
+returns-then-is_some c =
+    let a = c.args.calls.now in
+    stranger c.args.n a.w a.log.now _ (found_some _ 0 (es a.w a.log.now) _ (c.first.ensures (λ (e : Head). leb c.args.n e.process) (λ e b p. search rules))) _ c.is_some.ensures c.if-is_some.true
 
-pub returns-then-some_row : goal.returns-then-some_row
-returns-then-some_row c = let a = c.args in stranger a.n a.w a.log.now _ c.some_row.ensures (search rules)
+pub returns-then-at-calls : goal.returns-then-at-calls
+returns-then-at-calls c =
+    let a = c.args.calls.now in
+    at_stranger c.args.n a.w a.log.now _ (found_some _ 0 (es a.w a.log.now) _ (c.first.ensures (λ (e : Head). leb c.args.n e.process) (λ e b p. search rules))) (sym c.is_some.ensures ∙ c.if-is_some.false)
+    _ c.len.ensures c.if-at-calls.true
 
-pub overflow_mul-at : goal.overflow_mul-at
-overflow_mul-at c = let z = (fit_whole c.args.w c.args.log.now (search rules)).inside in omega (arith, z, c.type_inv)
-
-pub returns-then-at-log : goal.returns-then-at-log
-returns-then-at-log c =
-    cut_stranger c.args.n c.args.w c.args.log.now _ c.some_row.ensures (search rules) (search rules)
-
-pub returns : goal.returns
-returns c =
-    no_stranger c.args.n c.args.w c.args.log.now _ c.some_row.ensures (search rules) (search rules)
+pub returns-else-at-calls : goal.returns-else-at-calls
+returns-else-at-calls c =
+    let a = c.args.calls.now in
+    le-ltb _ _ c.if-at-calls.false
+    ∙ no_stranger c.args.n a.w a.log.now _ (found_some _ 0 (es a.w a.log.now) _ (c.first.ensures (λ (e : Head). leb c.args.n e.process) (λ e b p. search rules))) (sym c.is_some.ensures ∙ c.if-is_some.false)
+    _ c.len.ensures c.if-at-calls.false

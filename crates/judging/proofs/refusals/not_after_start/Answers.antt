@@ -1,7 +1,12 @@
 -- `judging::refusals::not_after_start` meets its contract.
-use Rattle.judging.proofs.RefusalLaws.{fit_whole}
+use mathlib.Core.Path.{◌∙◌}
+use lib.Dec.{leb}
+use Rattle.judging.specs.declared.heads.Head.{Head}
+use Rattle.judging.proofs.CallLoops.{found_some, es}
 use borrow.Author.Rules.{rules}
 use Rattle.judging.proofs.refusals.not_after_start.Goals as goal
 
-pub some_row-requires : goal.some_row-requires
-some_row-requires c = fit_whole c.args.w c.args.log.now (search rules)
+pub returns : goal.returns
+returns c =
+    let a = c.args.calls.now in
+    c.is_some.ensures ∙ found_some _ 0 (es a.w a.log.now) _ (c.first.ensures (λ (e : Head). leb e.answer e.start) (λ e b p. search rules))

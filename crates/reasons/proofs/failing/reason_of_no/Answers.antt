@@ -1,64 +1,94 @@
 -- `reasons::failing::reason_of_no` meets its contract: the conditions, one after the other.
-use Rattle.reasons.proofs.FailingLaws.{kind_fails, kinds_hold, apart_fails, apart_holds, differ_fails, differ_holds, inside_fails, inside_holds, alike_fails, alike_holds, led_last}
-use native.Mathlib.Omega.{arith}
+use mathlib.Core.Path.{◌≡◌, refl, ◌∙◌}
+use mathlib.Core.Bool.{Bool, not}
+use lib.Dec.{eqb}
+use Rattle.verdicts.specs.declared.Fault.TheVariants.{Unknown, Overlap, Moment, Outside, Unled}
+use Rattle.verdicts.specs.Log.{entries}
+use Rattle.verdicts.specs.Verdicts.{kind_known, inside, ll_before}
+use Rattle.verdicts.specs.Reasons.{reason_of_no}
+use Rattle.judging.specs.declared.heads.Head.{Head}
+use Rattle.judging.specs.Heads.{known, apart}
+use Rattle.judging.specs.Heads.{inside as Heads·inside}
+use Rattle.reasons.proofs.FailingLaws.{from_2, from_3, from_4, from_5, from_6, from_7, here, over, one_found, one_none, two_found, two_none, twice}
 use borrow.Author.Rules.{rules}
 use Rattle.reasons.proofs.failing.reason_of_no.Goals as goal
 
-pub returns-then-unknown-ne0 : goal.returns-then-unknown-ne0
-returns-then-unknown-ne0 c =
-    let a = c.args in
-    kind_fails a.log.now a.value.now a.w a.left _ _ c.first_row.ensures c.found-unknown.ensures (search rules)
+moment : (e f : Head) (b : Bool) → b ≡ eqb e.moment f.moment → b ≡ not (not (eqb e.moment f.moment))
+moment e f b h = h ∙ twice (eqb e.moment f.moment)
 
-pub returns-then-overlap-ne0 : goal.returns-then-overlap-ne0
-returns-then-overlap-ne0 c =
-    let a = c.args in
-    kinds_hold a.log.now a.value.now a.w a.left _ _ c.first_row.ensures c.found-unknown.ensures c.if-unknown-ne0.false _
-    (apart_fails a.log.now a.value.now a.w a.left _ c.two_at_fault-overlap.ensures (search rules))
+pub returns-in-Some : goal.returns-in-Some
+unfolding reason_of_no
+returns-in-Some c =
+    let a = c.args.calls.now in
+    let es = entries a.w a.log.now in
+    let v = c.args.value.now in
+    here _ (from_2 v es) _ (one_found Unknown (λ e. not (kind_known e)) es _ (c.in-Some.ensures (λ h. not (known h)) (λ e b p. search rules)))
 
-pub returns-then-moment-ne0 : goal.returns-then-moment-ne0
-returns-then-moment-ne0 c =
-    let a = c.args in
-    kinds_hold a.log.now a.value.now a.w a.left _ _ c.first_row.ensures c.found-unknown.ensures c.if-unknown-ne0.false _
-    (apart_holds a.log.now a.value.now a.w a.left _ c.two_at_fault-overlap.ensures c.if-overlap-ne0.false _
-    (differ_fails a.log.now a.value.now a.w a.left _ c.two_at_fault-moment.ensures (search rules)))
+pub returns-in-Some-first_two : goal.returns-in-Some-first_two
+unfolding reason_of_no
+returns-in-Some-first_two c =
+    let a = c.args.calls.now in
+    let es = entries a.w a.log.now in
+    let v = c.args.value.now in
+    over _ (from_2 v es) _ (one_none Unknown (λ e. not (kind_known e)) es (c.in_default.ensures (λ h. not (known h)) (λ e b p. search rules)))
+    (here _ (from_3 v es) _ (two_found Overlap _ _ _ (c.in-Some-first_two.ensures (λ e f. not (apart e f)) (λ e f b p. search rules))))
 
-pub first_row-requires-2 : goal.first_row-requires-2
-first_row-requires-2 c = c.requires.0.fit
+pub returns-in-Some-first_two-2 : goal.returns-in-Some-first_two-2
+unfolding reason_of_no
+returns-in-Some-first_two-2 c =
+    let a = c.args.calls.now in
+    let es = entries a.w a.log.now in
+    let v = c.args.value.now in
+    over _ (from_2 v es) _ (one_none Unknown (λ e. not (kind_known e)) es (c.in_default.ensures (λ h. not (known h)) (λ e b p. search rules)))
+    (over _ (from_3 v es) _ (two_none Overlap _ (c.in_default-first_two.ensures (λ e f. not (apart e f)) (λ e f b p. search rules)))
+    (here _ (from_4 v es) _ (two_found Moment _ _ _ (c.in-Some-first_two-2.ensures (λ e f. not (not (eqb e.moment f.moment))) (λ e f b p. moment e f b (search rules))))))
 
-pub returns-then-outside-ne0 : goal.returns-then-outside-ne0
-returns-then-outside-ne0 c =
-    let a = c.args in
-    kinds_hold a.log.now a.value.now a.w a.left _ _ c.first_row.ensures c.found-unknown.ensures c.if-unknown-ne0.false _
-    (apart_holds a.log.now a.value.now a.w a.left _ c.two_at_fault-overlap.ensures c.if-overlap-ne0.false _
-    (differ_holds a.log.now a.value.now a.w a.left _ c.two_at_fault-moment.ensures c.if-moment-ne0.false _
-    (inside_fails a.log.now a.value.now a.w a.left _ _ c.first_row-2.ensures c.found-outside.ensures (search rules))))
+pub returns-in-Some-first : goal.returns-in-Some-first
+unfolding reason_of_no
+returns-in-Some-first c =
+    let a = c.args.calls.now in
+    let es = entries a.w a.log.now in
+    let v = c.args.value.now in
+    over _ (from_2 v es) _ (one_none Unknown (λ e. not (kind_known e)) es (c.in_default.ensures (λ h. not (known h)) (λ e b p. search rules)))
+    (over _ (from_3 v es) _ (two_none Overlap _ (c.in_default-first_two.ensures (λ e f. not (apart e f)) (λ e f b p. search rules)))
+    (over _ (from_4 v es) _ (two_none Moment _ (c.in_default-first_two-2.ensures (λ e f. not (not (eqb e.moment f.moment))) (λ e f b p. moment e f b (search rules))))
+    (here _ (from_5 v es) _ (one_found Outside (λ e. not (inside e)) es _ (c.in-Some-first.ensures (λ h. not (Heads·inside h)) (λ e b p. search rules))))))
 
-pub sorted-requires : goal.sorted-requires
-sorted-requires c = c.requires.0
+pub returns-in-Some-not_alike : goal.returns-in-Some-not_alike
+unfolding reason_of_no
+returns-in-Some-not_alike c =
+    let a = c.args.calls.now in
+    let es = entries a.w a.log.now in
+    let v = c.args.value.now in
+    over _ (from_2 v es) _ (one_none Unknown (λ e. not (kind_known e)) es (c.in_default.ensures (λ h. not (known h)) (λ e b p. search rules)))
+    (over _ (from_3 v es) _ (two_none Overlap _ (c.in_default-first_two.ensures (λ e f. not (apart e f)) (λ e f b p. search rules)))
+    (over _ (from_4 v es) _ (two_none Moment _ (c.in_default-first_two-2.ensures (λ e f. not (not (eqb e.moment f.moment))) (λ e f b p. moment e f b (search rules))))
+    (over _ (from_5 v es) _ (one_none Outside (λ e. not (inside e)) es (c.in_default-first.ensures (λ h. not (Heads·inside h)) (λ e b p. search rules)))
+    (here _ (from_6 v es) _ (c.in-Some-not_alike.ensures)))))
 
-pub not_alike-answer-requires : goal.not_alike-answer-requires
-not_alike-answer-requires c =
-    (c.requires.0.fit.narrow, (record { all = c.sorted.ensures.good }, (let z = c.sorted.ensures.count in let y = c.requires.0.few in omega (arith, z, y), c.requires.1)))
+pub returns-in-Some-first_unled : goal.returns-in-Some-first_unled
+unfolding reason_of_no
+returns-in-Some-first_unled c =
+    let a = c.args.calls.now in
+    let es = entries a.w a.log.now in
+    let v = c.args.value.now in
+    over _ (from_2 v es) _ (one_none Unknown (λ e. not (kind_known e)) es (c.in_default.ensures (λ h. not (known h)) (λ e b p. search rules)))
+    (over _ (from_3 v es) _ (two_none Overlap _ (c.in_default-first_two.ensures (λ e f. not (apart e f)) (λ e f b p. search rules)))
+    (over _ (from_4 v es) _ (two_none Moment _ (c.in_default-first_two-2.ensures (λ e f. not (not (eqb e.moment f.moment))) (λ e f b p. moment e f b (search rules))))
+    (over _ (from_5 v es) _ (one_none Outside (λ e. not (inside e)) es (c.in_default-first.ensures (λ h. not (Heads·inside h)) (λ e b p. search rules)))
+    (over _ (from_6 v es) _ c.in_default-not_alike.ensures
+    (here _ (from_7 v es) _ (one_found Unled (λ e. not (ll_before es e)) es _ c.in-Some-first_unled.ensures))))))
 
-pub returns-then-answer-ne0 : goal.returns-then-answer-ne0
-returns-then-answer-ne0 c =
-    let a = c.args in
-    kinds_hold a.log.now a.value.now a.w a.left _ _ c.first_row.ensures c.found-unknown.ensures c.if-unknown-ne0.false _
-    (apart_holds a.log.now a.value.now a.w a.left _ c.two_at_fault-overlap.ensures c.if-overlap-ne0.false _
-    (differ_holds a.log.now a.value.now a.w a.left _ c.two_at_fault-moment.ensures c.if-moment-ne0.false _
-    (inside_holds a.log.now a.value.now a.w a.left _ _ c.first_row-2.ensures c.found-outside.ensures c.if-outside-ne0.false _
-    (alike_fails a.log.now a.value.now a.w a.left _ c.sorted.ensures _ c.not_alike-answer.ensures (search rules)))))
-
-pub first_unled-requires : goal.first_unled-requires
-first_unled-requires c =
-    c.requires.0.fit
-
-pub returns : goal.returns
-returns c =
-    let a = c.args in
-    kinds_hold a.log.now a.value.now a.w a.left _ _ c.first_row.ensures c.found-unknown.ensures c.if-unknown-ne0.false _
-    (apart_holds a.log.now a.value.now a.w a.left _ c.two_at_fault-overlap.ensures c.if-overlap-ne0.false _
-    (differ_holds a.log.now a.value.now a.w a.left _ c.two_at_fault-moment.ensures c.if-moment-ne0.false _
-    (inside_holds a.log.now a.value.now a.w a.left _ _ c.first_row-2.ensures c.found-outside.ensures c.if-outside-ne0.false _
-    (alike_holds a.log.now a.value.now a.w a.left _ c.sorted.ensures _ c.not_alike-answer.ensures c.if-answer-ne0.false _
-    (led_last a.log.now a.value.now a.w a.left _ _ c.first_unled.ensures c.found.ensures)))))
+pub returns-in-None : goal.returns-in-None
+unfolding reason_of_no
+returns-in-None c =
+    let a = c.args.calls.now in
+    let es = entries a.w a.log.now in
+    let v = c.args.value.now in
+    over _ (from_2 v es) _ (one_none Unknown (λ e. not (kind_known e)) es (c.in_default.ensures (λ h. not (known h)) (λ e b p. search rules)))
+    (over _ (from_3 v es) _ (two_none Overlap _ (c.in_default-first_two.ensures (λ e f. not (apart e f)) (λ e f b p. search rules)))
+    (over _ (from_4 v es) _ (two_none Moment _ (c.in_default-first_two-2.ensures (λ e f. not (not (eqb e.moment f.moment))) (λ e f b p. moment e f b (search rules))))
+    (over _ (from_5 v es) _ (one_none Outside (λ e. not (inside e)) es (c.in_default-first.ensures (λ h. not (Heads·inside h)) (λ e b p. search rules)))
+    (over _ (from_6 v es) _ c.in_default-not_alike.ensures
+    (over _ (from_7 v es) _ (one_none Unled (λ e. not (ll_before es e)) es c.in-None.ensures)
+    refl)))))

@@ -1,45 +1,50 @@
 -- `reasons::refused::refused_at` meets its contract: 4, 8 and 17 are about a call.
+use mathlib.Core.Path.{sym, ap, ◌∙◌}
 use native.Mathlib.Omega.{arith}
-use Rattle.judging.proofs.RefusalLaws.{fit_whole}
-use Rattle.reasons.proofs.RefusedLaws.{narrow, at_4, at_8, at_17, at_none}
+use lib.Dec.{leb}
+use Rattle.llsc.specs.Refusals.{number_told}
+use Rattle.verdicts.proofs.VerdictLaws.{verdict_says}
+use Rattle.judging.specs.declared.heads.Head.{Head}
+use Rattle.judging.proofs.CallLoops.{entries_length, es}
+use Rattle.reasons.proofs.RefusedLaws.{narrow, at_4, at_17, index_told}
 use borrow.Author.Rules.{rules}
 use Rattle.reasons.proofs.refused.refused_at.Goals as goal
 
-pub returns-then-number-le-W_OUT_OF_RANGE : goal.returns-then-number-le-W_OUT_OF_RANGE
-returns-then-number-le-W_OUT_OF_RANGE c =
-    let a = c.args in
-    at_none a.n a.w a.value.now a.log.now a.number c.requires (λ z. omega arith) (λ z. omega arith) (λ z. omega arith) _ c.no_reason.ensures
-
 pub cut_off-requires : goal.cut_off-requires
-cut_off-requires c = let a = c.args in narrow a.n a.w a.value.now a.log.now a.number c.requires (search rules)
-
-pub returns-then-number-eq-VALUE_NOT_W_WORDS : goal.returns-then-number-eq-VALUE_NOT_W_WORDS
-returns-then-number-eq-VALUE_NOT_W_WORDS c = let a = c.args in at_8 a.n a.w a.value.now a.log.now a.number c.requires (search rules) _ c.cut_off.ensures
-
-pub overflow_add-left : goal.overflow_add-left
-overflow_add-left c = let a = c.args in let z = narrow a.n a.w a.value.now a.log.now a.number c.requires (search rules) in omega arith
-
-pub first_row-requires : goal.first_row-requires
-first_row-requires c =
+cut_off-requires c =
     let a = c.args in
-    fit_whole a.w a.log.now (narrow a.n a.w a.value.now a.log.now a.number c.requires (search rules))
+    narrow a.n a.w a.value.now a.log.now _ (ap number_told c.requires ∙ (verdict_says a.n a.w a.value.now a.log.now).checked)
+    (let x = c.number-number.ensures in let y = c.number.ensures in let z = c.if-number.false in omega (arith, x, y, z))
 
-pub returns-then-number-eq-NO_SUCH_PROCESS : goal.returns-then-number-eq-NO_SUCH_PROCESS
-returns-then-number-eq-NO_SUCH_PROCESS c =
+pub invariant_of-calls : goal.invariant_of-calls
+invariant_of-calls c =
     let a = c.args in
-    at_4 a.n a.w a.value.now a.log.now a.number c.requires (search rules) _ c.first_row.ensures _ c.at_call.ensures
+    record {
+      narrow = narrow a.n a.w a.value.now a.log.now _ (ap number_told c.requires ∙ (verdict_says a.n a.w a.value.now a.log.now).checked)
+          (let x = c.number-number.ensures in let y = c.number.ensures in let z = c.if-number.false in omega (arith, x, y, z));
+    }
 
-pub first_row-requires-then-number-eq-ANSWER_NOT_AFTER_START : goal.first_row-requires-then-number-eq-ANSWER_NOT_AFTER_START
-first_row-requires-then-number-eq-ANSWER_NOT_AFTER_START c =
+pub returns-then-number-3 : goal.returns-then-number-3
+returns-then-number-3 c =
     let a = c.args in
-    fit_whole a.w a.log.now (narrow a.n a.w a.value.now a.log.now a.number c.requires (search rules))
+    at_4 a.n a.w a.value.now a.log.now _ (ap number_told c.requires ∙ (verdict_says a.n a.w a.value.now a.log.now).checked)
+    (let x = c.number-number.ensures in let y = c.number-3.ensures in let z = c.if-number-3.true in omega (arith, x, y, z)) _
+    (c.unwrap_or.ensures
+    ∙ index_told _ (es a.w a.log.now) _ _ (c.first.ensures (λ (e : Head). leb a.n e.process) (λ e b p. search rules)) (c.len.ensures ∙ sym (entries_length a.w a.log.now)))
 
-pub returns-then-number-eq-ANSWER_NOT_AFTER_START : goal.returns-then-number-eq-ANSWER_NOT_AFTER_START
-returns-then-number-eq-ANSWER_NOT_AFTER_START c =
+pub invariant_of-calls-then-number-4 : goal.invariant_of-calls-then-number-4
+invariant_of-calls-then-number-4 c =
     let a = c.args in
-    at_17 a.n a.w a.value.now a.log.now a.number c.requires (search rules) _ c.first_row-then-number-eq-ANSWER_NOT_AFTER_START.ensures _ c.at_call-then-number-eq-ANSWER_NOT_AFTER_START.ensures
+    record {
+      narrow = narrow a.n a.w a.value.now a.log.now _ (ap number_told c.requires ∙ (verdict_says a.n a.w a.value.now a.log.now).checked)
+          (let x = c.number-number.ensures in let y = c.number.ensures in let z = c.if-number.false in omega (arith, x, y, z));
+    }
 
-pub returns : goal.returns
-returns c =
+pub returns-then-number-4 : goal.returns-then-number-4
+returns-then-number-4 c =
     let a = c.args in
-    at_none a.n a.w a.value.now a.log.now a.number c.requires (search rules) (search rules) (search rules) _ c.no_reason-2.ensures
+    at_17 a.n a.w a.value.now a.log.now _ (ap number_told c.requires ∙ (verdict_says a.n a.w a.value.now a.log.now).checked)
+    (let x = c.number-number.ensures in let y = c.number-4.ensures in let z = c.if-number-4.true in omega (arith, x, y, z)) _
+    (c.unwrap_or-then-number-4.ensures
+    ∙ index_told _ (es a.w a.log.now) _ _ (c.first-then-number-4.ensures (λ (e : Head). leb e.answer e.start) (λ e b p. search rules))
+    (c.len-then-number-4.ensures ∙ sym (entries_length a.w a.log.now)))

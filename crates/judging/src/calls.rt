@@ -1,0 +1,83 @@
+// The calls of a log, looked through: one loop for every test of a call, and one for each two calls.
+ghost use Rattle.std.specs.Prelude.{◌≡◌, Bool, ◌≤◌, ◌<◌, ◌/◌, length, drop};
+ghost use Rattle.verdicts.specs.Log.{width, entries};
+ghost use Rattle.verdicts.specs.Reasons.{two_at_fault};
+ghost use Rattle.judging.specs.declared.heads.Head.{Head};
+ghost use Rattle.judging.specs.Heads.{head, entry_at, first_from, lacks_ll, first_unled, Decides, DecidesTwo};
+
+use crate::heads;
+use crate::heads::Head;
+
+// The calls of a log, one after the other: rows of 6 + W numbers. What is left over at its end is no call.
+#[derive(Clone, Copy)]
+pub struct Calls<'a> {
+    pub log: &'a [u64],
+    pub w: usize,
+    pub ghost narrow: { w ≤ 64 },
+}
+
+impl<'a> Calls<'a> {
+    pub fn len(&self) -> usize
+        ensures { result ≡ length self.now.log.now / width self.now.w }
+    {
+        self.log.len() / (6 + self.w)
+    }
+
+    // The call of an index, without its words.
+    pub fn head(&self, k: usize) -> Head
+        requires { k < length self.now.log.now / width self.now.w }
+        ensures { result ≡ head (entry_at self.now.w self.now.log.now k) }
+    {
+        heads::head_of(&self.log[k * (6 + self.w)..])
+    }
+
+    pub fn words(&self, k: usize) -> &'a [u64]
+        requires { k < length self.now.log.now / width self.now.w }
+        ensures { result.now ≡ (entry_at self.now.w self.now.log.now k).words }
+    {
+        let at = k * (6 + self.w) + 6;
+        &self.log[at..at + self.w]
+    }
+
+    // The first call that passes a test, of those from an index on.
+    pub fn first<F: Fn(Head) -> bool>(&self, from: usize, passes: F) -> Option<usize>
+        requires { F.IsAlwaysCallable passes }
+        ensures { (f : Head → Bool) → Decides (F.post passes) f
+            → result ≡ first_from (λ e. f (head e)) from (drop from (entries self.now.w self.now.log.now)) }
+    {
+        for k in from..self.len() {
+            if passes(self.head(k)) {
+                return Some(k);
+            }
+        }
+        None
+    }
+
+    // The first call that can't stand beside a later one, and the first of those.
+    pub fn first_two<F: Fn(Head, Head) -> bool>(&self, clash: F) -> Option<(usize, usize)>
+        requires { F.IsAlwaysCallable clash }
+        ensures { (r : Head → Head → Bool) → DecidesTwo (F.post clash) r
+            → result ≡ two_at_fault (λ e f. r (head e) (head f)) 0 (entries self.now.w self.now.log.now) }
+    {
+        for k in 0..self.len() {
+            let e = self.head(k);
+            if let Some(other) = self.first(k + 1, |f| clash(e, f)) {
+                return Some((k, other));
+            }
+        }
+        None
+    }
+
+    // Whether a call is an SC or VL with no LL of its process before it.
+    fn lacks_ll(&self, e: Head) -> bool
+        ensures { result ≡ lacks_ll (entries self.now.w self.now.log.now) e }
+    {
+        e.kind != heads::LL && self.first(0, |f| e.led_by(f)).is_none()
+    }
+
+    pub fn first_unled(&self) -> Option<usize>
+        ensures { result ≡ first_unled (entries self.now.w self.now.log.now) }
+    {
+        self.first(0, |e| self.lacks_ll(e))
+    }
+}
