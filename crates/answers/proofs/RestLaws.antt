@@ -9,7 +9,8 @@ use Rattle.listing.specs.Lines.{space, line_feed, letter_l, letter_s, letter_v}
 use Rattle.answers.specs.declared.Sum.{Sum}
 use Rattle.answers.specs.Shape.{largest}
 use Rattle.answers.specs.Gains.{no_sum, ll_gain, sc_gain, tally}
-use Rattle.answers.specs.Readers.{first, is_digit, Got, is_number, digits_after, number_in, spaced_number, Passed, expected, words_in, fed, ll_tail, truth_tail, Told, told, by_letter, answer_in, finished, end_in, refused_in, last_in, Read, lines_in, listing_in}
+use Rattle.answers.specs.Readers.{first, is_digit, Got, is_number, digits_after, number_in, spaced_number, Passed, expected, words_in, fed, ll_tail}
+use Rattle.answers.specs.Readers.{truth_tail, Told, told, by_letter, answer_in, finished, end_in, refused_in, last_in, Read, lines_in, listing_in}
 use Rattle.answers.proofs.ChoiceLaws.{either}
 
 abbrev Number : List ℕ → Got → Type 0

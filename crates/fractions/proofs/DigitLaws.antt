@@ -2,13 +2,15 @@
 use mathlib.Core.Path.{◌≡◌, sym, ap, ◌∙◌}
 use Prim.Native.Nat.{ℕ, suc, ◌+◌, ◌≤◌, ◌<◌}
 use mathlib.Core.List.{List}
-use mathlib.Core.Bool.{Bool, cond}
+use mathlib.Core.Bool.{Bool, true, false, cond}
 use native.Mathlib.Numerals.{add-one}
 use lib.Dec.{ltb}
 use lib.ListN.{length, get_or, drop, drop_of_length-le}
 use lib.Seq.{drop-cons}
 use borrow.Author.Tests.{lt-ltb, le-ltb}
-use Rattle.fractions.specs.Arguments.{number_missing, with_digit, number_from, number_told}
+use Rattle.std.specs.Prelude.{Option, Some, None}
+use Rattle.std.specs.Char.{is_ascii_digit}
+use Rattle.fractions.specs.Arguments.{with_digit, number_from, number_told}
 
 -- the digits left make the same number
 pub record DigitInv (text : List ℕ) (v i : ℕ) : Type 0 where
@@ -20,44 +22,37 @@ module _ (text : List ℕ) (v i : ℕ) (inv : DigitInv text v i) where
     abbrev b : ℕ
     b = get_or text i 0
 
-    abbrev go : ℕ
+    abbrev go : Option ℕ
     go = number_from (with_digit v b) (drop (suc i) text)
 
-    abbrev third : Bool → ℕ
-    third t = cond t number_missing go
+    abbrev second : Bool → Option ℕ
+    second t = cond t None go
 
-    abbrev second : Bool → ℕ
-    second t = cond t number_missing (third (ltb 4294967295 (with_digit v b)))
+    abbrev first : Bool → Option ℕ
+    first t = cond t (second (ltb 4294967295 (with_digit v b))) None
 
-    abbrev first : Bool → ℕ
-    first t = cond t number_missing (second (ltb 57 b))
-
-    one : number_told text ≡ first (ltb b 48)
+    one : number_told text ≡ first (is_ascii_digit b)
     unfolding number_from
     one = sym inv.same ∙ ap (number_from v) (drop-cons text i 0 h)
 
-    pub below_0 : b < 48 → number_missing ≡ number_told text
-    below_0 e = sym (one ∙ ap first (lt-ltb b 48 e))
+    pub no_digit : is_ascii_digit b ≡ false → None ≡ number_told text
+    no_digit e = sym (one ∙ ap first e)
 
-    module _ (low : 48 ≤ b) where
-      pub above_9 : 57 < b → number_missing ≡ number_told text
-      above_9 e = sym (one ∙ ap first (le-ltb b 48 low) ∙ ap second (lt-ltb 57 b e))
+    module _ (digit : is_ascii_digit b ≡ true) where
+      two : number_told text ≡ second (ltb 4294967295 (with_digit v b))
+      two = one ∙ ap first digit
 
-      module _ (high : b ≤ 57) where
-        digit : number_told text ≡ third (ltb 4294967295 (with_digit v b))
-        digit = one ∙ ap first (le-ltb b 48 low) ∙ ap second (le-ltb 57 b high)
+      pub too_large : 4294967295 < with_digit v b → None ≡ number_told text
+      too_large e = sym (two ∙ ap second (lt-ltb 4294967295 (with_digit v b) e))
 
-        pub too_large : 4294967295 < with_digit v b → number_missing ≡ number_told text
-        too_large e = sym (digit ∙ ap third (lt-ltb 4294967295 (with_digit v b) e))
+      pub goes_on : with_digit v b ≤ 4294967295 → DigitInv text (with_digit v b) (i + 1)
+      goes_on e = record {
+        small = e;
+        same =
+            ap (λ j. number_from (with_digit v b) (drop j text)) (add-one i)
+            ∙ sym (two ∙ ap second (le-ltb 4294967295 (with_digit v b) e));
+      }
 
-        pub goes_on : with_digit v b ≤ 4294967295 → DigitInv text (with_digit v b) (i + 1)
-        goes_on e = record {
-          small = e;
-          same =
-              ap (λ j. number_from (with_digit v b) (drop j text)) (add-one i)
-              ∙ sym (digit ∙ ap third (le-ltb 4294967295 (with_digit v b) e));
-        }
-
-  pub all_read : length text ≤ i → v ≡ number_told text
+  pub all_read : length text ≤ i → Some v ≡ number_told text
   unfolding number_from
   all_read h = sym (ap (number_from v) (drop_of_length-le text {i = i} h)) ∙ inv.same

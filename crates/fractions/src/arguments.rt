@@ -1,14 +1,11 @@
 // Numbers among the arguments.
-ghost use Rattle.std.specs.Prelude.{◌≡◌, ◌≤◌};
+ghost use Rattle.std.specs.Prelude.{◌≡◌};
 ghost use Rattle.fractions.specs.Arguments.{number_told};
 
 use std::env::{Env, FillError};
 
-// The largest number that is taken; any other argument is worth more.
-pub(crate) const LARGEST: u64 = 4294967295;
-
-// What an argument is worth that is no such number.
-const NONE: u64 = 4294967296;
+// The largest number that is taken.
+const LARGEST: u64 = 4294967295;
 
 // How many arguments the program was started with, its own name among them.
 pub(crate) fn count(rt: &impl Env) -> usize {
@@ -22,35 +19,28 @@ pub(crate) fn count(rt: &impl Env) -> usize {
 }
 
 // Argument i as a number: what its digits are worth, where the operating system has it.
-pub(crate) fn number_argument(rt: &impl Env, i: usize) -> u64 {
+pub(crate) fn number_argument(rt: &impl Env, i: usize) -> Option<u64> {
     let mut text = [0u8; 20];
     match rt.arg(i, &mut text) {
-        Ok(0) => NONE,
-        Ok(got) => digits(&text[..got]),
-        Err(_) => NONE,
+        Ok(got) if 0 < got => digits(&text[..got]),
+        _ => None,
     }
 }
 
 // The number that the digits make.
-fn digits(text: &[u8]) -> u64
-    ensures upper_bound { result ≤ 4294967296 }
-    ensures value { result ≡ number_told text.now }
+// Kept: the digits read one by one, since `parse` would take a sign too.
+fn digits(text: &[u8]) -> Option<u64>
+    ensures { result ≡ number_told text.now }
 {
     let mut value: u64 = 0;
-    let mut i = 0;
-    while i < text.len() {
-        let b = text[i];
-        if b < b'0' {
-            return NONE;
+    for b in text {
+        if !b.is_ascii_digit() {
+            return None;
         }
-        if b'9' < b {
-            return NONE;
-        }
-        value = value * 10 + (b - b'0') as u64;
+        value = value * 10 + u64::from(*b - b'0');
         if LARGEST < value {
-            return NONE;
+            return None;
         }
-        i += 1;
     }
-    value
+    Some(value)
 }

@@ -68,10 +68,11 @@ fn add_open<R: Alloc>(
 fn add_text(errors: &mut impl Write, sums: sums::Sums, name: &[u8], text: &[u8]) -> sums::Sums
     ensures { result ≡ (added sums text.now).sums }
 {
-    let out = sums::add_listing(sums, text);
-    let after = out.sums;
-    if out.number != 0 {
-        let _ = notices::file_refused(errors, name, out.number, text, out.at);
+    match sums::add_listing(sums, text) {
+        Ok(after) => after,
+        Err(why) => {
+            let _ = notices::file_refused(errors, name, why, text);
+            sums
+        }
     }
-    after
 }

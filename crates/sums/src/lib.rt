@@ -16,7 +16,7 @@ use llsc::refusals::Refusal;
 
 // The sums of the listings taken so far, of n processes and w words. Those of processes not below n are never looked
 // at.
-#[derive(Clone, Copy)]
+#[derive(Clone, Copy, PartialEq, Eq)]
 pub struct Sums {
     pub n: u64,
     pub w: u64,

@@ -1,37 +1,26 @@
--- `fractions::arguments::digits`: the number that the digits make, or none.
-use mathlib.Core.Path.{refl}
-use native.Mathlib.Omega.{arith}
-use Rattle.fractions.proofs.DigitLaws.{below_0, above_9, too_large, goes_on, all_read}
+-- The number that the digits make, or none.
+use Rattle.std.proofs.Common.{arith, ◌+◌, ◌*◌, ℕ, sym, subst}
+use Rattle.fractions.proofs.DigitLaws.{DigitInv, no_digit, too_large, goes_on, all_read}
 use Rattle.fractions.proofs.arguments.digits.Goals as goal
 
-pub loop-i-init : goal.loop-i-init
-loop-i-init c = record { small = omega arith; same = refl }
+pub returns-then-not-is_ascii_digit : goal.returns-then-not-is_ascii_digit
+returns-then-not-is_ascii_digit c =
+    let l = c.loop-b in
+    no_digit c.args.text.now l.value l.b-index l.invariant c.loop-b-test.true (sym c.if-not-is_ascii_digit.ensures.value)
 
-pub returns-then-b-lt48-clause-value : goal.returns-then-b-lt48-clause-value
-returns-then-b-lt48-clause-value c = below_0 _ _ _ c.loop-i.invariant c.loop-i-test.true c.if-b-lt48.true
+pub returns-then-value-gt-LARGEST : goal.returns-then-value-gt-LARGEST
+returns-then-value-gt-LARGEST c =
+    let l = c.loop-b in
+    too_large c.args.text.now l.value l.b-index l.invariant c.loop-b-test.true
+    (sym c.if-not-is_ascii_digit.ensures.value) (omega (arith, c.if-value-gt-LARGEST.true, c.from.ensures))
 
-pub returns-then-b-gt57-clause-value : goal.returns-then-b-gt57-clause-value
-returns-then-b-gt57-clause-value c =
-    above_9 _ _ _ c.loop-i.invariant c.loop-i-test.true c.if-b-lt48.false c.if-b-gt57.true
-
-pub overflow_mul-value : goal.overflow_mul-value
-overflow_mul-value c = let z = c.loop-i.invariant.small in omega (arith, z)
-
-pub overflow_add-value : goal.overflow_add-value
-overflow_add-value c = let z = c.loop-i.invariant.small in omega (arith, z)
-
-pub returns-then-value-gt-LARGEST-clause-value : goal.returns-then-value-gt-LARGEST-clause-value
-returns-then-value-gt-LARGEST-clause-value c =
-    too_large _ _ _ c.loop-i.invariant c.loop-i-test.true c.if-b-lt48.false c.if-b-gt57.false c.if-value-gt-LARGEST.true
-
-pub loop-i-preserved : goal.loop-i-preserved
-loop-i-preserved c =
-    goes_on _ _ _ c.loop-i.invariant c.loop-i-test.true c.if-b-lt48.false c.if-b-gt57.false c.if-value-gt-LARGEST.false
+pub loop-b-preserved : goal.loop-b-preserved
+loop-b-preserved c =
+    let l = c.loop-b in
+    let text = c.args.text.now in
+    let on = goes_on text l.value l.b-index l.invariant c.loop-b-test.true
+    (sym c.if-not-is_ascii_digit.ensures.value) (omega (arith, c.if-value-gt-LARGEST.false, c.from.ensures)) in
+    subst (λ (d : ℕ). DigitInv text (l.value * 10 + d) (l.b-index + 1)) (sym c.from.ensures) on
 
 pub returns : goal.returns
-returns c =
-    let z = c.loop-i.invariant.small in
-    record {
-      upper_bound = omega (arith, z);
-      value = all_read _ _ _ c.loop-i.invariant (omega (arith, c.loop-i-test.false));
-    }
+returns c = let l = c.loop-b in all_read c.args.text.now l.value l.b-index l.invariant (omega arith)

@@ -1,11 +1,6 @@
--- `fractions::arguments::digits`: the number that the digits make, or none.
-use Prim.Native.Nat.{◌-◌}
-use lib.ListN.{length}
+-- The number that the digits make, or none.
 use Rattle.fractions.proofs.DigitLaws.{DigitInv}
 use Rattle.fractions.proofs.arguments.digits.Given as goal
 
-abbrev pub invariant-loop-i : goal.invariant-loop-i
-invariant-loop-i l = DigitInv l.text l.value l.i
-
-abbrev pub decreases-loop-i : goal.decreases-loop-i
-decreases-loop-i l = length l.text - l.i
+abbrev pub invariant-loop-b : goal.invariant-loop-b
+invariant-loop-b l = DigitInv l.text l.value l.b-index
