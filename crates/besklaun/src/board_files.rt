@@ -11,7 +11,7 @@ use boards::Merged;
 pub fn besklaun_merge(first: &[u8], second: &[u8], out: &mut [u8]) -> Merged
     ensures { (result, out.new) ≡ merge_files first.now second.now out.old }
 {
-    boards::merge(first, second, out)
+    Merged::from(boards::merge(first, second, out))
 }
 
 // What a run of a file returns: its number, 0 at `end`, the commands done and the bytes written.

@@ -8,6 +8,7 @@ use crate::commands::decide_at;
 use board_rows::file_refusal;
 use boards::Left;
 use boards::trailers::{RECORD_SIZE, records_of};
+use llsc::refusals::number_of;
 use station::{Station, StationProcess};
 
 // A run that ends here. Nothing is stored back where nothing was done.
@@ -62,7 +63,7 @@ pub fn run_by_value(
     ensures { (result, words.new)
         ≡ file_run file.now station all len words.old }
 {
-    let number = file_refusal(file);
+    let number = number_of(file_refusal(file));
     if number != 0 {
         return left_with(station, all, number, 0);
     }

@@ -10,7 +10,9 @@ use Rattle.boards.proofs.processes.marked.Goals as goal
 
 pub loop-i-preserved : goal.loop-i-preserved
 loop-i-preserved c =
-    at_next (λ left at. Marking c.args.s.now (replicate 256 false) c.args.from.count c.args.from.at (set c.loop-i.table (byte_at c.args.s.now (c.args.from.at + 12 * c.loop-i.i + 8)) true) left at) _ _ c.loop-i.i
+    let bs = c.args.s.now in let from = c.args.from in
+    let one_more = set c.loop-i.table (byte_at bs (from.at + 12 * c.loop-i.i + 8)) true in
+    at_next (λ left at. Marking bs (replicate 256 false) from.count from.at one_more left at) _ _ c.loop-i.i
     (mark_next c.loop-i.invariant (omega (arith, c.loop-i-test.true)))
 
 pub returns : goal.returns
