@@ -12,15 +12,17 @@ fn main(rt: HostRuntime) -> ExitCode {
     let mut list = console::large_buffer();
     let out = moir_run::texts::run_text(given, false, &mut list);
     let mut errors = rt.stderr();
-    let told = messages::output(&mut rt.stdout(), &mut errors, list.get(..out.written)).and_then(|()| {
-        moir_messages::explain(
-            &mut errors,
-            out.number,
-            out.entries,
-            out.report,
-            out.all,
-            given,
-        )
-    });
+    let told = messages::output(&mut rt.stdout(), &mut errors, list.get(..out.written)).and_then(
+        |()| {
+            moir_messages::explain(
+                &mut errors,
+                out.number,
+                out.entries,
+                out.report,
+                out.all,
+                given,
+            )
+        },
+    );
     console::status(told)
 }

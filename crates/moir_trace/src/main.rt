@@ -14,15 +14,17 @@ fn main(rt: HostRuntime) -> Result<ExitCode, AllocError> {
     let mut list = vec![in rt.alloc(); 0; 3145728]?;
     let out = moir_run::texts::run_text(given, true, &mut list);
     let mut errors = rt.stderr();
-    let told = messages::output(&mut rt.stdout(), &mut errors, list.get(..out.written)).and_then(|()| {
-        moir_messages::explain(
-            &mut errors,
-            out.number,
-            out.entries,
-            out.report,
-            out.all,
-            given,
-        )
-    });
+    let told = messages::output(&mut rt.stdout(), &mut errors, list.get(..out.written)).and_then(
+        |()| {
+            moir_messages::explain(
+                &mut errors,
+                out.number,
+                out.entries,
+                out.report,
+                out.all,
+                given,
+            )
+        },
+    );
     Ok(console::status(told))
 }

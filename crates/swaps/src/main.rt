@@ -22,15 +22,17 @@ fn main(rt: HostRuntime) -> Result<ExitCode, AllocError> {
     let trace = &list[..out.written.min(list.len())];
     let count = marking::output::mark_lines(trace, &mut marked);
     let mut errors = rt.stderr();
-    let told = messages::output(&mut rt.stdout(), &mut errors, marked.get(..count)).and_then(|()| {
-        messages::figure2::explain(
-            &mut errors,
-            out.number,
-            out.entries,
-            out.report,
-            out.all,
-            given,
-        )
-    });
+    let told = messages::output(&mut rt.stdout(), &mut errors, marked.get(..count)).and_then(
+        |()| {
+            messages::figure2::explain(
+                &mut errors,
+                out.number,
+                out.entries,
+                out.report,
+                out.all,
+                given,
+            )
+        },
+    );
     Ok(console::status(told))
 }

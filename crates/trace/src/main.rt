@@ -17,15 +17,17 @@ fn main(rt: HostRuntime) -> Result<ExitCode, AllocError> {
     let all = tables::records::records_of(tables::records::no_process());
     let out = run::text_run::trace_by_value(bench, all, 16, &mut words, given, &mut list);
     let mut errors = rt.stderr();
-    let told = messages::output(&mut rt.stdout(), &mut errors, list.get(..out.written)).and_then(|()| {
-        messages::figure2::explain(
-            &mut errors,
-            out.number,
-            out.entries,
-            out.report,
-            out.all,
-            given,
-        )
-    });
+    let told = messages::output(&mut rt.stdout(), &mut errors, list.get(..out.written)).and_then(
+        |()| {
+            messages::figure2::explain(
+                &mut errors,
+                out.number,
+                out.entries,
+                out.report,
+                out.all,
+                given,
+            )
+        },
+    );
     Ok(console::status(told))
 }
