@@ -19,7 +19,7 @@ pub returns-then-number-ne0 : goal.returns-then-number-ne0
 returns-then-number-ne0 c =
     let a = c.args in
     stop_turn a.e a.run a.words.now a.list.now c.stopped-then-number-ne0.ensures (turn_refused_is a.e c.requires.0 c.requires.1 c.requires.2 c.if-run-ge-MOST_ENTRIES.false (omega (arith, c.if-list-run.false, c.room_needed.ensures))
-    (number_as a.e c.requires.0 (c.number_of-number.ensures ∙ c.refusal.ensures) c.process_of-p.ensures c.order_of-order.ensures c.words_of-count.ensures) c.if-number-ne0.true)
+    (number_as a.e c.requires.0 (c.number_of-number.ensures ∙ c.refusal-refusal.ensures) c.process_of-p.ensures c.order_of-order.ensures c.words_of-count.ensures) c.if-number-ne0.true)
 
 pub accepted-requires : goal.accepted-requires
 accepted-requires c =
@@ -28,7 +28,7 @@ accepted-requires c =
       arith,
       c.if-list-run.false,
       c.room_needed.ensures,
-    )) (sym (number_as a.e c.requires.0 (c.number_of-number.ensures ∙ c.refusal.ensures) c.process_of-p.ensures c.order_of-order.ensures c.words_of-count.ensures) ∙ c.if-number-ne0.false)
+    )) (sym (number_as a.e c.requires.0 (c.number_of-number.ensures ∙ c.refusal-refusal.ensures) c.process_of-p.ensures c.order_of-order.ensures c.words_of-count.ensures) ∙ c.if-number-ne0.false)
 
 pub returns : goal.returns
 returns c =
