@@ -1,21 +1,19 @@
 -- The set-up: one place more, and what it means that no row holds.
 use mathlib.Core.Path.{◌≡◌, refl, sym, ap, ◌∙◌}
 use mathlib.Core.List.{List, [], ◌∷◌, ◌++◌, map}
-use mathlib.Core.Bool.{false, cond}
+use mathlib.Core.Bool.{cond}
 use Prim.Native.Nat.{ℕ, zero, suc, ◌+◌, ◌-◌, ◌*◌, ◌≤◌}
 use native.Mathlib.Nat.{add-zero, zero-add, add-suc, suc-add, mul-le-mul_right, one-mul}
 use native.Mathlib.Numerals.{add-one}
 use native.Mathlib.Omega.{arith}
-use lib.Dec.{eqb, ltb}
+use lib.Dec.{eqb}
 use lib.ListN.{length, set, replicate}
 use lib.Seq.{sets}
-use borrow.Author.Tests.{eq-eqb, ne_eqb, eqb-true, ltb-false, not-false}
+use borrow.Author.Tests.{eqb-true, not-false}
 use Rattle.model.specs.Places.{BankPlace, HelpPlace}
 use Rattle.model.specs.declared.Bench.{Bench}
-use Rattle.model.specs.declared.Process.{Process}
 use Rattle.model.specs.Tables.{put_bank, put_help}
-use Rattle.model.specs.Machine.{Memory}
-use Rattle.model.specs.SetUp.{numbers, bank_at_set_up, help_at_set_up, bench_at_set_up, words_at_set_up, set_up, set_up_refusal}
+use Rattle.model.specs.SetUp.{numbers, bank_at_set_up, help_at_set_up, words_at_set_up}
 use Rattle.llsc.specs.Rows.{row8always}
 use Rattle.setup.specs.SetUpByValue.{set_up_number, banks_set, helps_set, Accepted}
 use Rattle.laws.proofs.ListLaws.{sets_append, sets_replicate}

@@ -9,7 +9,6 @@ use Rattle.model.specs.Refusals.{is_idle}
 use Rattle.model.specs.Points.{line_number, idle}
 use Rattle.station.specs.declared.RecordNumber.{RecordNumber}
 use Rattle.station.specs.declared.Tables.{Tables}
-use Rattle.station.specs.declared.Holding.{Holding}
 use Rattle.station.specs.declared.StationProcess.{StationProcess}
 use Rattle.station.specs.Station.{StationMemory, tables_at, holding_at, process_at}
 

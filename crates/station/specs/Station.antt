@@ -1,10 +1,8 @@
 -- The memory of a station: "A station will share 1 to 8 records among its N processes." Its tables, its process records
 -- and where its words lie.
-use Rattle.std.specs.Prelude.{ℕ, ◌+◌, ◌*◌, List, [], Bool, false, get_or, take, drop}
+use Rattle.std.specs.Prelude.{ℕ, ◌+◌, ◌*◌, List, [], false, get_or, take, drop}
 use Rattle.model.specs.declared.BufferNumber.{BufferNumber}
 use Rattle.llsc.specs.declared.ProcessNumber.{ProcessNumber}
-use Rattle.model.specs.declared.XContent.{XContent}
-use Rattle.model.specs.Places.{XPlace, BankPlace, HelpPlace}
 use Rattle.model.specs.Sizes.{buffers}
 use Rattle.model.specs.Words.{Layout, buffer_in, return_in, offer_in}
 use Rattle.model.specs.Points.{line_number, idle}

@@ -1,6 +1,5 @@
 -- A list of commands to a station, and what one record sees of it: "Counts, order .. are then read record by record".
 use Rattle.std.specs.Prelude.{ℕ, List, [], ◌∷◌, Bool, ◌&&◌, cond, eqb}
-use Rattle.llsc.specs.declared.ProcessNumber.{ProcessNumber}
 use Rattle.llsc.specs.declared.Order.TheVariants.{Step}
 use Rattle.model.specs.declared.Reply.{Reply}
 use Rattle.model.specs.declared.Reply.TheVariants.{Refused, Accepted, LlAnswered, ScAnswered, VlAnswered}

@@ -2,13 +2,11 @@
 -- that of `llsc/specs/Rows`.
 use Rattle.std.specs.Prelude.{◌≡◌, ℕ, ◌<◌, List, [], ◌∷◌, Bool, not, ◌&&◌, ◌||◌, cond, eqb, ltb, leb, length, take, get_or}
 use Rattle.llsc.specs.declared.Order.{Order}
-use Rattle.model.specs.declared.Process.{Process}
 use Rattle.llsc.specs.Rows.{Row, between, every, row3, row5, row6, row7, is_start}
 use Rattle.llsc.specs.Rows.{lent_rows_with, process_rows_with, command_rows_with, set_up_rows_with}
 use Rattle.model.specs.Refusals.{bench_ok, process_ok}
 use Rattle.model.specs.SetUp.{numbers}
 use Rattle.station.specs.declared.RecordNumber.{RecordNumber}
-use Rattle.station.specs.declared.Tables.{Tables}
 use Rattle.station.specs.declared.Holding.{Holding}
 use Rattle.station.specs.declared.StationProcess.{StationProcess}
 use Rattle.station.specs.Station.{StationMemory, station_words, no_tables, process_at, holding_at}

@@ -2,17 +2,16 @@
 -- `station`'s command says.
 use mathlib.Core.Path.{◌≡◌, refl, sym, ap, ◌∙◌}
 use mathlib.Core.List.{List, []}
-use mathlib.Core.Bool.{Bool, true, false, cond, not, ◌&&◌}
+use mathlib.Core.Bool.{Bool, cond, not, ◌&&◌}
 use Prim.Native.Nat.{ℕ, zero, suc, ◌≤◌, ◌<◌}
 use native.Mathlib.Omega.{arith}
-use lib.ListN.{length, get_or, set, take}
+use lib.ListN.{length, get_or, set}
 use lib.Seq.{set_out}
 use borrow.Author.Tests.{eq-eqb, ne_eqb, leb-false}
 use Rattle.llsc.specs.declared.Order.{Order}
 use Rattle.llsc.specs.Rows.{every, row4, row8}
 use Rattle.model.specs.Refusals.{bench_ok}
 use Rattle.model.specs.SetUp.{numbers}
-use Rattle.station.specs.declared.RecordNumber.{RecordNumber}
 use Rattle.station.specs.declared.Station.{Station}
 use Rattle.station.specs.declared.StationProcess.{StationProcess}
 use Rattle.station.specs.Station.{StationMemory, station_memory, no_station_process, holding_at}
@@ -21,7 +20,7 @@ use Rattle.station.specs.StationCommand.{station_refusal, station_command}
 use Rattle.station.specs.StationSetUp.{empty_process}
 use Rattle.station_records.specs.TakenOut.{bench_in}
 use Rattle.lent.specs.Gathered.{gathered}
-use Rattle.lent.proofs.GatheredLaws.{gathered_length, gathered_at, gathered_take}
+use Rattle.lent.proofs.GatheredLaws.{gathered_at, gathered_take}
 use Rattle.station_rows.specs.StationCommandRows.{station_number}
 use Rattle.station_rows.proofs.StationRowLaws.{same_row, same_then}
 use Rattle.station_machine.specs.StationDecision.{obeyed_at, obeyed_on, station_decided, stored_back}

@@ -1,8 +1,8 @@
 -- Where no row holds, the order can be obeyed on its record.
 use mathlib.Core.Path.{◌≡◌, refl, ap, ap₂, ◌∙◌}
-use mathlib.Core.List.{List, []}
+use mathlib.Core.List.{List}
 use mathlib.Core.Bool.{Bool, true, false, ◌||◌, cond}
-use Prim.Native.Nat.{ℕ, suc, ◌+◌, ◌*◌, ◌<◌, ◌≤◌}
+use Prim.Native.Nat.{ℕ, ◌+◌, ◌*◌, ◌<◌, ◌≤◌}
 use native.Mathlib.Nat.{mul-le-mul, mul-le-mul_right}
 use native.Mathlib.Omega.{arith}
 use lib.Dec.{ltb}
@@ -18,14 +18,14 @@ use Rattle.model.specs.Refusals.{process_ok}
 use Rattle.model.specs.Machine.{obey_in}
 use Rattle.words.specs.declared.layouts.FirstRows.{FirstRows}
 use Rattle.words.specs.Layouts.{layout_from}
-use Rattle.steps.specs.Layouts.{ReadyIn, ObeyableIn, Placed}
+use Rattle.steps.specs.Layouts.{ObeyableIn, Placed}
 use Rattle.rows.proofs.RowLaws.{n_in, InRange, in_range_lem}
 use Rattle.station.specs.declared.RecordNumber.{RecordNumber}
 use Rattle.station.specs.declared.Station.{Station}
 use Rattle.station.specs.declared.StationProcess.{StationProcess}
 use Rattle.station.specs.Station.{station_memory, station_words, no_station_process, station_layout}
 use Rattle.station.specs.Projection.{process_of}
-use Rattle.station.specs.StationRefusals.{StationOrder, record_about, row23, called_ok, station_process_rows, station_in_range}
+use Rattle.station.specs.StationRefusals.{StationOrder, record_about, row23, called_ok, station_in_range}
 use Rattle.station.specs.StationCommand.{station_refusal}
 use Rattle.station_records.specs.TakenOut.{bench_in}
 use Rattle.station_rows.specs.StationCommandRows.{station_number}

@@ -1,6 +1,6 @@
 -- One record taken out of the station record, and its tables put back.
 -- Inner: these are `station`'s `bench_of` and `embed`, on the station record alone.
-use Rattle.std.specs.Prelude.{List, [], set}
+use Rattle.std.specs.Prelude.{[], set}
 use Rattle.model.specs.declared.Bench.{Bench}
 use Rattle.station.specs.declared.RecordNumber.{RecordNumber}
 use Rattle.station.specs.declared.Tables.{Tables}

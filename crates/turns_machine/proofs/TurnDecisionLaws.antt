@@ -1,11 +1,11 @@
 -- The turn by value is the turn: what `turn_decided` makes of the gathered records, stored back, is `turn_of`.
 use mathlib.Core.Path.{◌≡◌, refl, sym, ap, ◌∙◌}
-use mathlib.Core.List.{List, [], ◌∷◌}
+use mathlib.Core.List.{List, []}
 use mathlib.Core.Bool.{Bool, true, false, cond, not, ◌||◌}
 use Prim.Native.Nat.{ℕ, zero, suc, ◌-◌, ◌≤◌, ◌<◌}
 use native.Mathlib.Omega.{arith}
 use lib.Dec.{eqb, ltb, leb}
-use lib.ListN.{length, get_or, set, replicate, length-replicate}
+use lib.ListN.{length, replicate, length-replicate}
 use lib.Seq.{set_out}
 use borrow.Author.Tests.{eq-eqb, ne_eqb, eqb-true, leb-false, lt-ltb, le-ltb}
 use Rattle.llsc.specs.declared.Order.{Order}
@@ -14,16 +14,16 @@ use Rattle.model.specs.declared.Reply.{Reply}
 use Rattle.model.specs.declared.Reply.TheVariants.{Refused}
 use Rattle.station.specs.declared.Station.{Station}
 use Rattle.station.specs.declared.StationProcess.{StationProcess}
-use Rattle.station.specs.Station.{StationMemory, station_memory, no_station_process}
+use Rattle.station.specs.Station.{StationMemory, station_memory}
 use Rattle.station.specs.Projection.{at_rest}
-use Rattle.station.specs.StationRefusals.{StationOrder, station_in_range}
+use Rattle.station.specs.StationRefusals.{station_in_range}
 use Rattle.station.specs.StationCommand.{station_command}
 use Rattle.station.specs.StationSetUp.{empty_process}
 use Rattle.lent.specs.Gathered.{gathered}
 use Rattle.station_rows.specs.StationCommandRows.{station_memory_number}
 use Rattle.station_rows.proofs.StationRowLaws.{same_then, memory_lent}
 use Rattle.station_machine.specs.declared.Outcome.{Outcome}
-use Rattle.station_machine.specs.StationDecision.{station_decided, stored_back}
+use Rattle.station_machine.specs.StationDecision.{station_decided}
 use Rattle.station_machine.proofs.StationDecisionLaws.{same_range, same_process, decision_law}
 use Rattle.turns_model.specs.declared.NextCall.{NextCall}
 use Rattle.turns_model.specs.declared.Turned.{Turned}

@@ -5,7 +5,7 @@ use mathlib.Core.List.{List, [], ◌∷◌}
 use lib.ListN.{get_or, replicate}
 use Rattle.llsc.specs.Answers.{refused, accepted, answered, ll_words}
 use Rattle.model.specs.Machine.{step_at}
-use Rattle.model.specs.declared.Reply.TheVariants.{Refused, Accepted, VlAnswered}
+use Rattle.model.specs.declared.Reply.TheVariants.{Refused, Accepted}
 use Rattle.station.specs.declared.StationProcess.{StationProcess}
 use Rattle.station.specs.Station.{StationMemory, no_holding}
 use Rattle.station.specs.StationRefusals.{station_in_range}

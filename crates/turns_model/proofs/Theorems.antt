@@ -1,17 +1,15 @@
 -- What the reply of a turn says, in every case (`specs/TurnPromises`).
-use mathlib.Core.Path.{◌≡◌, refl, sym, ap, ◌∙◌}
-use Prim.Native.Nat.{ℕ, suc, ◌<◌, ◌≤◌}
-use mathlib.Core.List.{List, [], ◌∷◌}
+use mathlib.Core.Path.{◌≡◌, ap, ◌∙◌}
+use Prim.Native.Nat.{ℕ, ◌<◌, ◌≤◌}
+use mathlib.Core.List.{List}
 use mathlib.Core.Bool.{true, false, cond}
-use lib.Dec.{eqb, ltb}
 use lib.ListN.{replicate}
 use borrow.Author.Tests.{eq-eqb, ne_eqb, lt-ltb, le-ltb}
 use Rattle.station.specs.Station.{StationMemory}
-use Rattle.turns_model.specs.declared.NextCall.{NextCall}
-use Rattle.turns_model.specs.TurnReplies.{turn_number, TurnSaid, passed, turn_says}
+use Rattle.turns_model.specs.TurnReplies.{turn_number, TurnSaid, turn_says}
 use Rattle.turns_model.specs.Turns.{ListedCall, AfterTurn, turn_refused, turn_commands, turn_given, idle_turn}
-use Rattle.turns_model.specs.Turns.{start_by, step_by, counts_as_idle, lent_refusal, listed_as, turn, turn_of}
-use Rattle.turns_model.specs.TurnPromises.{turn_tells, command_tells, refusal_tells, TurnSays, EveryTurnSays}
+use Rattle.turns_model.specs.Turns.{step_by, counts_as_idle, lent_refusal, listed_as, turn, turn_of}
+use Rattle.turns_model.specs.TurnPromises.{EveryTurnSays}
 
 module _ (s : StationMemory) (p : ℕ) where
   -- number and values of what a turn came to

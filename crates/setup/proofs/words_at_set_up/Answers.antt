@@ -1,8 +1,6 @@
 -- `setup::words_at_set_up` meets its contract: the value, then zeros to the end of the 5N rows.
-use mathlib.Core.Path.{◌≡◌, ap, ◌∙◌}
+use mathlib.Core.Path.{◌∙◌}
 use native.Mathlib.Omega.{arith}
-use lib.ListN.{length}
-use lib.Seq.{length-sets}
 use Rattle.setup.proofs.SetUpLaws.{first_row_lem, words_set}
 use Rattle.setup.proofs.words_at_set_up.Goals as goal
 

@@ -1,6 +1,6 @@
 -- `turns_machine::decide_turn` meets its contract: 22 first, then the lent memory, then step, pass or start.
-use mathlib.Core.Path.{sym, ap, ◌∙◌}
-use Rattle.llsc.specs.Refusals.{refusal_number, number_told}
+use mathlib.Core.Path.{sym, ◌∙◌}
+use Rattle.llsc.specs.Refusals.{refusal_number}
 use Rattle.rows.proofs.Refused.{number_some}
 use Rattle.turns_machine.proofs.TurnDecisionLaws.{other_turn, refused_lent, steps, passes, starts}
 use Rattle.turns_machine.proofs.decide_turn.Goals as goal

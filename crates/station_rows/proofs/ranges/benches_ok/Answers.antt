@@ -1,8 +1,6 @@
 -- `station_rows::ranges::benches_ok` meets its contract: the records from j on decide.
 use mathlib.Core.Path.{sym, ap, ◌∙◌}
-use Prim.Native.Nat.{◌-◌}
 use native.Mathlib.Omega.{arith}
-use borrow.Author.Tests.{not-true, not-false}
 use Rattle.model.specs.Refusals.{bench_ok}
 use Rattle.station_rows.proofs.NumberLaws.{next, found, none, all_of}
 use Rattle.station_rows.proofs.ranges.benches_ok.Invariants.{bench_ok_at}

@@ -1,8 +1,6 @@
 -- `station_rows::ranges::seen_ok` meets its contract: the records from j on decide.
 use mathlib.Core.Path.{sym, ap, ◌∙◌}
-use Prim.Native.Nat.{◌-◌}
 use native.Mathlib.Omega.{arith}
-use borrow.Author.Tests.{not-true, not-false}
 use Rattle.model.specs.Refusals.{process_ok}
 use Rattle.station_rows.proofs.NumberLaws.{next, found, none, all_of}
 use Rattle.station_rows.proofs.ranges.seen_ok.Invariants.{seen}
