@@ -5,11 +5,11 @@ ghost use Rattle.board_commands.specs.BoardRun.{order_of};
 ghost use Rattle.board_commands.specs.ByValue.{at_most64, decided};
 
 use boards::numbers::number_at;
-use text_runs::lists::repeated;
 use llsc::Order;
 use station::Station;
 use station_machine::Outcome;
 use station_records::processes::Processes;
+use text_runs::lists::repeated;
 
 // CR 12: "order (1: 0 step, 1 LL, 2 SC, 3 VL)".
 fn order_of(byte: u8) -> Order
