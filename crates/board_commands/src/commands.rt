@@ -5,10 +5,10 @@ ghost use Rattle.board_commands.specs.BoardRun.{order_of};
 ghost use Rattle.board_commands.specs.ByValue.{decided};
 
 use boards::numbers::number_at;
-use text_runs::lists::repeated;
 use llsc::Order;
 use station::{Station, StationProcess};
 use station_machine::Outcome;
+use text_runs::lists::repeated;
 
 // CR 12: "order (1: 0 step, 1 LL, 2 SC, 3 VL)".
 // Kept: neither `u8` nor `Order` is this crate's, so there is no `From` of one for the other.

@@ -11,8 +11,7 @@ use entry::state::Run;
 use entry::{entries, refusals, turn};
 use notation::entry_words;
 use tables::records;
-use text_runs::entries as text_entries;
-use text_runs::limits;
+use text_runs::{entries as text_entries, limits};
 
 // The run after its list, and its place in it: that of the entry that stopped the run, or the end.
 #[derive(Clone, Copy)]
