@@ -1,18 +1,15 @@
 -- Where no row holds, the order can be obeyed.
-use mathlib.Core.Path.{◌≡◌, ap, ◌∙◌}
+use mathlib.Core.Path.{◌≡◌}
 use mathlib.Core.List.{List}
 use mathlib.Core.Bool.{true}
 use Prim.Native.Nat.{ℕ, ◌<◌}
 use native.Mathlib.Omega.{arith}
 use lib.ListN.{length, get_or, take, length-take}
 use lib.Seq.{get_or-take}
-use borrow.Author.Tests.{eq-eqb, ne_eqb}
 use Rattle.moir_model.specs.declared.Bench.{Bench}
 use Rattle.moir_model.specs.declared.Process.{Process}
 use Rattle.llsc.specs.declared.Order.{Order}
-use Rattle.moir_model.specs.declared.Moved.{Moved}
 use Rattle.moir_model.specs.Records.{no_process, record_at}
-use Rattle.moir_model.specs.Machine.{obey}
 use Rattle.llsc.specs.Rows.{every}
 use Rattle.moir_model.specs.Refusals.{header_ok, process_ok, in_range}
 use Rattle.moir_steps.specs.Ranges.{Obeyable}

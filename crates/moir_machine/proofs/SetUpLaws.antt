@@ -3,7 +3,7 @@ use mathlib.Core.Path.{◌≡◌, refl, sym, ap, ◌∙◌}
 use mathlib.Core.List.{List, ◌++◌}
 use mathlib.Core.Bool.{false, cond}
 use Prim.Native.Nat.{ℕ, zero, suc, ◌+◌, ◌-◌, ◌*◌, ◌≤◌}
-use native.Mathlib.Nat.{zero-add, mul-le-mul_right, one-mul}
+use native.Mathlib.Nat.{mul-le-mul_right, one-mul}
 use native.Mathlib.Omega.{arith}
 use lib.Dec.{eqb, ltb}
 use lib.ListN.{length, set, replicate, length-append, length-replicate}
@@ -12,12 +12,11 @@ use borrow.Author.Tests.{eq-eqb, ne_eqb, eqb-true, ltb-false, not-false}
 use Rattle.llsc.specs.Rows.{row1, row2, row8always}
 use Rattle.moir_model.specs.declared.Bench.{Bench}
 use Rattle.moir_model.specs.declared.Process.{Process}
-use Rattle.moir_model.specs.Words.{put_tag}
 use Rattle.moir_model.specs.Machine.{Memory}
 use Rattle.moir_model.specs.Refusals.{row3}
 use Rattle.moir_model.specs.SetUp.{bench_at_set_up, words_at_set_up, set_up, set_up_refusal}
 use Rattle.moir_machine.specs.SetUpByValue.{set_up_number, set_up_number_lem, Accepted, prepared, records_set}
-use Rattle.laws.proofs.ListLaws.{sets_append, sets_replicate}
+use Rattle.laws.proofs.ListLaws.{sets_append}
 use Rattle.rows.proofs.RowLaws.{cleared, n_in, w_in, neither}
 
 -- A[0] and the segments are rows of the lent words

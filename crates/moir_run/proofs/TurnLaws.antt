@@ -193,7 +193,9 @@ module _ (e : Entry) {s : Progress} (sound : Sound s) (z : s.stop ≡ 0) (se : S
     pub turn_before : (k ≡ 0 → ⊥) → T.stopped figure6 k s ≡ T.single figure6 e s
     turn_before n = by full narrow refl refl q
       where
-        by : (t u : Bool) → full ≡ t → narrow ≡ u → k ≡ number_told (cond {A = Result (Unit {0}) Refusal} t (Err TooMuch) (cond u (Err NoRoom) (Ok tt))) → T.stopped figure6 k s ≡ T.single figure6 e s
+        by : (t u : Bool) → full ≡ t → narrow ≡ u
+            → k ≡ number_told (cond {A = Result (Unit {0}) Refusal} t (Err TooMuch) (cond u (Err NoRoom) (Ok tt)))
+            → T.stopped figure6 k s ≡ T.single figure6 e s
         by true u l r x = rw x (turn_12 (leb-true most_entries s.entries l))
         by false true l r x = rw x (turn_14 (leb-false most_entries s.entries l) (ltb-true (length s.listing - s.written) (room_needed s.traced) r))
         by false false l r x = absurd (n x)
@@ -202,7 +204,9 @@ module _ (e : Entry) {s : Progress} (sound : Sound s) (z : s.stop ≡ 0) (se : S
     pub turn_through : k ≡ 0 → (s.entries < most_entries) × (room_needed s.traced ≤ length s.listing - s.written)
     turn_through n = by full narrow refl refl q
       where
-        by : (t u : Bool) → full ≡ t → narrow ≡ u → k ≡ number_told (cond {A = Result (Unit {0}) Refusal} t (Err TooMuch) (cond u (Err NoRoom) (Ok tt))) → (s.entries < most_entries) × (room_needed s.traced ≤ length s.listing - s.written)
+        by : (t u : Bool) → full ≡ t → narrow ≡ u
+            → k ≡ number_told (cond {A = Result (Unit {0}) Refusal} t (Err TooMuch) (cond u (Err NoRoom) (Ok tt)))
+            → (s.entries < most_entries) × (room_needed s.traced ≤ length s.listing - s.written)
         by true u l r x = absurd (omega (arith, n, x))
         by false true l r x = absurd (omega (arith, n, x))
         by false false l r x = (leb-false most_entries s.entries l, ltb-false (length s.listing - s.written) (room_needed s.traced) r)

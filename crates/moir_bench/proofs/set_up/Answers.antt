@@ -1,9 +1,9 @@
 -- `moir_bench::set_up` meets its contract: the set-up by value, with the first n records written over.
-use mathlib.Core.Path.{◌≡◌, sym, ap, ◌∙◌}
+use mathlib.Core.Path.{sym, ap, ◌∙◌}
 use mathlib.Core.List.{List}
 use Prim.Native.Nat.{ℕ}
 use native.Mathlib.Omega.{arith}
-use lib.ListN.{length, length-take}
+use lib.ListN.{length-take}
 use Rattle.moir_model.specs.declared.Process.{Process}
 use Rattle.moir_model.specs.declared.Bench.{Bench}
 use Rattle.moir_machine.specs.SetUpByValue.{records_set}

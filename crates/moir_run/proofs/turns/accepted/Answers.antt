@@ -33,11 +33,13 @@ obey-moved-requires c =
 
 pub trace_line-shown-requires : goal.trace_line-shown-requires
 trace_line-shown-requires c =
-    shown_room c.requires c.process_of-p.ensures refl c.value_of-value.ensures c.words_of-count.ensures c.order_of-order.ensures c.obey-moved.ensures c.access_seen-access.ensures
+    shown_room c.requires c.process_of-p.ensures refl
+    c.value_of-value.ensures c.words_of-count.ensures c.order_of-order.ensures c.obey-moved.ensures c.access_seen-access.ensures
 
 pub answer_line-written-requires : goal.answer_line-written-requires
 answer_line-written-requires c =
-    listable_as c.requires c.process_of-p.ensures refl c.value_of-value.ensures c.words_of-count.ensures c.order_of-order.ensures c.obey-moved.ensures c.access_seen-access.ensures c.trace_line-shown.ensures
+    listable_as c.requires c.process_of-p.ensures refl
+    c.value_of-value.ensures c.words_of-count.ensures c.order_of-order.ensures c.obey-moved.ensures c.access_seen-access.ensures c.trace_line-shown.ensures
 
 pub offset_bounds-all-p-2 : goal.offset_bounds-all-p-2
 offset_bounds-all-p-2 c = omega (arith, process_few c.requires c.process_of-p.ensures)
@@ -47,4 +49,5 @@ bounds-all-p-2 c = process_few c.requires c.process_of-p.ensures
 
 pub returns : goal.returns
 returns c =
-    carried_as c.requires c.process_of-p.ensures refl c.value_of-value.ensures c.words_of-count.ensures c.order_of-order.ensures c.obey-moved.ensures c.access_seen-access.ensures c.trace_line-shown.ensures c.answer_line-written.ensures refl
+    carried_as c.requires c.process_of-p.ensures refl
+    c.value_of-value.ensures c.words_of-count.ensures c.order_of-order.ensures c.obey-moved.ensures c.access_seen-access.ensures c.trace_line-shown.ensures c.answer_line-written.ensures refl
