@@ -17,6 +17,9 @@ use Rattle.besklaun.specs.declared.logs.Reasoned.{Reasoned}
 abbrev pub judgement_of : Verdict → Judgement
 judgement_of v = record { number = number_of v; yes = says_yes v }
 
+abbrev pub plain_no : Reasoned
+plain_no = record { number = 0; yes = false; condition = 0; given = false; truth = false; call = 0; other = 0 }
+
 -- the reason of a no: the number of its condition, its call and the other, or whether the object holds the value, or its truth
 abbrev pub fault_of : Fault → Reasoned
 fault_of (Unknown k) = record { number = 0; yes = false; condition = 1; given = false; truth = false; call = k; other = 0 }

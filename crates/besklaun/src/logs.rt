@@ -2,7 +2,7 @@
 ghost use Rattle.std.specs.Prelude.{◌≡◌};
 ghost use Rattle.verdicts.specs.Verdicts.{judged};
 ghost use Rattle.verdicts.specs.Reasons.{judged_with_reason};
-ghost use Rattle.besklaun.specs.Judgements.{judgement_of, fault_of, refused_of, reasoned_of};
+ghost use Rattle.besklaun.specs.Judgements.{judgement_of, plain_no, fault_of, refused_of, reasoned_of};
 
 use verdicts::{Fault, Place, Shown, Verdict};
 
@@ -60,7 +60,7 @@ pub struct Reasoned {
 
 // A no without its reason.
 fn plain_no() -> Reasoned
-    ensures { result ≡ record { number = 0; yes = false; condition = 0; given = false; truth = false; call = 0; other = 0 } }
+    ensures { result ≡ plain_no }
 {
     Reasoned {
         number: 0,

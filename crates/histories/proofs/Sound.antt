@@ -1,14 +1,13 @@
 -- A yes is given exactly where nothing refuses and the conditions hold, and then the moments are a linearization.
 use mathlib.Core.Path.{◌≡◌, refl, sym, ap, subst, ◌∙◌}
-use mathlib.Core.Bool.{Bool, true, false, cond}
+use mathlib.Core.Bool.{Bool, true}
 use mathlib.Core.List.{List, [], ◌∷◌, map}
 use Prim.Native.Nat.{ℕ, ◌≤◌, ◌<◌}
 use native.Mathlib.Omega.{arith}
 use lib.Dec.{eqb, ltb}
-use borrow.Author.Tests.{eqb-true, eqb-false, ltb-true, leb-true, not-true}
+use borrow.Author.Tests.{eqb-false, ltb-true, leb-true, not-true}
 use Rattle.llsc.specs.Linearizable.{All, Timed, Distinct, Inside, Linearization}
 use Rattle.llsc.specs.Rows.{every}
-use Rattle.laws.proofs.Updates.{contra}
 use Rattle.laws.proofs.AndLaws.{left, right}
 use Rattle.laws.specs.Lists.{Pairs}
 use Rattle.laws.proofs.AllLaws.{all_of, all_map, every_all, pairs_of, pairs_map, map_map}
