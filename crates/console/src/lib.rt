@@ -31,9 +31,8 @@ pub fn read_full<R: Read>(from: &mut R, room: &mut [u8]) -> usize
     let mut done = 0;
     while done < room.len() {
         match from.read(&mut room[done..]) {
-            Ok(0) => return done,
+            Ok(0) | Err(_) => break,
             Ok(n) => done += n,
-            Err(_) => return done,
         }
     }
     done
@@ -43,31 +42,21 @@ pub fn read_full<R: Read>(from: &mut R, room: &mut [u8]) -> usize
 pub fn print_decimal<W: Write>(to: &mut W, n: u64) -> io::Result<()>
     ensures { OnOk result (Appends (W.contents to.old) (W.contents to.new) (decimal n)) }
 {
-    let mut digits = [0; 20];
-    let end = listing::number(&mut digits, 0, n);
-    to.write_all(&digits[..end])
+    write!(to, "{n}")
 }
 
 // Whether what could not be written went to a cut pipe: one that nobody reads any more.
 pub fn is_cut(lost: &io::Error) -> bool
     ensures { IsTrue result ↔ error_kind lost.now ≡ ErrorKind.BrokenPipe }
 {
-    match lost.kind() {
-        ErrorKind::BrokenPipe => true,
-        _ => false,
-    }
+    matches!(lost.kind(), ErrorKind::BrokenPipe)
 }
 
 // The status of a program after its last words. A cut pipe would have ended it, were the signal not held back. Other
 // words that are lost stay without a word: there is no place left to say so.
 pub fn status(told: io::Result<()>) -> ExitCode {
     match told {
-        Ok(()) => ExitCode::SUCCESS,
-        Err(lost) => {
-            if is_cut(&lost) {
-                return ExitCode::from(CUT);
-            }
-            ExitCode::SUCCESS
-        }
+        Err(lost) if is_cut(&lost) => ExitCode::from(CUT),
+        _ => ExitCode::SUCCESS,
     }
 }

@@ -1,6 +1,7 @@
 -- The refusals by their numbers (01, "When the bench says no": the column "Number", and those that the change requests
 -- add).
-use Rattle.std.specs.Prelude.{◌≡◌, ℕ, Bool, true, false, cond, Result, Ok, Err}
+use Rattle.std.specs.Prelude.{◌≡◌, ◌≢◌, ℕ, Bool, true, false, Result, Ok, Err, MatchResult}
+use Rattle.llsc.specs.declared.refusals.NoRefusal.{NoRefusal}
 use Rattle.llsc.specs.declared.refusals.Refusal.{Refusal}
 use Rattle.llsc.specs.declared.refusals.Refusal.TheVariants.{NOutOfRange, WOutOfRange, TooLittleLent, NoSuchProcess, StartAtBusy}
 use Rattle.llsc.specs.declared.refusals.Refusal.TheVariants.{StepAtIdle, NeverLinked, ValueNotWWords, NumberOutOfRange, TextBroken}
@@ -47,3 +48,7 @@ number_told (Err r) = refusal_number r
 abbrev pub refused_if : Bool → Refusal → Result (Unit {0}) Refusal
 refused_if true r = Err r
 refused_if false r = Ok tt
+
+-- r is the refusal with this number, or says that no row of the table has it
+abbrev pub RefusalWith : ℕ → Result Refusal NoRefusal → Type 0
+RefusalWith n r = MatchResult r (λ k. refusal_number k ≡ n) (λ e. (e.0 ≡ n) × ((k : Refusal) → refusal_number k ≢ n))

@@ -1,7 +1,7 @@
 // Why a bench, a judge or a merge says no: the causes of the refusal table, with the numbers that users are told.
 
 ghost use Rattle.std.specs.Prelude.{◌≡◌};
-ghost use Rattle.llsc.specs.Refusals.{refusal_number, number_told, refused_if};
+ghost use Rattle.llsc.specs.Refusals.{refusal_number, number_told, refused_if, RefusalWith};
 
 // A row of the refusal table, with its number.
 #[derive(Clone, Copy, PartialEq, Eq)]
@@ -60,5 +60,49 @@ pub fn number_of(outcome: Result<(), Refusal>) -> u8
     match outcome {
         Ok(()) => 0,
         Err(refusal) => refusal.number(),
+    }
+}
+
+// A number that no row of the table has.
+#[derive(Clone, Copy, PartialEq, Eq)]
+pub struct NoRefusal(pub u8);
+
+impl TryFrom<u8> for Refusal {
+    type Error = NoRefusal;
+
+    ghost try_from_gives = { RefusalWith };
+
+    // The refusal that users are told by this number.
+    fn try_from(number: u8) -> Result<Refusal, NoRefusal> {
+        match number {
+            1 => Ok(Refusal::NOutOfRange),
+            2 => Ok(Refusal::WOutOfRange),
+            3 => Ok(Refusal::TooLittleLent),
+            4 => Ok(Refusal::NoSuchProcess),
+            5 => Ok(Refusal::StartAtBusy),
+            6 => Ok(Refusal::StepAtIdle),
+            7 => Ok(Refusal::NeverLinked),
+            8 => Ok(Refusal::ValueNotWWords),
+            9 => Ok(Refusal::NumberOutOfRange),
+            10 => Ok(Refusal::TextBroken),
+            11 => Ok(Refusal::TooDeep),
+            12 => Ok(Refusal::TooMuch),
+            14 => Ok(Refusal::NoRoom),
+            15 => Ok(Refusal::NoSuchSuccess),
+            16 => Ok(Refusal::TooManyCalls),
+            17 => Ok(Refusal::AnswerNotAfterStart),
+            18 => Ok(Refusal::NoListing),
+            19 => Ok(Refusal::SeasonFull),
+            20 => Ok(Refusal::TooManyTurns),
+            21 => Ok(Refusal::NoSuchNumber),
+            22 => Ok(Refusal::NotASchedule),
+            23 => Ok(Refusal::ROutOfRange),
+            24 => Ok(Refusal::NoSuchRecord),
+            25 => Ok(Refusal::BadTrailer),
+            26 => Ok(Refusal::BadRecord),
+            27 => Ok(Refusal::ProcessInBoth),
+            28 => Ok(Refusal::TooLittleRoom),
+            _ => Err(NoRefusal(number)),
+        }
     }
 }

@@ -1,2 +1,4 @@
+mod Appending
+pub mod CallLaws
+mod LineLaws
 pub mod Points
-pub mod ShownLaws

@@ -1,2 +1,3 @@
 pub mod OpenCalls
+pub mod OpenLines
 pub mod Shown

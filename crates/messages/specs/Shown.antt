@@ -1,5 +1,6 @@
 -- What a message shows of a text.
-use Rattle.std.specs.Prelude.{ℕ, suc, min, List, [], ◌∷◌, Bool, true, ◌&&◌, cond, eqb, leb, length, get_or}
+use Rattle.std.specs.Prelude.{ℕ, min, List, Bool, true, ◌&&◌, cond, eqb, leb, length, get_or}
+use Rattle.std.specs.List.{take_while}
 use Rattle.positions.specs.Positions.{is_digit}
 
 -- the bytes of an item that is no group (01: "a process number and directly `l`, `v`, `.`, `!`, or `s` with a number")
@@ -10,9 +11,8 @@ abbrev pub in_item : ℕ → Bool
 in_item b = cond (is_digit b) true (is_mark b)
 
 -- how many such bytes stand at the front
-unfoldable pub item_length : List ℕ → ℕ
-item_length [] = 0
-item_length (b ∷ bs) = cond (in_item b) (suc (item_length bs)) 0
+abbrev pub item_length : List ℕ → ℕ
+item_length bs = length (take_while in_item bs)
 
 -- of an item no more than 24 bytes are shown
 abbrev pub item_shown : List ℕ → ℕ

@@ -1,120 +1,133 @@
 // The open call of a process: its kind, the line that comes next, the word place where that line moves words, and the
-// own steps so far. The same words for every method; the figure is told by its number.
-ghost use Rattle.std.specs.Prelude.{◌≡◌, ◌<◌};
+// own steps so far. The same words for every method.
+ghost use Rattle.std.specs.Prelude.{◌≡◌, ◌<◌, Some};
 ghost use Rattle.messages.specs.OpenCalls.{place_of};
+ghost use Rattle.messages.specs.OpenLines.{kind_text, figure_text, word_text, steps_text, told_text};
 
 use llsc::ProcessNumber;
-use std::io;
-use std::io::Write;
+use std::fmt;
 
-pub const IDLE: u8 = 0;
+#[derive(Clone, Copy, PartialEq, Eq)]
+pub enum Kind {
+    Ll,
+    Sc,
+    Vl,
+}
 
-pub const LL: u8 = 1;
+impl fmt::Display for Kind {
+    ghost output = { λ k. Some (kind_text k) };
 
-pub const SC: u8 = 2;
+    fn fmt<W: fmt::Write>(&self, f: &mut fmt::Formatter<W>) -> fmt::Result {
+        match self {
+            Kind::Ll => write!(f, "LL"),
+            Kind::Sc => write!(f, "SC"),
+            Kind::Vl => write!(f, "VL"),
+        }
+    }
+}
 
-pub const VL: u8 = 3;
+// How a line moves words: a whole word to a step, or a half.
+#[derive(Clone, Copy, PartialEq, Eq)]
+pub enum Moves {
+    Whole,
+    Halves,
+}
 
-// How the line that comes next moves words: not, a whole word to a step, or a half.
-pub const NO_WORD: u8 = 0;
-
-pub const WHOLE: u8 = 1;
-
-pub const HALVES: u8 = 2;
-
-#[derive(Clone, Copy)]
+#[derive(Clone, Copy, PartialEq, Eq)]
 pub struct Call {
-    pub kind: u8,
+    pub kind: Kind,
     pub line: u8,
-    pub moves: u8,
+    // none where that line moves no word
+    pub moves: Option<Moves>,
     // the word place, which counts what a step moves
     pub place: usize,
     pub count: usize,
 }
 
-// The figure whose lines are told, and W.
-#[derive(Clone, Copy)]
+// The figure whose lines are told.
+#[derive(Clone, Copy, PartialEq, Eq)]
+pub enum Figure {
+    Two,
+    Six,
+}
+
+impl fmt::Display for Figure {
+    ghost output = { λ f. Some (figure_text f) };
+
+    fn fmt<W: fmt::Write>(&self, f: &mut fmt::Formatter<W>) -> fmt::Result {
+        match self {
+            Figure::Two => write!(f, "Figure 2"),
+            Figure::Six => write!(f, "Figure 6"),
+        }
+    }
+}
+
+// The figure, and W.
+#[derive(Clone, Copy, PartialEq, Eq)]
 pub struct Method {
-    pub figure: u8,
+    pub figure: Figure,
     pub w: u64,
+}
+
+// A call as a message tells it.
+#[derive(Clone, Copy, PartialEq, Eq)]
+pub struct Told {
+    pub call: Call,
+    pub method: Method,
+}
+
+impl fmt::Display for Told {
+    ghost output = { λ t. Some (told_text t) };
+
+    fn fmt<W: fmt::Write>(&self, f: &mut fmt::Formatter<W>) -> fmt::Result {
+        let Told { call, method } = *self;
+        let word = Word {
+            moves: call.moves,
+            place: call.place,
+            w: method.w,
+        };
+        let steps = steps(call.count);
+        write!(
+            f,
+            "{}, line {} of {}{word} next, {} own {steps} so far",
+            call.kind, call.line, method.figure, call.count
+        )
+    }
+}
+
+fn steps(count: usize) -> &'static str
+    ensures { result.now ≡ steps_text count }
+{
+    if count == 1 { "step" } else { "steps" }
+}
+
+// The word of a line that moves words, from 0 on as in a trace.
+#[derive(Clone, Copy)]
+struct Word {
+    moves: Option<Moves>,
+    place: usize,
+    w: u64,
+}
+
+impl fmt::Display for Word {
+    ghost output = { λ x. Some (word_text x) };
+
+    fn fmt<W: fmt::Write>(&self, f: &mut fmt::Formatter<W>) -> fmt::Result {
+        let Word { moves, place, w } = *self;
+        match moves {
+            None => Ok(()),
+            Some(Moves::Whole) => write!(f, ", word {place} of {w}"),
+            Some(Moves::Halves) => {
+                let half = if place % 2 == 0 { "low" } else { "high" };
+                write!(f, ", word {} of {w}, {half} half", place / 2)
+            }
+        }
+    }
 }
 
 // The process whose record is looked at: process 0 where p is no number of sixteen.
 pub fn process_number(p: u64) -> ProcessNumber
     ensures { (result ≡ record { 0 = place_of p }) × (result.0 < 16) }
 {
-    if p < 16 {
-        return ProcessNumber(p as u8);
-    }
-    ProcessNumber(0)
-}
-
-// The line of process p, if its call is open.
-pub fn open_line(to: &mut impl Write, p: usize, method: Method, call: Call) -> io::Result<()> {
-    if call.kind == IDLE {
-        return Ok(());
-    }
-    saying::say(to, b"open: process ")?;
-    saying::number(to, p as u64)?;
-    saying::say(to, b", ")?;
-    told(to, method, call)?;
-    saying::say(to, b"\n")
-}
-
-// Whether the process that a command named is idle, or its call.
-pub(crate) fn busy_or_idle(to: &mut impl Write, method: Method, call: Call) -> io::Result<()> {
-    if call.kind == IDLE {
-        return saying::say(to, b" is idle");
-    }
-    saying::say(to, b" is busy: ")?;
-    told(to, method, call)
-}
-
-fn told(to: &mut impl Write, method: Method, call: Call) -> io::Result<()> {
-    kind(to, call.kind)?;
-    saying::say(to, b", line ")?;
-    saying::number(to, call.line as u64)?;
-    saying::say(to, b" of Figure ")?;
-    saying::number(to, method.figure as u64)?;
-    word(to, method.w, call.moves, call.place)?;
-    saying::say(to, b" next, ")?;
-    saying::number(to, call.count as u64)?;
-    if call.count == 1 {
-        return saying::say(to, b" own step so far");
-    }
-    saying::say(to, b" own steps so far")
-}
-
-fn kind(to: &mut impl Write, kind: u8) -> io::Result<()> {
-    match kind {
-        LL => saying::say(to, b"LL"),
-        VL => saying::say(to, b"VL"),
-        _ => saying::say(to, b"SC"),
-    }
-}
-
-// The word of a line that moves words, from 0 on as in a trace.
-fn word(to: &mut impl Write, w: u64, moves: u8, place: usize) -> io::Result<()> {
-    match moves {
-        WHOLE => word_of(to, place, w),
-        HALVES => {
-            word_of(to, place / 2, w)?;
-            half(to, place % 2)
-        }
-        _ => Ok(()),
-    }
-}
-
-fn word_of(to: &mut impl Write, k: usize, w: u64) -> io::Result<()> {
-    saying::say(to, b", word ")?;
-    saying::number(to, k as u64)?;
-    saying::say(to, b" of ")?;
-    saying::number(to, w)
-}
-
-fn half(to: &mut impl Write, half: usize) -> io::Result<()> {
-    if half == 0 {
-        return saying::say(to, b", low half");
-    }
-    saying::say(to, b", high half")
+    ProcessNumber(if p < 16 { p as u8 } else { 0 })
 }

@@ -3,53 +3,48 @@ ghost use Rattle.std.specs.Prelude.{◌≡◌};
 ghost use Rattle.messages.specs.Shown.{is_order_mark};
 
 use positions::Seen;
+use saying::{Named, Place};
 use std::io;
 use std::io::Write;
 
 // The bytes with which some editors begin a text.
-const MARK_0: u8 = 239;
+const ORDER_MARK: [u8; 3] = [0xEF, 0xBB, 0xBF];
 
-const MARK_1: u8 = 187;
+// A group that is nested too deep begins at the place.
+pub(crate) fn too_deep(to: &mut impl Write, text: &[u8], place: usize) -> io::Result<()> {
+    saying::position(to, text, place)?;
+    write!(
+        to,
+        ": groups nest at most eight deep, and this ( would open a ninth"
+    )
+}
 
-const MARK_2: u8 = 191;
-
-// The text is split at the fault's place.
-pub(crate) fn fault(to: &mut impl Write, number: u8, before: &[u8], rest: &[u8]) -> io::Result<()> {
-    let s = positions::look(before);
-    saying::say(to, b"line ")?;
-    saying::next(to, s.feeds)?;
-    saying::say(to, b", column ")?;
-    saying::next(to, s.since)?;
-    saying::say(to, b": ")?;
-    if number == 11 {
-        return saying::say(
-            to,
-            b"groups nest at most eight deep, and this ( would open a ninth",
-        );
-    }
-    if rest.len() == 0 {
-        expected(to, s, true, 0)?;
-        saying::say(to, b"; here the text ends")?;
-        return unclosed(to, before);
-    }
+// The text breaks the notation at the place.
+pub(crate) fn broken(to: &mut impl Write, text: &[u8], place: usize) -> io::Result<()> {
+    saying::position(to, text, place)?;
+    let (before, rest) = text.split_at(saying::within(place, text));
     if is_order_mark(rest) {
-        return saying::say(
+        return write!(
             to,
-            b"the text begins with a byte order mark; save it as plain text, without one",
+            ": the text begins with a byte order mark; save it as plain text, without one"
         );
     }
-    let here = rest[0];
-    expected(to, s, false, here)?;
-    saying::say(to, b"; here is ")?;
-    saying::byte(to, here)
+    let here = rest.first().copied();
+    write!(to, ": {}", expected(positions::look(before), here))?;
+    match here {
+        Some(here) => write!(to, "; here is {}", Named(here)),
+        None => {
+            write!(to, "; here the text ends")?;
+            unclosed(to, before)
+        }
+    }
 }
 
 // Where the group begins that is open at the text's end.
 fn unclosed(to: &mut impl Write, text: &[u8]) -> io::Result<()> {
-    let at = saying::within(positions::unclosed(text), text);
+    let at = positions::unclosed(text);
     if at < text.len() {
-        saying::say(to, b"; its ( is at ")?;
-        saying::place(to, positions::look(&text[..at]))?;
+        write!(to, "; its ( is at {}", Place::of(text, at))?;
     }
     Ok(())
 }
@@ -57,110 +52,63 @@ fn unclosed(to: &mut impl Write, text: &[u8]) -> io::Result<()> {
 fn is_order_mark(rest: &[u8]) -> bool
     ensures { result ≡ is_order_mark rest.now }
 {
-    if rest.len() < 3 {
-        return false;
-    }
-    if rest[0] != MARK_0 {
-        return false;
-    }
-    if rest[1] != MARK_1 {
-        return false;
-    }
-    rest[2] == MARK_2
+    rest.starts_with(&ORDER_MARK)
 }
 
-fn expected(to: &mut impl Write, s: Seen, ended: bool, here: u8) -> io::Result<()> {
-    if positions::is_digit(s.last) {
-        if positions::is_digit(here) {
-            return stray_digit(to, s);
-        }
+// What is expected after what was seen. Nothing is here where the text ends.
+fn expected(s: Seen, here: Option<u8>) -> &'static str {
+    match (s.last, here) {
+        (b'0'..=b'9', Some(b'0'..=b'9')) => stray_digit(s),
+        _ if s.feeds == 0 => in_first_line(s.spaces, s.last.is_ascii_digit()),
+        // the number is the value of an `s`, or the first of its item
+        (b'0'..=b'9', _) if s.mark != b's' => after_number(here),
+        (b's', _) => "after s comes a number",
+        (b'\n' | b' ' | b'(', _) => before_item(s.solid, here),
+        _ => after_item(here),
     }
-    if s.feeds == 0 {
-        return in_first_line(to, s.spaces, positions::is_digit(s.last));
-    }
-    in_items(to, s, ended, here)
 }
 
 // A digit after a digit is wrong only after a leading zero, or where it makes the number too large.
-fn stray_digit(to: &mut impl Write, s: Seen) -> io::Result<()> {
-    if s.last == b'0' {
-        if !positions::is_digit(s.earlier) {
-            return saying::say(to, b"a number has no leading zero");
-        }
+fn stray_digit(s: Seen) -> &'static str {
+    if s.last == b'0' && !s.earlier.is_ascii_digit() {
+        "a number has no leading zero"
+    } else {
+        "a number is at most 4,294,967,295"
     }
-    saying::say(to, b"a number is at most 4,294,967,295")
 }
 
 // The first line is N, W and the initial number.
-fn in_first_line(to: &mut impl Write, spaces: usize, in_number: bool) -> io::Result<()> {
-    if in_number {
-        return match spaces {
-            0 => saying::say(to, b"after N comes one space"),
-            1 => saying::say(to, b"after W comes one space"),
-            _ => saying::say(to, b"after the initial number comes a line feed"),
-        };
-    }
-    match spaces {
-        0 => saying::say(to, b"the text begins with N, a number"),
-        1 => saying::say(to, b"after N and one space comes W, a number"),
-        _ => saying::say(to, b"after W and one space comes the initial number"),
+fn in_first_line(spaces: usize, in_number: bool) -> &'static str {
+    match (spaces, in_number) {
+        (0, true) => "after N comes one space",
+        (1, true) => "after W comes one space",
+        (_, true) => "after the initial number comes a line feed",
+        (0, false) => "the text begins with N, a number",
+        (1, false) => "after N and one space comes W, a number",
+        (_, false) => "after W and one space comes the initial number",
     }
 }
 
-// What is expected is told by the last byte.
-fn in_items(to: &mut impl Write, s: Seen, ended: bool, here: u8) -> io::Result<()> {
-    let last = s.last;
-    match last {
-        b'0'..=b'9' => after_digit(to, s.mark, ended, here),
-        b's' => saying::say(to, b"after s comes a number"),
-        b'\n' | b' ' | b'(' => before_item(to, s.solid, ended, here),
-        _ => after_item(to, ended, here),
+fn after_number(here: Option<u8>) -> &'static str {
+    match here {
+        Some(b'(') => "the count of a group is 1 to 255",
+        _ => "after a process number comes one of l v . ! s, or ( after a count",
     }
 }
 
-// The number is the value of an `s`, or the first of its item.
-fn after_digit(to: &mut impl Write, mark: u8, ended: bool, here: u8) -> io::Result<()> {
-    if mark == b's' {
-        return after_item(to, ended, here);
+fn before_item(solid: u8, here: Option<u8>) -> &'static str {
+    match here {
+        None => "an open group ends with )",
+        Some(b')') if solid == b'(' => "a group has at least one item",
+        Some(b')') => "no group is open",
+        Some(_) => "an item begins with a process number, or with the count of a group",
     }
-    if here == b'(' {
-        return saying::say(to, b"the count of a group is 1 to 255");
-    }
-    saying::say(
-        to,
-        b"after a process number comes one of l v . ! s, or ( after a count",
-    )
 }
 
-fn before_item(to: &mut impl Write, solid: u8, ended: bool, here: u8) -> io::Result<()> {
-    if ended {
-        return saying::say(to, b"an open group ends with )");
+fn after_item(here: Option<u8>) -> &'static str {
+    match here {
+        None => "an open group ends with )",
+        Some(b')') => "no group is open",
+        Some(_) => "after an item comes a space, a line feed or the ) of its group",
     }
-    if here == b')' {
-        return close(to, solid);
-    }
-    saying::say(
-        to,
-        b"an item begins with a process number, or with the count of a group",
-    )
-}
-
-fn close(to: &mut impl Write, solid: u8) -> io::Result<()> {
-    if solid == b'(' {
-        return saying::say(to, b"a group has at least one item");
-    }
-    saying::say(to, b"no group is open")
-}
-
-fn after_item(to: &mut impl Write, ended: bool, here: u8) -> io::Result<()> {
-    if ended {
-        return saying::say(to, b"an open group ends with )");
-    }
-    if here == b')' {
-        return saying::say(to, b"no group is open");
-    }
-    saying::say(
-        to,
-        b"after an item comes a space, a line feed or the ) of its group",
-    )
 }

@@ -7,23 +7,22 @@ use std::io;
 use std::io::Write;
 
 pub(crate) fn processes(to: &mut impl Write, report: StopReport) -> io::Result<()> {
-    saying::say(to, b"line 1, column 1: N is ")?;
-    saying::number(to, report.n)?;
-    saying::say(to, b"; it is 1 to 16")
+    write!(to, "line 1, column 1: N is {}; it is 1 to 16", report.n)
 }
 
 pub(crate) fn words(to: &mut impl Write, report: StopReport) -> io::Result<()> {
-    saying::say(to, b"line 1, column ")?;
-    saying::next(to, after_number(report.n))?;
-    saying::say(to, b": W is ")?;
-    saying::number(to, report.w)?;
-    saying::say(to, b"; it is 1 to 64")
+    let column = column_after(report.n);
+    write!(
+        to,
+        "line 1, column {column}: W is {}; it is 1 to 64",
+        report.w
+    )
 }
 
-// The place after a number at the beginning of a text and one space. Numbers are written one way only.
-fn after_number(n: u64) -> usize
-    ensures { result ≡ length (decimal n) + 1 }
+// The column after a number at the beginning of a text and one space. Numbers are written one way only.
+fn column_after(n: u64) -> usize
+    ensures { result ≡ length (decimal n) + 2 }
 {
     let mut digits = [0; 20];
-    listing::number(&mut digits, 0, n) + 1
+    listing::number(&mut digits, 0, n) + 2
 }

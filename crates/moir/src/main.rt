@@ -3,8 +3,6 @@
 
 #![tactic(auto)]
 
-use std::io;
-use std::io::Write;
 use std::process::ExitCode;
 
 fn main(rt: HostRuntime) -> ExitCode {
@@ -14,27 +12,17 @@ fn main(rt: HostRuntime) -> ExitCode {
     let mut list = console::large_buffer();
     let out = moir_run::texts::run_text(given, false, &mut list);
     let mut errors = rt.stderr();
-    if let Err(lost) = print(&mut rt.stdout(), &list, out.written) {
-        if console::is_cut(&lost) {
-            return console::status(Err(lost));
-        }
-        let _ = messages::not_written(&mut errors);
-    }
-    let told = moir_messages::explain(
-        &mut errors,
-        out.number,
-        out.entries,
-        out.report,
-        out.all,
-        given,
+    let told = messages::output(&mut rt.stdout(), &mut errors, list.get(..out.written)).and_then(
+        |()| {
+            moir_messages::explain(
+                &mut errors,
+                out.number,
+                out.entries,
+                out.report,
+                out.all,
+                given,
+            )
+        },
     );
     console::status(told)
-}
-
-// The first bytes of the listing, as many as the run wrote.
-fn print(to: &mut impl Write, list: &[u8], written: usize) -> io::Result<()> {
-    if written <= list.len() {
-        return to.write_all(&list[0..written]);
-    }
-    Ok(())
 }

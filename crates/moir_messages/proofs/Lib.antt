@@ -1,1 +1,2 @@
+pub mod MoirCallLaws
 pub mod MoirPoints

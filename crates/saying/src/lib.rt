@@ -3,15 +3,70 @@
 
 #![tactic(auto)]
 
-ghost use Rattle.std.specs.Prelude.{◌≡◌, OnOk};
+ghost use Rattle.std.specs.Prelude.{◌≡◌, ◌++◌, Some, OnOk, codes};
+ghost use Rattle.std.specs.Fmt.{decimal as Fmt·decimal};
 ghost use Rattle.std.specs.Io.KnownBytes.{Appends};
 ghost use Rattle.console.specs.Counts.{IsPrefixLen};
 ghost use Rattle.listing.specs.Decimal.{decimal};
+ghost use Rattle.saying.specs.Told.{place_after, place_in, place_text, position_text, byte_name};
 ghost use Rattle.saying.specs.Within.{within_text};
 
 use positions::Seen;
-use std::io;
 use std::io::Write;
+use std::{fmt, io};
+
+// A place of a text by its line and its column, both from 1 on.
+#[derive(Clone, Copy, PartialEq, Eq)]
+pub struct Place {
+    pub line: usize,
+    pub column: usize,
+}
+
+impl Place {
+    // The place after what was seen.
+    pub fn after(seen: Seen) -> Place
+        ensures { result ≡ place_after seen }
+    {
+        Place {
+            line: seen.feeds.saturating_add(1),
+            column: seen.since.saturating_add(1),
+        }
+    }
+
+    // The place that has so many of the text's bytes before it, or the text's end.
+    pub fn of(text: &[u8], at: usize) -> Place
+        ensures { result ≡ place_in text.now at }
+    {
+        Place::after(positions::look(&text[..within(at, text)]))
+    }
+}
+
+impl fmt::Display for Place {
+    ghost output = { λ p. Some (place_text p) };
+
+    fn fmt<W: fmt::Write>(&self, f: &mut fmt::Formatter<W>) -> fmt::Result {
+        write!(f, "{}:{}", self.line, self.column)
+    }
+}
+
+// A byte by its name, or by itself where it has a shape.
+#[derive(Clone, Copy, PartialEq, Eq)]
+pub struct Named(pub u8);
+
+impl fmt::Display for Named {
+    ghost output = { λ b. Some (byte_name b.0) };
+
+    fn fmt<W: fmt::Write>(&self, f: &mut fmt::Formatter<W>) -> fmt::Result {
+        match self.0 {
+            b'\t' => write!(f, "a tab"),
+            b'\n' => write!(f, "a line feed"),
+            b'\r' => write!(f, "a carriage return"),
+            b' ' => write!(f, "a space"),
+            b'!'..=b'~' => write!(f, "{}", char::from(self.0)),
+            _ => write!(f, "byte {}", self.0),
+        }
+    }
+}
 
 pub fn say<W: Write>(to: &mut W, bytes: &[u8]) -> io::Result<()>
     ensures { OnOk result (Appends (W.contents to.old) (W.contents to.new) bytes.now) }
@@ -25,35 +80,21 @@ pub fn number<W: Write>(to: &mut W, n: u64) -> io::Result<()>
     console::print_decimal(to, n)
 }
 
-// The number after n: what is counted from 1.
-pub fn next(to: &mut impl Write, n: usize) -> io::Result<()> {
-    if n < 18446744073709551615 {
-        number(to, (n + 1) as u64)?;
-    }
-    Ok(())
-}
-
-// Line and column.
-pub fn place(to: &mut impl Write, s: Seen) -> io::Result<()> {
-    next(to, s.feeds)?;
-    say(to, b":")?;
-    next(to, s.since)
-}
-
 // The line of a place of the text.
-pub fn line(to: &mut impl Write, text: &[u8], place: usize) -> io::Result<()> {
-    let seen = positions::look(&text[..within(place, text)]);
-    say(to, b"line ")?;
-    next(to, seen.feeds)
+pub fn line<W: Write>(to: &mut W, text: &[u8], place: usize) -> io::Result<()>
+    ensures { OnOk result (Appends (W.contents to.old) (W.contents to.new)
+        (codes "line " ++ Fmt·decimal (place_in text.now place).line)) }
+{
+    write!(to, "line {}", Place::of(text, place).line)
 }
 
 // Its line and column.
-pub fn position(to: &mut impl Write, text: &[u8], place: usize) -> io::Result<()> {
-    let seen = positions::look(&text[..within(place, text)]);
-    say(to, b"line ")?;
-    next(to, seen.feeds)?;
-    say(to, b", column ")?;
-    next(to, seen.since)
+pub fn position<W: Write>(to: &mut W, text: &[u8], place: usize) -> io::Result<()>
+    ensures { OnOk result (Appends (W.contents to.old) (W.contents to.new)
+        (position_text (place_in text.now place))) }
+{
+    let at = Place::of(text, place);
+    write!(to, "line {}, column {}", at.line, at.column)
 }
 
 // A place of the text, at most its end: what may be lent as its beginning.
@@ -61,28 +102,12 @@ pub fn within(place: usize, text: &[u8]) -> usize
     ensures prefix_len { IsPrefixLen result text.now }
     ensures value { result ≡ within_text place text.now }
 {
-    if place < text.len() {
-        return place;
-    }
-    text.len()
+    place.min(text.len())
 }
 
-// A byte by its name, or by itself where it has a shape.
-pub fn byte(to: &mut impl Write, b: u8) -> io::Result<()> {
-    match b {
-        9 => say(to, b"a tab"),
-        10 => say(to, b"a line feed"),
-        13 => say(to, b"a carriage return"),
-        32 => say(to, b"a space"),
-        33..=126 => shape(to, b),
-        _ => {
-            say(to, b"byte ")?;
-            number(to, b as u64)
-        }
-    }
-}
-
-fn shape(to: &mut impl Write, b: u8) -> io::Result<()> {
-    let one = [b; 1];
-    say(to, &one)
+// A byte by its name.
+pub fn byte<W: Write>(to: &mut W, b: u8) -> io::Result<()>
+    ensures { OnOk result (Appends (W.contents to.old) (W.contents to.new) (byte_name b)) }
+{
+    write!(to, "{}", Named(b))
 }

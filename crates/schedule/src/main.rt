@@ -3,41 +3,29 @@
 
 #![tactic(auto)]
 
-use std::io;
-use std::io::Write;
 use std::process::ExitCode;
 
 fn main(rt: HostRuntime) -> ExitCode {
     let mut text = [0; 16385];
     let got = console::read_full(&mut rt.stdin(), &mut text);
     let given = &text[..got];
-    let mut words = [0; 5120];
     let mut list = console::large_buffer();
+    let mut words = [0; 5120];
     let bench = model::empty_bench();
     let all = tables::records::records_of(tables::records::no_process());
     let out = run::text_run::run_by_value(bench, all, 16, &mut words, given, &mut list);
     let mut errors = rt.stderr();
-    if let Err(lost) = print(&mut rt.stdout(), &list, out.written) {
-        if console::is_cut(&lost) {
-            return console::status(Err(lost));
-        }
-        let _ = messages::not_written(&mut errors);
-    }
-    let told = messages::figure2::explain(
-        &mut errors,
-        out.number,
-        out.entries,
-        out.report,
-        out.all,
-        given,
+    let told = messages::output(&mut rt.stdout(), &mut errors, list.get(..out.written)).and_then(
+        |()| {
+            messages::figure2::explain(
+                &mut errors,
+                out.number,
+                out.entries,
+                out.report,
+                out.all,
+                given,
+            )
+        },
     );
     console::status(told)
-}
-
-// The first bytes of the listing, as many as the run wrote.
-fn print(to: &mut impl Write, list: &[u8], written: usize) -> io::Result<()> {
-    if written <= list.len() {
-        return to.write_all(&list[0..written]);
-    }
-    Ok(())
 }

@@ -1,7 +1,7 @@
--- `messages::numbers::after_number`: the digits of a number, counted by writing them.
+-- `messages::numbers::column_after`: the digits of a number, counted by writing them.
 use native.Mathlib.Omega.{arith}
 use Rattle.listing.proofs.FilledLaws.{most}
-use Rattle.messages.proofs.numbers.after_number.Goals as goal
+use Rattle.messages.proofs.numbers.column_after.Goals as goal
 
 pub number-requires : goal.number-requires
 number-requires c = record { fits = omega (arith, most c.args.n (omega arith)) }

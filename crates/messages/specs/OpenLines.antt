@@ -1,0 +1,55 @@
+-- The words that tell an open call.
+use Rattle.std.specs.Prelude.{ℕ, ◌/◌, ◌%◌, ◌+◌, ◌++◌, List, [], ◌∷◌, cond, eqb, codes, Option, None, Some}
+use Rattle.std.specs.Fmt.{decimal}
+use Rattle.messages.specs.declared.calls.Call.{Call}
+use Rattle.messages.specs.declared.calls.Figure.{Figure}
+use Rattle.messages.specs.declared.calls.Figure.TheVariants.{Two, Six}
+use Rattle.messages.specs.declared.calls.Kind.{Kind}
+use Rattle.messages.specs.declared.calls.Kind.TheVariants.{Ll, Sc, Vl}
+use Rattle.messages.specs.declared.calls.Method.{Method}
+use Rattle.messages.specs.declared.calls.Moves.{Moves}
+use Rattle.messages.specs.declared.calls.Moves.TheVariants.{Whole, Halves}
+use Rattle.messages.specs.declared.calls.Told.{Told}
+use Rattle.messages.specs.declared.calls.Word.{Word}
+
+abbrev pub kind_text : Kind → List ℕ
+kind_text Ll = codes "LL"
+kind_text Sc = codes "SC"
+kind_text Vl = codes "VL"
+
+abbrev pub figure_text : Figure → List ℕ
+figure_text Two = codes "Figure 2"
+figure_text Six = codes "Figure 6"
+
+-- the word at a word place, from 0 on as in a trace; two places make a word that moves in halves
+abbrev pub moved_text : Option Moves → ℕ → ℕ → List ℕ
+moved_text None place w = []
+moved_text (Some Whole) place w = codes ", word " ++ decimal place ++ codes " of " ++ decimal w
+moved_text (Some Halves) place w =
+    codes ", word " ++ decimal (place / 2) ++ codes " of " ++ decimal w
+    ++ codes ", " ++ cond (eqb (place % 2) 0) (codes "low") (codes "high") ++ codes " half"
+
+abbrev pub word_text : Word → List ℕ
+word_text x = moved_text x.moves x.place x.w
+
+abbrev pub steps_text : ℕ → List ℕ
+steps_text n = cond (eqb n 1) (codes "step") (codes "steps")
+
+-- "LL, line 3 of Figure 2, word 0 of 1, low half next, 2 own steps so far"
+abbrev pub told_text : Told → List ℕ
+told_text t =
+    kind_text t.call.kind ++ (codes ", line " ++ (decimal t.call.line
+    ++ (codes " of " ++ (figure_text t.method.figure
+    ++ (moved_text t.call.moves t.call.place t.method.w
+    ++ (codes " next, " ++ (decimal t.call.count
+    ++ (codes " own " ++ (steps_text t.call.count ++ codes " so far")))))))))
+
+-- the line of process p, if its call is open
+abbrev pub open_line : Method → ℕ → Option Call → List ℕ
+open_line m p None = []
+open_line m p (Some c) = codes "open: process " ++ decimal p ++ codes ", " ++ told_text (record { call = c; method = m }) ++ codes "\n"
+
+-- those of the processes from p on, whose calls these are
+unfoldable pub open_lines : Method → ℕ → List (Option Call) → List ℕ
+open_lines m p [] = []
+open_lines m p (c ∷ cs) = open_line m p c ++ open_lines m (p + 1) cs
