@@ -98,7 +98,7 @@ fn by_letter(text: &[u8], w: u64, p: u64) -> Read<'_, Gain>
 
 // An answer line of n processes and w words.
 #[tactic(auto, unfolding(crate::specs::Readers::answer_in))]
-pub fn answer_line(text: &[u8], n: u64, w: u64) -> Read<'_, Gain>
+pub(crate) fn answer_line(text: &[u8], n: u64, w: u64) -> Read<'_, Gain>
     requires { n ≤ 16 }
     ensures { GivesLine result (answer_in n w text.now) }
 {

@@ -62,12 +62,7 @@ fn season<R: Env + Files + Alloc>(
 // A line for each process below n: its number and its two fractions.
 fn print_rows(to: &mut impl Write, rows: [Row; 16], n: usize) -> io::Result<()> {
     for (process, row) in rows.iter().take(n).enumerate() {
-        let (scs, lls) = (row.successes, row.steps);
-        writeln!(
-            to,
-            "{process} {}/{} {}/{}",
-            scs.over, scs.under, lls.over, lls.under
-        )?;
+        writeln!(to, "{process} {} {}", row.successes, row.steps)?;
     }
     Ok(())
 }

@@ -1,4 +1,3 @@
-pub mod OrLaws
 pub mod Theorems
 pub mod TracedLines
 pub mod MarkedLaws

@@ -3,7 +3,7 @@
 
 #![tactic(auto)]
 
-ghost use Rattle.std.specs.Prelude.{◌≡◌};
+ghost use Rattle.std.specs.Prelude.{◌≡◌, ◌++◌, ◌∷◌, Some, decimal};
 ghost use Rattle.sums.specs.declared.NotAdded.TheVariants.{Refused};
 ghost use Rattle.sums.specs.Season.{empty_sums, not_added_number, told_added, added};
 ghost use Rattle.sums.specs.Fractions.{told_table, table};
@@ -13,6 +13,8 @@ mod table_rows;
 
 use answers::NO_SUM;
 use llsc::refusals::Refusal;
+use std::fmt;
+use std::fmt::{Display, Formatter};
 
 // The sums of the listings taken so far, of n processes and w words. Those of processes not below n are never looked
 // at.
@@ -56,6 +58,15 @@ impl From<Refusal> for NotAdded {
 pub struct Fraction {
     pub over: u64,
     pub under: u64,
+}
+
+// Printed as `over/under`.
+impl Display for Fraction {
+    ghost output = { λ f. Some (decimal f.over ++ 47 ∷ decimal f.under) };
+
+    fn fmt<W: fmt::Write>(&self, f: &mut Formatter<W>) -> fmt::Result {
+        write!(f, "{}/{}", self.over, self.under)
+    }
 }
 
 // The fractions of a process: successful SCs over SCs answered, and LL steps over LLs answered.
