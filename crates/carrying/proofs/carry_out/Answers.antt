@@ -1,10 +1,8 @@
 -- `carrying::carry_out`: a turn of the loop is an entry made, refused or not yet over (`LoopLaws`).
 use mathlib.Core.Path.{refl, sym, ◌∙◌}
 use native.Mathlib.Omega.{arith}
-use Prim.Native.Nat.{◌-◌}
 use Rattle.carrying.proofs.LoopLaws.{from_run, first_head, head_all, looking, place_small, taken_at_lem, loop_refused, not_refused, is_refused}
 use Rattle.carrying.proofs.LoopLaws.{loop_sized, loop_more, loop_bank, loop_help, loop_turnable, loop_over, loop_further}
-use borrow.Author.Rules.{rules}
 use Rattle.carrying.proofs.carry_out.Goals as goal
 
 pub loop-at-init : goal.loop-at-init
