@@ -10,7 +10,6 @@ ghost use Rattle.carrying.specs.Carried.{Carries};
 use entry::state::Run;
 use entry::{entries, refusals, turn};
 use notation::entry_words;
-use tables::records;
 use text_runs::{entries as text_entries, limits};
 
 // The run after its list, and its place in it: that of the entry that stopped the run, or the end.
@@ -48,7 +47,7 @@ pub fn carry_out(
         let e = entry_words::entry_in(entries[at]);
         let p = text_entries::process_of(e);
         let k = entries::process_number(p);
-        let process = all.list[records::record_place(k)];
+        let process = all.list[k.record_place()];
         let order = text_entries::order_of(e);
         let room = list.len() - written;
         if let Err(refusal) = refusals::refusal(order, done, room, needed, n, p, process) {
@@ -70,7 +69,7 @@ pub fn carry_out(
         bench.x = x;
         bench.bank[tables::bank_place(i)] = bank;
         bench.help[tables::help_place(j)] = help;
-        all.list[records::record_place(k)] = next;
+        all.list[k.record_place()] = next;
         written = turn.written;
         if entries::stays(e, next.line) {
             continue;

@@ -11,6 +11,15 @@ pub mod refusals;
 #[derive(Clone, Copy, PartialEq, Eq)]
 pub struct ProcessNumber(pub u8);
 
+impl ProcessNumber {
+    // The place of its record among the process records of a bench: no number of another kind has one there.
+    pub fn record_place(self) -> usize
+        ensures { result ≡ self.0 }
+    {
+        self.0 as usize
+    }
+}
+
 // What a command orders.
 #[derive(Clone, Copy, PartialEq, Eq)]
 pub enum Order {

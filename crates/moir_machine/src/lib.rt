@@ -27,5 +27,6 @@ pub fn decide(
 {
     table::refusal(bench, all, len, p, order, value.len(), words.len())?;
     let own = ProcessNumber(p as u8);
-    Ok(orders::obey(order, own, value, bench, all[p], words))
+    let process = all[own.record_place()];
+    Ok(orders::obey(order, own, value, bench, process, words))
 }

@@ -4,8 +4,8 @@ ghost use Rattle.llsc.specs.Refusals.{number_told};
 ghost use Rattle.moir_rows.specs.CommandRows.{decision_number, late_number};
 
 use crate::ranges;
-use llsc::Order;
 use llsc::refusals::Refusal;
+use llsc::{Order, ProcessNumber};
 use moir_model::{Bench, Process, sizes};
 use rows::causes;
 
@@ -44,7 +44,7 @@ fn late_refusal(
     ensures { number_told result ≡ late_number n w all p order value }
 {
     Refusal::NoSuchProcess.if_holds(causes::no_such_process(n, p))?;
-    let process = all[p];
+    let process = all[ProcessNumber(p as u8).record_place()];
     let idle = ranges::is_idle(process);
     rows::table::call_refusal(order, w, value, idle, process.answered)
 }

@@ -3,6 +3,7 @@ ghost use Rattle.std.specs.Prelude.{◌≡◌};
 ghost use Rattle.notation.specs.declared.Entry.TheVariants.{Finish};
 ghost use Rattle.moir_run.specs.Turned.{brought_by, words_brought, stays_in};
 
+use llsc::ProcessNumber;
 use moir_model::Process;
 use moir_rows::ranges;
 use notation::Entry;
@@ -31,7 +32,7 @@ pub fn words_of(e: Entry, w: usize) -> usize
 fn busy(p: u64, all: [Process; 16]) -> bool
     ensures { result ≡ stays_in (Finish p) all }
 {
-    p <= 15 && !ranges::is_idle(all[p as usize])
+    p <= 15 && !ranges::is_idle(all[ProcessNumber(p as u8).record_place()])
 }
 
 // "`!` is steps until the call answers": whether the entry is not over with a step that leaves these records.

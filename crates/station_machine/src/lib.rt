@@ -81,7 +81,7 @@ pub fn decide_by(
         return refused(station, len, refusal);
     }
     let me = ProcessNumber(p as u8);
-    let q = all[p];
+    let q = all[me.record_place()];
     let j = RecordNumber(causes::record_about(order, named, q) as u8);
     let bench = station_records::bench_of(station, j);
     let process = station_records::process_of(j, q);

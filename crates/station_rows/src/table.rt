@@ -4,8 +4,8 @@ ghost use Rattle.llsc.specs.Refusals.{number_told};
 ghost use Rattle.station_rows.specs.StationCommandRows.{station_lent_number, station_memory_number, station_number, station_late_number};
 
 use crate::{causes, ranges};
-use llsc::Order;
 use llsc::refusals::Refusal;
+use llsc::{Order, ProcessNumber};
 use rows::causes as plain;
 use station::{Station, StationProcess};
 
@@ -73,7 +73,7 @@ pub fn late_refusal(
 {
     Refusal::NoSuchProcess.if_holds(plain::no_such_process(station.n, p))?;
     Refusal::NoSuchRecord.if_holds(causes::no_such_record(order, station.r, named))?;
-    let q = all[p];
+    let q = all[ProcessNumber(p as u8).record_place()];
     let answered = causes::answered_for(order, named, q);
     rows::table::call_refusal(order, station.w, value, q.is_at_rest(), answered)
 }

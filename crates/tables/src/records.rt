@@ -24,20 +24,12 @@ pub fn records_of(q: Process) -> Records
     Records { list: [q; 16] }
 }
 
-// The place in the records that a process number names.
-pub fn record_place(p: ProcessNumber) -> usize
-    ensures { result ≡ p.0 }
-{
-    p.0 as usize
-}
-
 // The record of process p replaced.
 pub fn with_record(all: Records, p: ProcessNumber, q: Process) -> Records
     requires { p.0 < 16 }
     ensures { result ≡ record { list = set all.list p.0 q } }
 {
-    let i = p.0 as usize;
     let mut next = all;
-    next.list[i] = q;
+    next.list[p.record_place()] = q;
     next
 }

@@ -9,8 +9,8 @@ ghost use Rattle.station_machine.specs.StationDecision.{station_decided};
 ghost use Rattle.turns_machine.specs.TurnDecision.{unchanged_turn, refused_turn, commanded_turn, commanded_at};
 ghost use Rattle.turns_machine.specs.TurnDecision.{rests_in, turn_decided};
 
-use llsc::Order;
 use llsc::refusals::Refusal;
+use llsc::{Order, ProcessNumber};
 use model::Reply;
 use station::{Station, StationProcess};
 use station_machine::Outcome;
@@ -66,7 +66,7 @@ fn counts_as_idle(n: usize, all: [StationProcess; 16], p: usize) -> bool
     requires { p < 16 }
     ensures { result ≡ rests_in n all p }
 {
-    n <= p || all[p].is_at_rest()
+    n <= p || all[ProcessNumber(p as u8).record_place()].is_at_rest()
 }
 
 // The command that the turn gives, with `left` calls left after it. The lent memory is in order, and is not looked at
