@@ -5,23 +5,6 @@ ghost use Rattle.std.specs.Prelude.{◌≡◌};
 ghost use Rattle.llsc.specs.Rows.{row1, row2, row3, row4, row5, row6, row7, row8};
 
 use llsc::Order;
-use llsc::refusals::Refusal;
-
-pub const N_OUT_OF_RANGE: u8 = Refusal::NOutOfRange as u8;
-
-pub const W_OUT_OF_RANGE: u8 = Refusal::WOutOfRange as u8;
-
-pub const TOO_LITTLE_LENT: u8 = Refusal::TooLittleLent as u8;
-
-pub const NO_SUCH_PROCESS: u8 = Refusal::NoSuchProcess as u8;
-
-pub const START_AT_BUSY: u8 = Refusal::StartAtBusy as u8;
-
-pub const STEP_AT_IDLE: u8 = Refusal::StepAtIdle as u8;
-
-pub const NEVER_LINKED: u8 = Refusal::NeverLinked as u8;
-
-pub const VALUE_NOT_W_WORDS: u8 = Refusal::ValueNotWWords as u8;
 
 pub const MOST_PROCESSES: usize = 16;
 
