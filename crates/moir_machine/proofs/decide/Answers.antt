@@ -9,17 +9,17 @@ overflow_cast-own c =
     let a = c.args in
     omega (arith, process_lent a.bench a.all a.len a.p a.order a.value.now a.words.now (sym c.in_ok-refusal.ensures))
 
-pub offset_bounds-all-p : goal.offset_bounds-all-p
-offset_bounds-all-p c =
+pub offset_bounds-all-record_place : goal.offset_bounds-all-record_place
+offset_bounds-all-record_place c =
     let a = c.args in
-    omega (arith, process_lent a.bench a.all a.len a.p a.order a.value.now a.words.now (sym c.in_ok-refusal.ensures))
+    omega (arith, c.record_place.ensures, process_lent a.bench a.all a.len a.p a.order a.value.now a.words.now (sym c.in_ok-refusal.ensures))
 
-pub bounds-all-p : goal.bounds-all-p
-bounds-all-p c =
+pub bounds-all-record_place : goal.bounds-all-record_place
+bounds-all-record_place c =
     let a = c.args in
-    (process_lent a.bench a.all a.len a.p a.order a.value.now a.words.now (sym c.in_ok-refusal.ensures)).0
+    rw c.record_place.ensures (process_lent a.bench a.all a.len a.p a.order a.value.now a.words.now (sym c.in_ok-refusal.ensures)).0
 
 pub obey-requires : goal.obey-requires
 obey-requires c =
     let a = c.args in
-    obeyable a.bench a.all a.len a.p a.order a.value.now a.words.now (omega arith) (sym c.in_ok-refusal.ensures)
+    rw c.record_place.ensures (obeyable a.bench a.all a.len a.p a.order a.value.now a.words.now (omega arith) (sym c.in_ok-refusal.ensures))
