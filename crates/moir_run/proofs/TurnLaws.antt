@@ -294,6 +294,10 @@ module _ (e : Entry) (s : Progress) where
       either P (ltb (length s.listing - s.written) (room_needed s.traced)) (λ r. refl) (λ r.
       either P (eqb (number_of done.0) 0) (λ a. length-sets s.listing s.written (T.lines_of figure6 s e done)) (λ a. refl)))) (λ q. refl)
 
+-- the record at a process's place is its own
+pub own_at : (all : List Process) {i p : ℕ} → i ≡ p → record_at all (record { 0 = i }) ≡ record_at all (record { 0 = p })
+own_at all e = ap (λ (i : ℕ). record_at all (record { 0 = i })) e
+
 -- an entry that nothing refuses
 module _ {e : Entry} {s : Progress} (f : Free e s) where
   abbrev m₁ : Memory

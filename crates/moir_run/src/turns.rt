@@ -35,7 +35,8 @@ fn accepted(run: Run, e: Entry, list: &mut [u8], words: &mut [u64]) -> Run
     let mut all = run.all;
     let p = process_of(e);
     let own = ProcessNumber(p as u8);
-    let process = all[own.record_place()];
+    let place = own.record_place();
+    let process = all[place];
     let access = written_lines::access_seen(run.traced, bench, own, process, words);
     let value = [entries::value_of(e); 64];
     let count = entries::words_of(e, bench.w);
@@ -44,7 +45,7 @@ fn accepted(run: Run, e: Entry, list: &mut [u8], words: &mut [u64]) -> Run
     let k = run.entries + 1;
     let shown = written_lines::trace_line(access, k, e, moved.reply, list, run.written);
     let written = written_lines::answer_line(moved.reply, p, moved.bench, words, list, shown);
-    all[own.record_place()] = moved.process;
+    all[place] = moved.process;
     Run {
         bench: moved.bench,
         all,

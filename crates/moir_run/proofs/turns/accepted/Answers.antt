@@ -1,23 +1,25 @@
 -- `moir_run::turns::accepted`: the order obeyed, its lines written, its record stored.
-use mathlib.Core.Path.{refl, sym}
+use mathlib.Core.Path.{sym, ap}
+use Prim.Native.Nat.{ℕ}
 use native.Mathlib.Omega.{arith}
+use lib.ListN.{set}
 use lib.Seq.{length-take-le}
-use Rattle.moir_run.proofs.TurnLaws.{process_few, ready_as, count_few, obeyable_as, shown_room, listable_as}
+use Rattle.moir_run.proofs.TurnLaws.{own_at, process_few, ready_as, count_few, obeyable_as, shown_room, listable_as}
 use Rattle.moir_run.proofs.TurnLaws.{carried_as}
 use Rattle.moir_run.proofs.turns.accepted.Goals as goal
 
 pub overflow_cast-own : goal.overflow_cast-own
 overflow_cast-own c = omega (arith, process_few c.requires c.process_of-p.ensures)
 
-pub offset_bounds-all-p : goal.offset_bounds-all-p
-offset_bounds-all-p c = omega (arith, process_few c.requires c.process_of-p.ensures)
+pub offset_bounds-all-place : goal.offset_bounds-all-place
+offset_bounds-all-place c = omega (arith, c.record_place-place.ensures, process_few c.requires c.process_of-p.ensures)
 
-pub bounds-all-p : goal.bounds-all-p
-bounds-all-p c = process_few c.requires c.process_of-p.ensures
+pub bounds-all-place : goal.bounds-all-place
+bounds-all-place c = rw c.record_place-place.ensures (process_few c.requires c.process_of-p.ensures)
 
 pub access_seen-access-requires : goal.access_seen-access-requires
 access_seen-access-requires c =
-    ready_as c.requires c.process_of-p.ensures refl
+    ready_as c.requires c.process_of-p.ensures (own_at c.args.run.all c.record_place-place.ensures)
 
 pub slice_bounds-value-end : goal.slice_bounds-value-end
 slice_bounds-value-end c =
@@ -29,25 +31,26 @@ slice_bounds-obey-end c =
 
 pub obey-moved-requires : goal.obey-moved-requires
 obey-moved-requires c =
-    obeyable_as c.requires c.process_of-p.ensures refl c.value_of-value.ensures c.words_of-count.ensures c.order_of-order.ensures
+    obeyable_as c.requires c.process_of-p.ensures (own_at c.args.run.all c.record_place-place.ensures) c.value_of-value.ensures c.words_of-count.ensures c.order_of-order.ensures
 
 pub trace_line-shown-requires : goal.trace_line-shown-requires
 trace_line-shown-requires c =
-    shown_room c.requires c.process_of-p.ensures refl
+    shown_room c.requires c.process_of-p.ensures (own_at c.args.run.all c.record_place-place.ensures)
     c.value_of-value.ensures c.words_of-count.ensures c.order_of-order.ensures c.obey-moved.ensures c.access_seen-access.ensures
 
 pub answer_line-written-requires : goal.answer_line-written-requires
 answer_line-written-requires c =
-    listable_as c.requires c.process_of-p.ensures refl
+    listable_as c.requires c.process_of-p.ensures (own_at c.args.run.all c.record_place-place.ensures)
     c.value_of-value.ensures c.words_of-count.ensures c.order_of-order.ensures c.obey-moved.ensures c.access_seen-access.ensures c.trace_line-shown.ensures
 
-pub offset_bounds-all-p-2 : goal.offset_bounds-all-p-2
-offset_bounds-all-p-2 c = omega (arith, process_few c.requires c.process_of-p.ensures)
+pub offset_bounds-all-place-2 : goal.offset_bounds-all-place-2
+offset_bounds-all-place-2 c = omega (arith, c.record_place-place.ensures, process_few c.requires c.process_of-p.ensures)
 
-pub bounds-all-p-2 : goal.bounds-all-p-2
-bounds-all-p-2 c = process_few c.requires c.process_of-p.ensures
+pub bounds-all-place-2 : goal.bounds-all-place-2
+bounds-all-place-2 c = rw c.record_place-place.ensures (process_few c.requires c.process_of-p.ensures)
 
 pub returns : goal.returns
 returns c =
-    carried_as c.requires c.process_of-p.ensures refl
-    c.value_of-value.ensures c.words_of-count.ensures c.order_of-order.ensures c.obey-moved.ensures c.access_seen-access.ensures c.trace_line-shown.ensures c.answer_line-written.ensures refl
+    carried_as c.requires c.process_of-p.ensures (own_at c.args.run.all c.record_place-place.ensures)
+    c.value_of-value.ensures c.words_of-count.ensures c.order_of-order.ensures c.obey-moved.ensures c.access_seen-access.ensures c.trace_line-shown.ensures c.answer_line-written.ensures
+    (ap (λ (i : ℕ). set c.args.run.all i c.obey-moved.result.process) c.record_place-place.ensures)
