@@ -16,9 +16,6 @@ use Rattle.logtext.specs.declared.Reading.{Reading}
 use Rattle.logtext.specs.Numbers.{Scan, begin, stopped, is_digit, is_gap, digit_taken, closed, byte_taken, scan, read_numbers, judged_numbers}
 use Rattle.logtext.specs.Readings.{counted, read_into, text_into, stopped_at, digit_read, closed_into, byte_into}
 
-pub gap_last : (b : ℕ) → (b ≡ 32 → ⊥) → (b ≡ 10 → ⊥) → (b ≡ 9 → ⊥) → eqb b 13 ≡ is_gap b
-gap_last b x y z = sym (ap₂ (λ c d. c || (d || (eqb b 9 || eqb b 13))) (ne_eqb b 32 x) (ne_eqb b 10 y) ∙ ap (λ c. c || eqb b 13) (ne_eqb b 9 z))
-
 -- a digit
 module _ (d : ℕ) (r : Reading) where
   abbrev next : Reading

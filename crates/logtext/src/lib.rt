@@ -85,16 +85,7 @@ fn close(r: Reading, numbers: &mut [u64]) -> Reading
 pub fn is_gap(b: u8) -> bool
     ensures { result ≡ is_gap b }
 {
-    if b == b' ' {
-        return true;
-    }
-    if b == b'\n' {
-        return true;
-    }
-    if b == b'\t' {
-        return true;
-    }
-    b == b'\r'
+    matches!(b, b' ' | b'\n' | b'\t' | b'\r')
 }
 
 // One byte more.
