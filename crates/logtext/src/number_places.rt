@@ -17,7 +17,8 @@ pub fn number_place(text: &[u8], index: usize) -> usize
     for (i, b) in text.iter().enumerate() {
         let digit = b.is_ascii_digit();
         if digit && !inside {
-            if left == 0 {
+            let is_last = left == 0;
+            if is_last {
                 return i;
             }
             left -= 1;
