@@ -1,6 +1,5 @@
 // Why a text is no log, and where.
-use logtext::Fault;
-use logtext::number_places;
+use logtext::{Fault, number_places};
 use std::io;
 use std::io::Write;
 
