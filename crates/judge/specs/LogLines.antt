@@ -1,6 +1,6 @@
 -- The line of a log that has another number of numbers than a call: what is at fault where one is lost. A log is written
 -- with N, W and the value first, and then a call to a line.
-use Rattle.std.specs.Prelude.{ℕ, ◌+◌, List, [], ◌∷◌, Bool, true, false, not, cond, eqb, ltb}
+use Rattle.std.specs.Prelude.{ℕ, ◌+◌, List, [], ◌∷◌, Bool, true, false, not, cond, eqb, ltb, None, Some, is_some}
 use Rattle.positions.specs.Positions.{is_digit}
 use Rattle.judge.specs.declared.log_lines.Lines.{Lines}
 
@@ -18,13 +18,9 @@ begins_at digit inside = cond inside false digit
 -- the line is the first that has numbers, but not those of a call, nor of N, W and the value alone
 abbrev pub is_odd_line : Lines → ℕ → Bool
 is_odd_line s w =
-    cond (eqb s.odd 0)
+    cond (is_some s.odd) false
     (cond (eqb s.here 0) false
     (cond (ltb s.before (2 + w)) (ltb (2 + w) (together_of s.before s.here)) (not (eqb s.here (6 + w)))))
-    false
-
-abbrev pub unless_of : Bool → ℕ → ℕ → ℕ
-unless_of new old value = cond new value old
 
 -- the line ends here
 unfoldable pub ended_line : Lines → ℕ → Lines
@@ -34,9 +30,7 @@ ended_line s w = record {
   here = 0;
   inside = false;
   calls = more_by s.calls (eqb s.here (6 + w));
-  odd = unless_of (is_odd_line s w) s.odd s.line;
-  numbers = unless_of (is_odd_line s w) s.numbers s.here;
-  from = unless_of (is_odd_line s w) s.from s.before;
+  odd = cond (is_odd_line s w) (Some (record { line = s.line; numbers = s.here; from = s.before })) s.odd;
 }
 
 -- one byte more
@@ -48,15 +42,13 @@ within_line b s = record {
   inside = is_digit b;
   calls = s.calls;
   odd = s.odd;
-  numbers = s.numbers;
-  from = s.from;
 }
 
 unfoldable pub on_byte : Lines → ℕ → ℕ → Lines
 on_byte s b w = cond (eqb b 10) (ended_line s w) (within_line b s)
 
 abbrev pub at_start : Lines
-at_start = record { line = 1; before = 0; here = 0; inside = false; calls = 0; odd = 0; numbers = 0; from = 0 }
+at_start = record { line = 1; before = 0; here = 0; inside = false; calls = 0; odd = None }
 
 unfoldable pub lines_from : List ℕ → ℕ → Lines → Lines
 lines_from [] w s = ended_line s w

@@ -1,5 +1,5 @@
 // Why a text is no log, and where.
-use logtext::number_places;
+use logtext::{Fault, number_places};
 use std::io;
 use std::io::Write;
 
@@ -17,14 +17,14 @@ pub(crate) fn lacks_n_and_w(to: &mut impl Write, count: usize) -> io::Result<()>
 }
 
 // The fault, and how many numbers were read before it.
-pub(crate) fn tell(to: &mut impl Write, fault: u8, count: usize, text: &[u8]) -> io::Result<()> {
+pub(crate) fn tell(to: &mut impl Write, fault: Fault, count: usize, text: &[u8]) -> io::Result<()> {
     match fault {
-        logtext::STRAY_BYTE => stray(to, number_places::stray_place(text), text),
-        logtext::TOO_LARGE => {
+        Fault::StrayByte => stray(to, number_places::stray_place(text), text),
+        Fault::TooLarge => {
             saying::position(to, text, number_places::number_place(text, count))?;
             saying::say(to, b": a number of 2^64 or more")
         }
-        _ => {
+        Fault::TooMany => {
             saying::position(to, text, number_places::number_place(text, count))?;
             saying::say(to, b": the text has more than 65,536 numbers")
         }

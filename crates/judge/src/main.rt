@@ -39,10 +39,10 @@ fn told(
     numbers: &[u64],
     text: &[u8],
 ) -> io::Result<()> {
-    if reading.fault != 0 {
-        return faults::tell(errors, reading.fault, reading.count, text);
+    match reading.fault {
+        Some(fault) => faults::tell(errors, fault, reading.count, text),
+        None => answer(to, errors, numbers, reading.count, text),
     }
-    answer(to, errors, numbers, reading.count, text)
 }
 
 // Room for 512 calls of 64 words and their spaces, twice and more.

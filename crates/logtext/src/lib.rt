@@ -6,38 +6,33 @@ pub mod number_places;
 
 ghost use Rattle.std.specs.Prelude.{◌≡◌, ◌≤◌, ◌<◌, length};
 ghost use Rattle.logtext.specs.Numbers.{is_gap, judged_numbers};
-ghost use Rattle.logtext.specs.Readings.{text_into, stopped_at, digit_read, closed_into, byte_into};
+ghost use Rattle.logtext.specs.Readings.{text_into, stopped_at, with_digit, digit_read, closed_into, byte_into};
 
 use verdicts::Judgement;
 
-pub const STRAY_BYTE: u8 = 1;
+// Why a reading stopped: a byte that is neither digit nor gap, a number of 2^64 or more, or more numbers than there is
+// room for.
+#[derive(Clone, Copy, PartialEq, Eq)]
+pub enum Fault {
+    StrayByte,
+    TooLarge,
+    TooMany,
+}
 
-pub const TOO_LARGE: u8 = 2;
-
-pub const TOO_MANY: u8 = 3;
-
-// The largest number of 64 bits, and its tenth part.
-const LARGEST: u64 = 18446744073709551615;
-
-const TENTH: u64 = 1844674407370955161;
-
-// Why the reading stopped, 0 for not; whether a number is being read, and what it is so far; how many were read.
+// Why the reading stopped, if it did; the number that is being read, if there is one; how many were read.
 #[derive(Clone, Copy)]
 pub struct Reading {
-    pub fault: u8,
-    pub inside: bool,
-    pub value: u64,
+    pub fault: Option<Fault>,
+    pub number: Option<u64>,
     pub count: usize,
 }
 
-fn stopped(r: Reading, fault: u8) -> Reading
+fn stopped(r: Reading, fault: Fault) -> Reading
     ensures { result ≡ stopped_at fault r }
 {
     Reading {
-        fault: fault,
-        inside: r.inside,
-        value: r.value,
-        count: r.count,
+        fault: Some(fault),
+        ..r
     }
 }
 
@@ -46,19 +41,21 @@ fn digit(r: Reading, d: u64) -> Reading
     requires { d < 10 }
     ensures { result ≡ digit_read d r }
 {
-    if r.value > TENTH {
-        return stopped(r, TOO_LARGE);
+    match with_digit(r.number.unwrap_or(0), d) {
+        Some(number) => Reading {
+            fault: None,
+            number: Some(number),
+            count: r.count,
+        },
+        None => stopped(r, Fault::TooLarge),
     }
-    let tens = r.value * 10;
-    if tens > LARGEST - d {
-        return stopped(r, TOO_LARGE);
-    }
-    Reading {
-        fault: 0,
-        inside: true,
-        value: tens + d,
-        count: r.count,
-    }
+}
+
+// The number with one digit more, where it is below 2^64.
+fn with_digit(number: u64, d: u64) -> Option<u64>
+    ensures { result ≡ with_digit number d }
+{
+    number.checked_mul(10)?.checked_add(d)
 }
 
 // The number being read, if there is one, ends here.
@@ -66,35 +63,25 @@ fn close(r: Reading, numbers: &mut [u64]) -> Reading
     requires { r.count ≤ length numbers.old }
     ensures { (result, numbers.new) ≡ closed_into r numbers.old }
 {
-    if !r.inside {
-        return r;
+    let number = match r.number {
+        Some(number) => number,
+        None => return r,
+    };
+    if r.count == numbers.len() {
+        return stopped(r, Fault::TooMany);
     }
-    let count = r.count;
-    if count >= numbers.len() {
-        return stopped(r, TOO_MANY);
-    }
-    numbers[count] = r.value;
+    numbers[r.count] = number;
     Reading {
-        fault: 0,
-        inside: false,
-        value: 0,
-        count: count + 1,
+        fault: None,
+        number: None,
+        count: r.count + 1,
     }
 }
 
 pub fn is_gap(b: u8) -> bool
     ensures { result ≡ is_gap b }
 {
-    if b == b' ' {
-        return true;
-    }
-    if b == b'\n' {
-        return true;
-    }
-    if b == b'\t' {
-        return true;
-    }
-    b == b'\r'
+    matches!(b, b' ' | b'\n' | b'\t' | b'\r')
 }
 
 // One byte more.
@@ -102,16 +89,11 @@ fn byte(r: Reading, b: u8, numbers: &mut [u64]) -> Reading
     requires { r.count ≤ length numbers.old }
     ensures { (result, numbers.new) ≡ byte_into b r numbers.old }
 {
-    if b < b'0' {
-        if is_gap(b) {
-            return close(r, numbers);
-        }
-        return stopped(r, STRAY_BYTE);
+    match b {
+        b'0'..=b'9' => digit(r, u64::from(b - b'0')),
+        _ if is_gap(b) => close(r, numbers),
+        _ => stopped(r, Fault::StrayByte),
     }
-    if b <= b'9' {
-        return digit(r, (b - b'0') as u64);
-    }
-    stopped(r, STRAY_BYTE)
 }
 
 // The numbers of a text, as many as there is room for; what lies behind them in the lent list stays.
@@ -119,18 +101,15 @@ pub fn read(text: &[u8], numbers: &mut [u64]) -> Reading
     ensures { (result, numbers.new) ≡ text_into text.now numbers.old }
 {
     let mut r = Reading {
-        fault: 0,
-        inside: false,
-        value: 0,
+        fault: None,
+        number: None,
         count: 0,
     };
-    let mut i = 0;
-    while i < text.len() {
-        r = byte(r, text[i], numbers);
-        if r.fault != 0 {
+    for b in text {
+        r = byte(r, *b, numbers);
+        if r.fault.is_some() {
             return r;
         }
-        i += 1;
     }
     close(r, numbers)
 }

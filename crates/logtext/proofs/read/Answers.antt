@@ -1,32 +1,17 @@
--- `logtext::read` meets its contract.
+-- `logtext::read`: what is left of the text, read on, leads to the same.
+use mathlib.Core.Path.{sym, ◌∙◌}
 use native.Mathlib.Omega.{arith}
-use Rattle.logtext.proofs.ReadingLaws.{read_begin, read_stop, stop_long, read_go, read_end, end_long}
-use borrow.Author.Rules.{rules}
+use Rattle.logtext.proofs.ReadingLaws.{read_begin, read_stop, read_go, read_end}
 use Rattle.logtext.proofs.read.Goals as goal
 
-pub loop-i-init : goal.loop-i-init
-loop-i-init c = read_begin _ _
+pub loop-b-init : goal.loop-b-init
+loop-b-init c = read_begin _ _
 
-pub shape_of-numbers-then-r-ne0 : goal.shape_of-numbers-then-r-ne0
-shape_of-numbers-then-r-ne0 c =
-    let v = c.loop-i.invariant in
-    stop_long _ _ _ _ _ v (search rules) _ _ c.byte-r.ensures c.if-r-ne0.true
+pub returns-then-is_some : goal.returns-then-is_some
+returns-then-is_some c = read_stop _ _ _ _ _ c.loop-b.invariant (omega arith) _ _ c.byte-r.ensures (sym c.is_some.ensures ∙ c.if-is_some.true)
 
-pub returns-then-r-ne0 : goal.returns-then-r-ne0
-returns-then-r-ne0 c =
-    let v = c.loop-i.invariant in
-    read_stop _ _ _ _ _ v (search rules) _ _ c.byte-r.ensures c.if-r-ne0.true
-
-pub loop-i-smaller : goal.loop-i-smaller
-loop-i-smaller c = omega arith
-
-pub loop-i-preserved : goal.loop-i-preserved
-loop-i-preserved c =
-    let v = c.loop-i.invariant in
-    read_go _ _ _ _ _ v (search rules) _ _ c.byte-r.ensures c.if-r-ne0.false
-
-pub shape_of-numbers : goal.shape_of-numbers
-shape_of-numbers c = end_long _ _ _ _ _ c.loop-i.invariant (search rules) _ _ c.close.ensures
+pub loop-b-preserved : goal.loop-b-preserved
+loop-b-preserved c = read_go _ _ _ _ _ c.loop-b.invariant (omega arith) _ _ c.byte-r.ensures (sym c.is_some.ensures ∙ c.if-is_some.false)
 
 pub returns : goal.returns
-returns c = read_end _ _ _ _ _ c.loop-i.invariant (search rules) _ _ c.close.ensures
+returns c = read_end _ _ _ _ _ c.loop-b.invariant (omega (arith, c.loop-b-test.false)) _ _ c.close.ensures

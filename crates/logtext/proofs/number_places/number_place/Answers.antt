@@ -1,42 +1,29 @@
--- `logtext::number_places::number_place` meets its contract.
+-- `logtext::number_places::number_place`: what is left of the text leads to the same place.
+use mathlib.Core.Path.{◌≡◌}
+use mathlib.Core.Bool.{false, not, ◌&&◌}
 use native.Mathlib.Omega.{arith}
-use Rattle.logtext.proofs.PlaceLaws.{place_stop, place_go, place_end}
-use borrow.Author.Rules.{rules}
+use Rattle.logtext.proofs.PlaceLaws.{place_stop, place_first, place_other, place_end}
 use Rattle.logtext.proofs.number_places.number_place.Goals as goal
-
-pub loop-i-init : goal.loop-i-init
-loop-i-init c = record { low = omega arith; same = omega arith }
-
-pub bounds-text-i : goal.bounds-text-i
-bounds-text-i c = omega arith
-
-pub is_digit-digit-requires : goal.is_digit-digit-requires
-is_digit-digit-requires c = tt
-
-pub begins-first-requires : goal.begins-first-requires
-begins-first-requires c = tt
-
-pub is_last-requires : goal.is_last-requires
-is_last-requires c = tt
+use Rattle.logtext.proofs.number_places.number_place.Goals.{then-digit+then-not-inside+else-is_last, else-digit, else-digit-via-then-digit+else-not-inside, else-digit-via-else-digit}
 
 pub returns-then-is_last : goal.returns-then-is_last
 returns-then-is_last c =
-    place_stop _ _ _ _ _ c.loop-i.invariant c.loop-i-test.true _ c.is_digit-digit.ensures
-    _ c.begins-first.ensures _ c.is_last.ensures c.if-is_last.true
-
-pub passed-left-requires : goal.passed-left-requires
-passed-left-requires c = tt
-
-pub overflow_add-i : goal.overflow_add-i
-overflow_add-i c = omega arith
-
-pub loop-i-smaller : goal.loop-i-smaller
-loop-i-smaller c = omega arith
+    place_stop _ _ _ _ _ c.loop-i.invariant (omega arith) _ c.is_ascii_digit-digit.ensures.value c.if-digit.true c.if-not-inside.true c.if-is_last.true
 
 pub loop-i-preserved : goal.loop-i-preserved
 loop-i-preserved c =
-    place_go _ _ _ _ _ c.loop-i.invariant c.loop-i-test.true _ c.is_digit-digit.ensures
-    _ c.begins-first.ensures _ c.is_last.ensures c.if-is_last.false _ c.passed-left.ensures
+    let digit = c.is_ascii_digit-digit in
+    elim c.if-digit.branch [
+      | then-digit+then-not-inside+else-is_last w ↦
+          place_first _ _ _ _ _ c.loop-i.invariant (omega arith) _ digit.ensures.value w.if-digit.true w.if-not-inside.true w.if-is_last.false _ _ w.left-is w.inside-is
+      | else-digit w ↦
+          let none : (digit.result && not c.loop-i.inside) ≡ false =
+          elim w.else-digit.branch [
+            | else-digit-via-then-digit+else-not-inside w' ↦ simp (w'.if-digit.true, w'.if-not-inside.false)
+            | else-digit-via-else-digit w' ↦ simp w'.if-digit.false
+          ] in
+          place_other _ _ _ _ _ c.loop-i.invariant (omega arith) _ digit.ensures.value none _ _ w.left-is w.inside-is
+    ]
 
 pub returns : goal.returns
-returns c = place_end _ _ _ _ _ c.loop-i.invariant (search rules)
+returns c = place_end _ _ _ _ _ c.loop-i.invariant (omega (arith, c.loop-i-test.false))
