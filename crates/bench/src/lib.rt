@@ -76,6 +76,7 @@ pub fn set_up(
 }
 
 // What a text run returns: its number, 0 at `end`, the entries done and the listing bytes written.
+// Kept: 01 promises its users a number.
 #[derive(Clone, Copy)]
 pub struct TextRun {
     pub number: u8,

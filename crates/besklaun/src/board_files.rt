@@ -15,6 +15,7 @@ pub fn besklaun_merge(first: &[u8], second: &[u8], out: &mut [u8]) -> Merged
 }
 
 // What a run of a file returns: its number, 0 at `end`, the commands done and the bytes written.
+// Kept: no enum crosses to C.
 #[repr(C)]
 #[derive(Clone, Copy)]
 pub struct BoardRun {

@@ -7,6 +7,7 @@ ghost use Rattle.besklaun.specs.Judgements.{judgement_of, plain_no, fault_of, re
 use verdicts::{Fault, Place, Shown, Verdict};
 
 // A verdict in C's terms: the number of the refusal, 0 for none, and whether the log earns a yes.
+// Kept: no enum crosses to C.
 #[repr(C)]
 #[derive(Clone, Copy)]
 pub struct Judgement {

@@ -6,6 +6,7 @@ ghost use Rattle.besklaun.specs.TurnBytes.{written, schedule_into, number_told, 
 use enumeration::Schedule;
 
 // The number of the refusal, 0 for none, and the count of the turns.
+// Kept: no enum crosses to C.
 #[repr(C)]
 #[derive(Clone, Copy)]
 pub struct FoundTurns {
@@ -14,6 +15,7 @@ pub struct FoundTurns {
 }
 
 // The number of the refusal, 0 for none, and the schedule's own.
+// Kept: no enum crosses to C.
 #[repr(C)]
 #[derive(Clone, Copy)]
 pub struct TurnsNumber {
@@ -22,6 +24,7 @@ pub struct TurnsNumber {
 }
 
 // The number of the refusal, 0 for none, and whether the schedule was the last.
+// Kept: no enum crosses to C.
 #[repr(C)]
 #[derive(Clone, Copy)]
 pub struct TurnsAfter {

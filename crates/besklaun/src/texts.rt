@@ -3,6 +3,7 @@ ghost use Rattle.std.specs.Prelude.{◌≡◌, true, false};
 ghost use Rattle.besklaun.specs.OwnBench.{text_run};
 
 // What a text run returns: its number, 0 at `end`, the entries done and the bytes written.
+// Kept: no enum crosses to C.
 #[repr(C)]
 #[derive(Clone, Copy)]
 pub struct TextRun {

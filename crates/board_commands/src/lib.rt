@@ -9,6 +9,7 @@ pub mod running;
 use station::{Station, StationProcess};
 
 // What a run returns: the number of the refusal that ended it, 0 for none, and the commands done.
+// Kept: 02 promises its users a number.
 #[derive(Clone, Copy)]
 pub struct FileRun {
     pub number: u8,

@@ -6,6 +6,7 @@ use logtext::number_places;
 use std::io;
 use std::io::Write;
 
+// Kept: where a call's six numbers stand among its own; no kinds.
 pub(crate) const PROCESS: usize = 0;
 
 pub(crate) const KIND: usize = 1;

@@ -52,6 +52,7 @@ pub fn set_up(
 ) -> u8
     ensures { (result, memory bench.new records.new words.new) ≡ set_up (memory bench.old records.old words.old) n w value.now }
 {
+    // Kept: 01 promises its users a number.
     match setting_up::prepare(*bench, records.len(), n, w, value, words) {
         Ok(next) => {
             *bench = next;
