@@ -33,21 +33,24 @@ module _ (text : List ℕ) (index i left : ℕ) (inside : Bool) (v : PlaceInv te
         ∙ ap (λ d. cond ((d && not inside) && eqb left 0) 0 (suc (place_from (passed (d && not inside) left) d (drop (suc i) text)))) (sym ed)
         ∙ ap leads e
 
-    further : {first : Bool} (k : ℕ) (d : Bool) → (digit && not inside) ≡ first → (first && eqb left 0) ≡ false → k ≡ passed first left → d ≡ digit
-        → PlaceInv text index (i + 1) k d
-    further {first} k d e more ek ed' =
+    further : {first : Bool} (k : ℕ) (d : Bool) → (digit && not inside) ≡ first → (first && eqb left 0) ≡ false → k ≡ passed first left
+        → d ≡ digit → PlaceInv text index (i + 1) k d
+    further {first} k d e more ek same =
         let next = place_from (passed first left) digit (drop (suc i) text) in
         let z = one e ∙ ap (λ l. cond l 0 (suc next)) more in let y = v.same in
-        let x : place_from k d (drop (i + 1) text) ≡ next = ap₂ (λ k d. place_from k d (drop (i + 1) text)) ek ed' ∙ ap (λ j. place_from (passed first left) digit (drop j text)) (add-one i) in
+        let x : place_from k d (drop (i + 1) text) ≡ next =
+        ap₂ (λ k d. place_from k d (drop (i + 1) text)) ek same
+        ∙ ap (λ j. place_from (passed first left) digit (drop j text)) (add-one i) in
         record { low = omega arith; same = omega (arith, z, y, x) }
 
     pub place_stop : digit ≡ true → inside ≡ false → left ≡ 0 → i ≡ place_of index text
-    place_stop e n l = let z = one (ap₂ (λ d s. d && not s) e n) ∙ ap leads-at (eq-eqb left 0 l) in let y = v.same in omega (arith, z, y)
-      where
-        leads-at : Bool → ℕ
-        leads-at none = cond none 0 (suc (place_from (left - 1) digit (drop (suc i) text)))
+    place_stop e n l =
+        let next = place_from (left - 1) digit (drop (suc i) text) in
+        let z = one (ap₂ (λ d s. d && not s) e n) ∙ ap (λ l. cond l 0 (suc next)) (eq-eqb left 0 l) in
+        let y = v.same in omega (arith, z, y)
 
-    pub place_first : digit ≡ true → inside ≡ false → (left ≡ 0 → ⊥) → (k : ℕ) (d : Bool) → k ≡ left - 1 → d ≡ digit → PlaceInv text index (i + 1) k d
+    pub place_first : digit ≡ true → inside ≡ false → (left ≡ 0 → ⊥) → (k : ℕ) (d : Bool) → k ≡ left - 1 → d ≡ digit
+        → PlaceInv text index (i + 1) k d
     place_first e n l k d ek = further k d (ap₂ (λ d s. d && not s) e n) (ne_eqb left 0 l) ek
 
     pub place_other : (digit && not inside) ≡ false → (k : ℕ) (d : Bool) → k ≡ left → d ≡ digit → PlaceInv text index (i + 1) k d
@@ -56,7 +59,8 @@ module _ (text : List ℕ) (index i left : ℕ) (inside : Bool) (v : PlaceInv te
   pub place_end : length text ≤ i → length text ≡ place_of index text
   unfolding place_from
   place_end h =
-      let z : place_from left inside (drop i text) ≡ 0 = ap (place_from left inside) (drop_of_length-le text {i = i} h) in let y = v.same in omega (arith, z, y, v.low)
+      let z : place_from left inside (drop i text) ≡ 0 = ap (place_from left inside) (drop_of_length-le text {i = i} h) in
+      let y = v.same in omega (arith, z, y, v.low)
 
 -- the first byte that is in no number, as the library looks for it
 first_stray : (text : List ℕ) → position_or_len is_stray text ≡ stray_place text
@@ -64,7 +68,8 @@ unfolding stray_place
 first_stray [] = refl
 first_stray (b ∷ bs) = go (is_stray b) (first_stray bs)
   where
-    go : (t : Bool) → position_or_len is_stray bs ≡ stray_place bs → cond (not t) (1 + position_or_len is_stray bs) 0 ≡ cond t 0 (suc (stray_place bs))
+    go : (t : Bool) → position_or_len is_stray bs ≡ stray_place bs
+        → cond (not t) (1 + position_or_len is_stray bs) 0 ≡ cond t 0 (suc (stray_place bs))
     go true e = refl
     go false e = omega (arith, e)
 

@@ -75,7 +75,8 @@ module _ (ns : List ℕ) (s : Scan) where
   byte_held : (b : ℕ) → byte_into b (counted s) held ≡ read_into ns (byte_taken room b s)
   byte_held b = go (is_digit b) (is_gap b)
     where
-      go : (digit gap : Bool) → class (counted s) held digit gap b ≡ read_into ns (cond digit (digit_taken (b - 48) s) (cond gap (closed room s) (stopped StrayByte s)))
+      go : (digit gap : Bool) → class (counted s) held digit gap b
+          ≡ read_into ns (cond digit (digit_taken (b - 48) s) (cond gap (closed room s) (stopped StrayByte s)))
       go true gap = digit_held (b - 48)
       go false true = close_held
       go false false = refl

@@ -4,18 +4,21 @@ use mathlib.Core.Bool.{false, not, ◌&&◌}
 use native.Mathlib.Omega.{arith}
 use Rattle.logtext.proofs.PlaceLaws.{place_stop, place_first, place_other, place_end}
 use Rattle.logtext.proofs.number_places.number_place.Goals as goal
-use Rattle.logtext.proofs.number_places.number_place.Goals.{then-digit+then-not-inside+else-is_last, else-digit, else-digit-via-then-digit+else-not-inside, else-digit-via-else-digit}
+use Rattle.logtext.proofs.number_places.number_place.Goals.{then-digit+then-not-inside+else-is_last, else-digit}
+use Rattle.logtext.proofs.number_places.number_place.Goals.{else-digit-via-then-digit+else-not-inside, else-digit-via-else-digit}
 
 pub returns-then-is_last : goal.returns-then-is_last
 returns-then-is_last c =
-    place_stop _ _ _ _ _ c.loop-i.invariant (omega arith) _ c.is_ascii_digit-digit.ensures.value c.if-digit.true c.if-not-inside.true c.if-is_last.true
+    place_stop _ _ _ _ _ c.loop-i.invariant (omega arith) _ c.is_ascii_digit-digit.ensures.value
+    c.if-digit.true c.if-not-inside.true c.if-is_last.true
 
 pub loop-i-preserved : goal.loop-i-preserved
 loop-i-preserved c =
     let digit = c.is_ascii_digit-digit in
     elim c.if-digit.branch [
       | then-digit+then-not-inside+else-is_last w ↦
-          place_first _ _ _ _ _ c.loop-i.invariant (omega arith) _ digit.ensures.value w.if-digit.true w.if-not-inside.true w.if-is_last.false _ _ w.left-is w.inside-is
+          place_first _ _ _ _ _ c.loop-i.invariant (omega arith) _ digit.ensures.value
+          w.if-digit.true w.if-not-inside.true w.if-is_last.false _ _ w.left-is w.inside-is
       | else-digit w ↦
           let none : (digit.result && not c.loop-i.inside) ≡ false =
           elim w.else-digit.branch [
