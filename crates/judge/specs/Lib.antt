@@ -1,2 +1,3 @@
+pub mod CallText
 pub mod LogCalls
 pub mod LogLines

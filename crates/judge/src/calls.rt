@@ -1,23 +1,119 @@
-// The calls of a log, by their index, as a message shows them.
-ghost use Rattle.std.specs.Prelude.{◌≡◌, ◌≤◌, ◌-◌, length, get_or};
+// A log and its calls, by their index, as a message shows them.
+ghost use Rattle.std.specs.Prelude.{◌≡◌, ◌≤◌, ◌-◌, length, get_or, Some};
 ghost use Rattle.judge.specs.LogCalls.{width_told, first_of, part_of};
+ghost use Rattle.judge.specs.CallText.{kind_text, name_text, span_text};
 
 use logtext::number_places;
-use std::io;
-use std::io::Write;
+use saying::Place;
+use std::fmt;
 
-// Kept: where a call's six numbers stand among its own; no kinds.
-pub(crate) const PROCESS: usize = 0;
+// The numbers of a log's text, and the text.
+#[derive(Clone, Copy)]
+pub(crate) struct Log<'a> {
+    pub(crate) numbers: &'a [u64],
+    pub(crate) text: &'a [u8],
+}
 
-pub(crate) const KIND: usize = 1;
+// A call: the line in which it begins, its six numbers and its words.
+#[derive(Clone, Copy)]
+pub(crate) struct Call<'a> {
+    pub(crate) line: usize,
+    pub(crate) process: u64,
+    pub(crate) kind: u64,
+    pub(crate) start: u64,
+    pub(crate) answer: u64,
+    pub(crate) truth: u64,
+    pub(crate) moment: u64,
+    pub(crate) words: Words<'a>,
+}
 
-pub(crate) const START: usize = 2;
+impl<'a> Log<'a> {
+    pub(crate) fn call(self, index: usize) -> Call<'a>
+        ensures process { result.process ≡ part_of self.entry.numbers.now index 0 }
+        ensures kind { result.kind ≡ part_of self.entry.numbers.now index 1 }
+        ensures start { result.start ≡ part_of self.entry.numbers.now index 2 }
+        ensures answer { result.answer ≡ part_of self.entry.numbers.now index 3 }
+        ensures truth { result.truth ≡ part_of self.entry.numbers.now index 4 }
+        ensures moment { result.moment ≡ part_of self.entry.numbers.now index 5 }
+    {
+        let numbers = self.numbers;
+        Call {
+            line: self.line(index),
+            process: part(numbers, index, 0),
+            kind: part(numbers, index, 1),
+            start: part(numbers, index, 2),
+            answer: part(numbers, index, 3),
+            truth: part(numbers, index, 4),
+            moment: part(numbers, index, 5),
+            words: words_from(numbers, first_of(numbers, index) + 6),
+        }
+    }
 
-pub(crate) const ANSWER: usize = 3;
+    // The line in which a call begins.
+    pub(crate) fn line(self, index: usize) -> usize {
+        let place = number_places::number_place(self.text, first_of(self.numbers, index));
+        Place::of(self.text, place).line
+    }
 
-pub(crate) const TRUTH: usize = 4;
+    // The initial value.
+    pub(crate) fn value(self) -> Words<'a> {
+        words_from(self.numbers, 2)
+    }
+}
 
-pub(crate) const MOMENT: usize = 5;
+// A call by its process and kind.
+impl fmt::Display for Call<'_> {
+    ghost output = { λ c. Some (name_text c.process c.kind) };
+
+    fn fmt<W: fmt::Write>(&self, f: &mut fmt::Formatter<W>) -> fmt::Result {
+        let kind = kind_word(self.kind);
+        write!(f, "process {}'s {kind}", self.process)
+    }
+}
+
+fn kind_word(kind: u64) -> &'static str
+    ensures { result.now ≡ kind_text kind }
+{
+    match kind {
+        1 => "LL",
+        2 => "SC",
+        3 => "VL",
+        _ => "call",
+    }
+}
+
+// A call with its two places.
+#[derive(Clone, Copy)]
+pub(crate) struct Span<'a>(pub(crate) Call<'a>);
+
+impl fmt::Display for Span<'_> {
+    ghost output = { λ s. Some (span_text s.0.process s.0.kind s.0.start s.0.answer) };
+
+    fn fmt<W: fmt::Write>(&self, f: &mut fmt::Formatter<W>) -> fmt::Result {
+        let call = self.0;
+        write!(f, "{call} from {} to {}", call.start, call.answer)
+    }
+}
+
+// The words of a value or of a call, with a space between two.
+#[derive(Clone, Copy)]
+pub(crate) struct Words<'a>(&'a [u64]);
+
+impl fmt::Display for Words<'_> {
+    fn fmt<W: fmt::Write>(&self, f: &mut fmt::Formatter<W>) -> fmt::Result {
+        for (k, n) in self.0.iter().enumerate() {
+            let space = if k == 0 { "" } else { " " };
+            write!(f, "{space}{n}")?;
+        }
+        Ok(())
+    }
+}
+
+// The W numbers from an index on, as far as there are so many.
+fn words_from<'a>(numbers: &'a [u64], from: usize) -> Words<'a> {
+    let rest = &numbers[from.min(numbers.len())..];
+    Words(&rest[..width(numbers).min(rest.len())])
+}
 
 // A number of the text, 0 where there is none.
 pub(crate) fn at(numbers: &[u64], i: usize) -> u64
@@ -51,7 +147,7 @@ pub(crate) fn first_of(numbers: &[u64], call: usize) -> usize
 }
 
 // One of a call's six numbers.
-pub(crate) fn part(numbers: &[u64], call: usize, k: usize) -> u64
+fn part(numbers: &[u64], call: usize, k: usize) -> u64
     requires { k ≤ 5 }
     ensures { result ≡ part_of numbers.now call k }
 {
@@ -63,49 +159,4 @@ pub(crate) fn after(numbers: &[u64], index: usize) -> u64
     ensures { result ≡ length numbers.now - index }
 {
     numbers.len().saturating_sub(index) as u64
-}
-
-// The line in which a call begins.
-pub(crate) fn line(
-    to: &mut impl Write,
-    numbers: &[u64],
-    call: usize,
-    text: &[u8],
-) -> io::Result<()> {
-    saying::line(
-        to,
-        text,
-        number_places::number_place(text, first_of(numbers, call)),
-    )
-}
-
-// A call by its process and kind.
-pub(crate) fn name(to: &mut impl Write, numbers: &[u64], call: usize) -> io::Result<()> {
-    saying::say(to, b"process ")?;
-    saying::number(to, part(numbers, call, PROCESS))?;
-    saying::say(to, b"'s ")?;
-    match part(numbers, call, KIND) {
-        1 => saying::say(to, b"LL"),
-        2 => saying::say(to, b"SC"),
-        3 => saying::say(to, b"VL"),
-        _ => saying::say(to, b"call"),
-    }
-}
-
-// The W numbers from an index on.
-pub(crate) fn words(to: &mut impl Write, numbers: &[u64], from: usize) -> io::Result<()>
-    requires { from ≤ 5000006 }
-{
-    for k in 0..width(numbers) {
-        word(to, at(numbers, from + k), k)?;
-    }
-    Ok(())
-}
-
-// A word, with a space after the one before it.
-fn word(to: &mut impl Write, n: u64, k: usize) -> io::Result<()> {
-    if k > 0 {
-        saying::say(to, b" ")?;
-    }
-    saying::number(to, n)
 }

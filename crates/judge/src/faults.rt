@@ -1,19 +1,21 @@
 // Why a text is no log, and where.
 use logtext::{Fault, number_places};
+use saying::Named;
 use std::io;
 use std::io::Write;
 
 pub(crate) fn too_long(to: &mut impl Write) -> io::Result<()> {
-    saying::say(
+    writeln!(
         to,
-        b"the text has 2,097,152 bytes or more; nothing was judged\n",
+        "the text has 2,097,152 bytes or more; nothing was judged"
     )
 }
 
 pub(crate) fn lacks_n_and_w(to: &mut impl Write, count: usize) -> io::Result<()> {
-    saying::say(to, b"the text lacks N and W: its numbers are ")?;
-    saying::number(to, count as u64)?;
-    saying::say(to, b"; nothing was judged\n")
+    writeln!(
+        to,
+        "the text lacks N and W: its numbers are {count}; nothing was judged"
+    )
 }
 
 // The fault, and how many numbers were read before it.
@@ -22,21 +24,21 @@ pub(crate) fn tell(to: &mut impl Write, fault: Fault, count: usize, text: &[u8])
         Fault::StrayByte => stray(to, number_places::stray_place(text), text),
         Fault::TooLarge => {
             saying::position(to, text, number_places::number_place(text, count))?;
-            saying::say(to, b": a number of 2^64 or more")
+            write!(to, ": a number of 2^64 or more")
         }
         Fault::TooMany => {
             saying::position(to, text, number_places::number_place(text, count))?;
-            saying::say(to, b": the text has more than 65,536 numbers")
+            write!(to, ": the text has more than 65,536 numbers")
         }
     }?;
-    saying::say(to, b"; nothing was judged\n")
+    writeln!(to, "; nothing was judged")
 }
 
 fn stray(to: &mut impl Write, place: usize, text: &[u8]) -> io::Result<()> {
     saying::position(to, text, place)?;
-    saying::say(to, b": ")?;
-    if place < text.len() {
-        saying::byte(to, text[place])?;
+    write!(to, ": ")?;
+    if let Some(here) = text.get(place) {
+        write!(to, "{}", Named(*here))?;
     }
-    saying::say(to, b" is no digit and no space")
+    write!(to, " is no digit and no space")
 }

@@ -3,6 +3,7 @@ ghost use Rattle.std.specs.Prelude.{◌≡◌, ◌≤◌};
 ghost use Rattle.judge.specs.LogLines.{more_by, together_of, is_odd_line, ended_line, on_byte, lines_in};
 
 use crate::calls;
+use crate::calls::Log;
 use std::io;
 use std::io::Write;
 
@@ -26,32 +27,24 @@ struct Lines {
     odd: Option<Odd>,
 }
 
-pub(crate) fn remark(to: &mut impl Write, numbers: &[u64], text: &[u8]) -> io::Result<()> {
-    let w = calls::width(numbers);
+pub(crate) fn remark(to: &mut impl Write, log: Log) -> io::Result<()> {
+    let w = calls::width(log.numbers);
     if w == 0 {
         return Ok(());
     }
-    let seen = looked(text, w);
+    let seen = looked(log.text, w);
     let odd = match seen.odd {
         Some(odd) if seen.calls > 0 => odd,
         _ => return Ok(()),
     };
-    saying::say(to, b"line ")?;
-    saying::number(to, odd.line as u64)?;
-    saying::say(to, b" has ")?;
-    saying::number(to, odd.numbers as u64)?;
-    saying::say(to, b" numbers")?;
+    write!(to, "line {} has {} numbers", odd.line, odd.numbers)?;
     if odd.from < 2 + w {
-        return saying::say(
+        return writeln!(
             to,
-            b", of the value and of a call: one of N, W and the value may be lost\n",
+            ", of the value and of a call: one of N, W and the value may be lost"
         );
     }
-    saying::say(to, b"; a call of W = ")?;
-    saying::number(to, w as u64)?;
-    saying::say(to, b" has ")?;
-    saying::number(to, (6 + w) as u64)?;
-    saying::say(to, b"\n")
+    writeln!(to, "; a call of W = {w} has {}", 6 + w)
 }
 
 fn looked(text: &[u8], w: usize) -> Lines

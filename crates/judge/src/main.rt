@@ -12,6 +12,7 @@ mod why;
 
 ghost use Rattle.std.specs.Prelude.{◌≡◌, ◌≤◌, length, replicate};
 
+use crate::calls::Log;
 use logtext::Reading;
 use std::io;
 use std::io::Write;
@@ -73,22 +74,18 @@ fn answer(
         return faults::lacks_n_and_w(errors, count);
     }
     if count <= numbers.len() {
-        return judged(to, errors, &numbers[..count], text);
+        let numbers = &numbers[..count];
+        return judged(to, errors, Log { numbers, text });
     }
     Ok(())
 }
 
-fn judged(
-    to: &mut impl Write,
-    errors: &mut impl Write,
-    numbers: &[u64],
-    text: &[u8],
-) -> io::Result<()>
-    requires { 2 ≤ length numbers.now }
+fn judged(to: &mut impl Write, errors: &mut impl Write, log: Log) -> io::Result<()>
+    requires { 2 ≤ length log.numbers.now }
 {
-    let judgement = logtext::judge_numbers(numbers);
+    let judgement = logtext::judge_numbers(log.numbers);
     print(to, errors, judgement)?;
-    why::explain(errors, judgement, numbers, text)
+    why::explain(errors, judgement, log)
 }
 
 fn print(to: &mut impl Write, errors: &mut impl Write, judgement: Judgement) -> io::Result<()> {
@@ -107,24 +104,15 @@ fn print(to: &mut impl Write, errors: &mut impl Write, judgement: Judgement) -> 
 fn out(to: &mut impl Write, errors: &mut impl Write, bytes: &[u8]) -> io::Result<()> {
     match to.write_all(bytes) {
         Ok(()) => Ok(()),
-        Err(lost) => {
-            if console::is_cut(&lost) {
-                return Err(lost);
-            }
-            saying::say(errors, b"standard output could not be written\n")
-        }
+        Err(lost) if console::is_cut(&lost) => Err(lost),
+        Err(_) => writeln!(errors, "standard output could not be written"),
     }
 }
 
 // A number whose loss the words after it tell, if it does not go to a cut pipe.
 fn shown(printed: io::Result<()>) -> io::Result<()> {
     match printed {
-        Ok(()) => Ok(()),
-        Err(lost) => {
-            if console::is_cut(&lost) {
-                return Err(lost);
-            }
-            Ok(())
-        }
+        Err(lost) if console::is_cut(&lost) => Err(lost),
+        _ => Ok(()),
     }
 }

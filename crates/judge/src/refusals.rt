@@ -1,5 +1,6 @@
 // Why a log is refused, and where.
 use crate::calls;
+use crate::calls::{Call, Log};
 use llsc::refusals::Refusal;
 use logtext::number_places;
 use std::io;
@@ -10,90 +11,69 @@ pub(crate) fn refused(
     to: &mut impl Write,
     refusal: Refusal,
     place: Option<Place>,
-    numbers: &[u64],
-    text: &[u8],
+    log: Log,
 ) -> io::Result<()> {
-    saying::say(to, b"refused ")?;
-    saying::number(to, u64::from(refusal.number()))?;
-    saying::say(to, b": ")?;
+    write!(to, "refused {}: ", refusal.number())?;
     match refusal {
-        Refusal::NOutOfRange => range(to, 0, b"N", b"16", numbers, text),
-        Refusal::WOutOfRange => range(to, 1, b"W", b"64", numbers, text),
-        Refusal::NoSuchProcess => process(to, call_of(place), numbers, text),
-        Refusal::ValueNotWWords => cut_off(to, place, numbers, text),
-        Refusal::TooManyCalls => too_many(to, numbers, text),
-        _ => backwards(to, call_of(place), numbers, text),
+        Refusal::NOutOfRange => range(to, 0, "N", 16, log),
+        Refusal::WOutOfRange => range(to, 1, "W", 64, log),
+        Refusal::NoSuchProcess => process(to, call_of(place, log), log),
+        Refusal::ValueNotWWords => cut_off(to, place, log),
+        Refusal::TooManyCalls => too_many(to, log),
+        _ => backwards(to, call_of(place, log)),
     }?;
-    saying::say(to, b"\n")
+    writeln!(to)
 }
 
 // The call that a refusal is about, which 4 and 17 have.
-fn call_of(place: Option<Place>) -> usize {
+fn call_of<'a>(place: Option<Place>, log: Log<'a>) -> Call<'a> {
     match place {
-        Some(Place::Call(call)) => call,
-        _ => 0,
+        Some(Place::Call(call)) => log.call(call),
+        _ => log.call(0),
     }
 }
 
 // N or W, the number of an index, is not in its range.
-fn range(
-    to: &mut impl Write,
-    index: usize,
-    name: &[u8],
-    most: &[u8],
-    numbers: &[u64],
-    text: &[u8],
-) -> io::Result<()> {
-    saying::line(to, text, number_places::number_place(text, index))?;
-    saying::say(to, b": ")?;
-    saying::say(to, name)?;
-    saying::say(to, b" is ")?;
-    saying::number(to, calls::at(numbers, index))?;
-    saying::say(to, b", not 1 to ")?;
-    saying::say(to, most)
+fn range(to: &mut impl Write, index: usize, name: &str, most: u64, log: Log) -> io::Result<()> {
+    saying::line(to, log.text, number_places::number_place(log.text, index))?;
+    let number = calls::at(log.numbers, index);
+    write!(to, ": {name} is {number}, not 1 to {most}")
 }
 
-fn process(to: &mut impl Write, call: usize, numbers: &[u64], text: &[u8]) -> io::Result<()> {
-    calls::line(to, numbers, call, text)?;
-    saying::say(to, b": process ")?;
-    saying::number(to, calls::part(numbers, call, calls::PROCESS))?;
-    saying::say(to, b" is not below N, ")?;
-    saying::number(to, calls::at(numbers, 0))
+fn process(to: &mut impl Write, call: Call, log: Log) -> io::Result<()> {
+    let n = calls::at(log.numbers, 0);
+    write!(
+        to,
+        "line {}: process {} is not below N, {n}",
+        call.line, call.process
+    )
 }
 
-fn cut_off(
-    to: &mut impl Write,
-    place: Option<Place>,
-    numbers: &[u64],
-    text: &[u8],
-) -> io::Result<()> {
-    let w = calls::width(numbers);
+fn cut_off(to: &mut impl Write, place: Option<Place>, log: Log) -> io::Result<()> {
+    let w = calls::width(log.numbers);
     match place {
         Some(Place::Call(call)) => {
-            calls::line(to, numbers, call, text)?;
-            saying::say(to, b": the last call has ")?;
-            saying::number(to, calls::after(numbers, calls::first_of(numbers, call)))?;
-            saying::say(to, b" numbers, not ")?;
-            saying::number(to, (6 + w) as u64)
+            let line = log.line(call);
+            let left = calls::after(log.numbers, calls::first_of(log.numbers, call));
+            write!(
+                to,
+                "line {line}: the last call has {left} numbers, not {}",
+                6 + w
+            )
         }
-        _ => {
-            saying::say(to, b"the text ends within the value; W is ")?;
-            saying::number(to, w as u64)
-        }
+        _ => write!(to, "the text ends within the value; W is {w}"),
     }
 }
 
-fn too_many(to: &mut impl Write, numbers: &[u64], text: &[u8]) -> io::Result<()> {
-    calls::line(to, numbers, 512, text)?;
-    saying::say(to, b": the 513th call; a log has at most 512")
+fn too_many(to: &mut impl Write, log: Log) -> io::Result<()> {
+    let line = log.line(512);
+    write!(to, "line {line}: the 513th call; a log has at most 512")
 }
 
-fn backwards(to: &mut impl Write, call: usize, numbers: &[u64], text: &[u8]) -> io::Result<()> {
-    calls::line(to, numbers, call, text)?;
-    saying::say(to, b": ")?;
-    calls::name(to, numbers, call)?;
-    saying::say(to, b" has the answer place ")?;
-    saying::number(to, calls::part(numbers, call, calls::ANSWER))?;
-    saying::say(to, b", not after its start place, ")?;
-    saying::number(to, calls::part(numbers, call, calls::START))
+fn backwards(to: &mut impl Write, call: Call) -> io::Result<()> {
+    write!(
+        to,
+        "line {}: {call} has the answer place {}, not after its start place, {}",
+        call.line, call.answer, call.start
+    )
 }

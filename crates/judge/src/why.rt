@@ -1,152 +1,95 @@
 // Why the verdict is not yes.
-use crate::{calls, log_lines, refusals};
+use crate::calls::{Call, Log, Span};
+use crate::{log_lines, refusals};
 use std::io;
 use std::io::Write;
 use verdicts::{Fault, Judgement, Shown};
 
-pub(crate) fn explain(
-    to: &mut impl Write,
-    judgement: Judgement,
-    numbers: &[u64],
-    text: &[u8],
-) -> io::Result<()> {
+pub(crate) fn explain(to: &mut impl Write, judgement: Judgement, log: Log) -> io::Result<()> {
     match judgement {
         Judgement::Yes => Ok(()),
         Judgement::No(fault) => {
-            no(to, fault, numbers, text)?;
-            log_lines::remark(to, numbers, text)
+            no(to, fault, log)?;
+            log_lines::remark(to, log)
         }
         Judgement::Refused(refusal, place) => {
-            refusals::refused(to, refusal, place, numbers, text)?;
-            log_lines::remark(to, numbers, text)
+            refusals::refused(to, refusal, place, log)?;
+            log_lines::remark(to, log)
         }
     }
 }
 
-fn no(to: &mut impl Write, fault: Fault, numbers: &[u64], text: &[u8]) -> io::Result<()> {
-    saying::say(to, b"no: condition ")?;
+fn no(to: &mut impl Write, fault: Fault, log: Log) -> io::Result<()> {
+    write!(to, "no: condition ")?;
     match fault {
-        Fault::Unknown(call) => kind(to, call, numbers, text),
-        Fault::Overlap(call, other) => overlap(to, call, other, numbers, text),
-        Fault::Moment(call, other) => moment(to, call, other, numbers, text),
-        Fault::Outside(call) => outside(to, call, numbers, text),
-        Fault::Answer(call, shown) => answer(to, call, shown, numbers, text),
-        Fault::Unled(call) => no_ll(to, call, numbers, text),
+        Fault::Unknown(call) => unknown(to, log.call(call)),
+        Fault::Overlap(call, other) => overlap(to, log.call(call), log.call(other)),
+        Fault::Moment(call, other) => moment(to, log.call(call), log.call(other)),
+        Fault::Outside(call) => outside(to, log.call(call)),
+        Fault::Answer(call, shown) => answer(to, log.call(call), shown, log),
+        Fault::Unled(call) => no_ll(to, log.call(call)),
     }?;
-    saying::say(to, b"\n")
+    writeln!(to)
 }
 
-fn kind(to: &mut impl Write, call: usize, numbers: &[u64], text: &[u8]) -> io::Result<()> {
-    saying::say(to, b"1: ")?;
-    calls::line(to, numbers, call, text)?;
-    saying::say(to, b": ")?;
-    calls::name(to, numbers, call)?;
-    saying::say(to, b" has the kind ")?;
-    saying::number(to, calls::part(numbers, call, calls::KIND))?;
-    saying::say(to, b", not 1 (LL), 2 (SC) or 3 (VL)")
+fn unknown(to: &mut impl Write, call: Call) -> io::Result<()> {
+    write!(
+        to,
+        "1: line {}: {call} has the kind {}, not 1 (LL), 2 (SC) or 3 (VL)",
+        call.line, call.kind
+    )
 }
 
-// The lines of both calls.
-fn both_lines(
-    to: &mut impl Write,
-    call: usize,
-    other: usize,
-    numbers: &[u64],
-    text: &[u8],
-) -> io::Result<()> {
-    calls::line(to, numbers, call, text)?;
-    saying::say(to, b" and ")?;
-    calls::line(to, numbers, other, text)?;
-    saying::say(to, b": ")
+fn overlap(to: &mut impl Write, call: Call, other: Call) -> io::Result<()> {
+    write!(
+        to,
+        "2: line {} and line {}: {} and {} overlap",
+        call.line,
+        other.line,
+        Span(call),
+        Span(other)
+    )
 }
 
-fn overlap(
-    to: &mut impl Write,
-    call: usize,
-    other: usize,
-    numbers: &[u64],
-    text: &[u8],
-) -> io::Result<()> {
-    saying::say(to, b"2: ")?;
-    both_lines(to, call, other, numbers, text)?;
-    span(to, numbers, call)?;
-    saying::say(to, b" and ")?;
-    span(to, numbers, other)?;
-    saying::say(to, b" overlap")
+fn moment(to: &mut impl Write, call: Call, other: Call) -> io::Result<()> {
+    write!(
+        to,
+        "3: line {} and line {}: {call} and {other} have one moment, {}",
+        call.line, other.line, call.moment
+    )
 }
 
-fn span(to: &mut impl Write, numbers: &[u64], call: usize) -> io::Result<()> {
-    calls::name(to, numbers, call)?;
-    saying::say(to, b" from ")?;
-    saying::number(to, calls::part(numbers, call, calls::START))?;
-    saying::say(to, b" to ")?;
-    saying::number(to, calls::part(numbers, call, calls::ANSWER))
+fn outside(to: &mut impl Write, call: Call) -> io::Result<()> {
+    write!(
+        to,
+        "4: line {}: {} has the moment {}, not after its start and by its answer",
+        call.line,
+        Span(call),
+        call.moment
+    )
 }
 
-fn moment(
-    to: &mut impl Write,
-    call: usize,
-    other: usize,
-    numbers: &[u64],
-    text: &[u8],
-) -> io::Result<()> {
-    saying::say(to, b"3: ")?;
-    both_lines(to, call, other, numbers, text)?;
-    calls::name(to, numbers, call)?;
-    saying::say(to, b" and ")?;
-    calls::name(to, numbers, other)?;
-    saying::say(to, b" have one moment, ")?;
-    saying::number(to, calls::part(numbers, call, calls::MOMENT))
-}
-
-fn outside(to: &mut impl Write, call: usize, numbers: &[u64], text: &[u8]) -> io::Result<()> {
-    saying::say(to, b"4: ")?;
-    calls::line(to, numbers, call, text)?;
-    saying::say(to, b": ")?;
-    span(to, numbers, call)?;
-    saying::say(to, b" has the moment ")?;
-    saying::number(to, calls::part(numbers, call, calls::MOMENT))?;
-    saying::say(to, b", not after its start and by its answer")
-}
-
-fn answer(
-    to: &mut impl Write,
-    call: usize,
-    shown: Shown,
-    numbers: &[u64],
-    text: &[u8],
-) -> io::Result<()> {
-    saying::say(to, b"5: ")?;
-    calls::line(to, numbers, call, text)?;
-    saying::say(to, b": ")?;
-    calls::name(to, numbers, call)?;
-    saying::say(to, b" answered ")?;
+fn answer(to: &mut impl Write, call: Call, shown: Shown, log: Log) -> io::Result<()> {
+    write!(to, "5: line {}: {call} answered ", call.line)?;
     match shown {
-        Shown::Truth(_) => saying::number(to, calls::part(numbers, call, calls::TRUTH)),
-        _ => calls::words(to, numbers, calls::first_of(numbers, call) + 6),
+        Shown::Truth(_) => write!(to, "{}", call.truth),
+        _ => write!(to, "{}", call.words),
     }?;
-    saying::say(to, b"; Figure 1's object answers ")?;
+    write!(to, "; Figure 1's object answers ")?;
     match shown {
-        Shown::Truth(truth) => saying::number(to, u64::from(truth)),
-        Shown::Value => {
-            calls::words(to, numbers, 2)?;
-            saying::say(to, b", the value")
-        }
+        Shown::Truth(truth) => write!(to, "{}", u64::from(truth)),
+        Shown::Value => write!(to, "{}, the value", log.value()),
         Shown::WordsOf(other) => {
-            calls::words(to, numbers, calls::first_of(numbers, other) + 6)?;
-            saying::say(to, b", written by the SC of ")?;
-            calls::line(to, numbers, other, text)
+            let sc = log.call(other);
+            write!(to, "{}, written by the SC of line {}", sc.words, sc.line)
         }
     }
 }
 
-fn no_ll(to: &mut impl Write, call: usize, numbers: &[u64], text: &[u8]) -> io::Result<()> {
-    saying::say(to, b"6: ")?;
-    calls::line(to, numbers, call, text)?;
-    saying::say(to, b": ")?;
-    calls::name(to, numbers, call)?;
-    saying::say(
+fn no_ll(to: &mut impl Write, call: Call) -> io::Result<()> {
+    write!(
         to,
-        b" has no LL of its process before it in the order of the moments",
+        "6: line {}: {call} has no LL of its process before it in the order of the moments",
+        call.line
     )
 }
