@@ -10,6 +10,7 @@ use Rattle.verdicts.specs.declared.Shown.TheVariants.{Value as Value·shown, Wor
 use Rattle.verdicts.specs.declared.Place.{Place}
 use Rattle.verdicts.specs.declared.Place.TheVariants.{Value, Call}
 use Rattle.verdicts.specs.Verdicts.{number_of, says_yes}
+use Rattle.verdicts.specs.Reasons.{condition_of}
 use Rattle.besklaun.specs.declared.logs.Judgement.{Judgement}
 use Rattle.besklaun.specs.declared.logs.Reasoned.{Reasoned}
 
@@ -22,14 +23,14 @@ plain_no = record { number = 0; yes = false; condition = 0; given = false; truth
 
 -- the reason of a no: the number of its condition, its call and the other, or whether the object holds the value, or its truth
 abbrev pub fault_of : Fault → Reasoned
-fault_of (Unknown k) = record { number = 0; yes = false; condition = 1; given = false; truth = false; call = k; other = 0 }
-fault_of (Overlap k j) = record { number = 0; yes = false; condition = 2; given = false; truth = false; call = k; other = j }
-fault_of (Moment k j) = record { number = 0; yes = false; condition = 3; given = false; truth = false; call = k; other = j }
-fault_of (Outside k) = record { number = 0; yes = false; condition = 4; given = false; truth = false; call = k; other = 0 }
-fault_of (Answer k Value·shown) = record { number = 0; yes = false; condition = 5; given = true; truth = false; call = k; other = 0 }
-fault_of (Answer k (WordsOf j)) = record { number = 0; yes = false; condition = 5; given = false; truth = false; call = k; other = j }
-fault_of (Answer k (Truth t)) = record { number = 0; yes = false; condition = 5; given = false; truth = t; call = k; other = 0 }
-fault_of (Unled k) = record { number = 0; yes = false; condition = 6; given = false; truth = false; call = k; other = 0 }
+fault_of (Unknown k) = record { number = 0; yes = false; condition = condition_of (Unknown k); given = false; truth = false; call = k; other = 0 }
+fault_of (Overlap k j) = record { number = 0; yes = false; condition = condition_of (Overlap k j); given = false; truth = false; call = k; other = j }
+fault_of (Moment k j) = record { number = 0; yes = false; condition = condition_of (Moment k j); given = false; truth = false; call = k; other = j }
+fault_of (Outside k) = record { number = 0; yes = false; condition = condition_of (Outside k); given = false; truth = false; call = k; other = 0 }
+fault_of (Answer k Value·shown) = record { number = 0; yes = false; condition = condition_of (Answer k Value·shown); given = true; truth = false; call = k; other = 0 }
+fault_of (Answer k (WordsOf j)) = record { number = 0; yes = false; condition = condition_of (Answer k (WordsOf j)); given = false; truth = false; call = k; other = j }
+fault_of (Answer k (Truth t)) = record { number = 0; yes = false; condition = condition_of (Answer k (Truth t)); given = false; truth = t; call = k; other = 0 }
+fault_of (Unled k) = record { number = 0; yes = false; condition = condition_of (Unled k); given = false; truth = false; call = k; other = 0 }
 
 -- a refusal, and the value or the call that it is about
 abbrev pub refused_of : ℕ → Option Place → Reasoned

@@ -34,7 +34,7 @@ fn earns(calls: &Calls, value: &[u64]) -> bool
         return false;
     }
     let order = order::sorted(calls);
-    object::not_alike(calls, value, &order).is_none()
+    object::first_unlike(calls, value, &order).is_none()
 }
 
 // The judge: N, W, the value with which the object begins, and the log, 6 + W numbers for each call.

@@ -71,8 +71,8 @@ fn shown(calls: &Calls, held: &Held, k: usize) -> Shown
     }
 }
 
-// The first call, in the order given, that the object, begun with the value, does not answer alike.
-pub fn not_alike<'a>(calls: &Calls<'a>, value: &'a [u64], order: &Order) -> Option<Fault>
+// The first call, in the order of the moments, that the object, begun with the value, does not answer alike.
+pub fn first_unlike<'a>(calls: &Calls<'a>, value: &'a [u64], order: &Order) -> Option<Fault>
     requires { Fits calls.now.w calls.now.log.now × SortedBy calls.now.w calls.now.log.now order.now }
     ensures { result ≡ not_alike (fresh value.now) in_value (numbered_in_order (entries calls.now.w calls.now.log.now)) }
 {

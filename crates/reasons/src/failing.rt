@@ -26,7 +26,7 @@ pub fn reason_of_no(calls: &Calls, value: &[u64]) -> Option<Fault>
         return Some(Fault::Outside(call));
     }
     let order = order::sorted(calls);
-    if let Some(fault) = object::not_alike(calls, value, &order) {
+    if let Some(fault) = object::first_unlike(calls, value, &order) {
         return Some(fault);
     }
     match calls.first_unled() {

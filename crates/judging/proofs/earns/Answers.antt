@@ -29,7 +29,7 @@ pub returns : goal.returns
 returns c =
     let a = c.args.calls.now in
     let es = entries a.w a.log.now in
-    last _ _ c.not_alike.ensures _ _ c.is_none.ensures
+    last _ _ c.first_unlike.ensures _ _ c.is_none.ensures
     (pass _ _ c.first_unled.ensures _ _
     (pass _ _ (c.first_two.ensures clash (λ e f b p. search rules)) _ _
     (pass _ _ (c.first.ensures wrong (λ e b p. search rules)) _ _ (earns_is c.args.value.now es) (search rules)) (search rules)) (search rules))

@@ -1,6 +1,9 @@
 -- `moir_machine::decide` meets its contract: where no row holds, the process has a record and the order can be obeyed.
-use mathlib.Core.Path.{sym}
+use mathlib.Core.Path.{sym, subst}
+use Prim.Native.Nat.{ℕ}
 use native.Mathlib.Omega.{arith}
+use Rattle.moir_model.specs.Records.{record_at}
+use Rattle.moir_steps.specs.Ranges.{Obeyable}
 use Rattle.moir_machine.proofs.ObeyLaws.{obeyable, process_lent}
 use Rattle.moir_machine.proofs.decide.Goals as goal
 
@@ -22,4 +25,6 @@ bounds-all-record_place c =
 pub obey-requires : goal.obey-requires
 obey-requires c =
     let a = c.args in
-    rw c.record_place.ensures (obeyable a.bench a.all a.len a.p a.order a.value.now a.words.now (omega arith) (sym c.in_ok-refusal.ensures))
+    subst (λ (i : ℕ). Obeyable a.order (record { 0 = a.p }) a.value.now a.bench (record_at a.all (record { 0 = i })) a.words.now)
+    (sym c.record_place.ensures)
+    (obeyable a.bench a.all a.len a.p a.order a.value.now a.words.now (omega arith) (sym c.in_ok-refusal.ensures))

@@ -54,9 +54,9 @@ returns-in-Some-first c =
     (over _ (from_4 v es) _ (two_none Moment _ (c.in_default-first_two-2.ensures (λ e f. not (not (eqb e.moment f.moment))) (λ e f b p. moment e f b (search rules))))
     (here _ (from_5 v es) _ (one_found Outside (λ e. not (inside e)) es _ (c.in-Some-first.ensures (λ h. not (Heads·inside h)) (λ e b p. search rules))))))
 
-pub returns-in-Some-not_alike : goal.returns-in-Some-not_alike
+pub returns-in-Some-first_unlike : goal.returns-in-Some-first_unlike
 unfolding reason_of_no
-returns-in-Some-not_alike c =
+returns-in-Some-first_unlike c =
     let a = c.args.calls.now in
     let es = entries a.w a.log.now in
     let v = c.args.value.now in
@@ -64,7 +64,7 @@ returns-in-Some-not_alike c =
     (over _ (from_3 v es) _ (two_none Overlap _ (c.in_default-first_two.ensures (λ e f. not (apart e f)) (λ e f b p. search rules)))
     (over _ (from_4 v es) _ (two_none Moment _ (c.in_default-first_two-2.ensures (λ e f. not (not (eqb e.moment f.moment))) (λ e f b p. moment e f b (search rules))))
     (over _ (from_5 v es) _ (one_none Outside (λ e. not (inside e)) es (c.in_default-first.ensures (λ h. not (Heads·inside h)) (λ e b p. search rules)))
-    (here _ (from_6 v es) _ (c.in-Some-not_alike.ensures)))))
+    (here _ (from_6 v es) _ (c.in-Some-first_unlike.ensures)))))
 
 pub returns-in-Some-first_unled : goal.returns-in-Some-first_unled
 unfolding reason_of_no
@@ -76,7 +76,7 @@ returns-in-Some-first_unled c =
     (over _ (from_3 v es) _ (two_none Overlap _ (c.in_default-first_two.ensures (λ e f. not (apart e f)) (λ e f b p. search rules)))
     (over _ (from_4 v es) _ (two_none Moment _ (c.in_default-first_two-2.ensures (λ e f. not (not (eqb e.moment f.moment))) (λ e f b p. moment e f b (search rules))))
     (over _ (from_5 v es) _ (one_none Outside (λ e. not (inside e)) es (c.in_default-first.ensures (λ h. not (Heads·inside h)) (λ e b p. search rules)))
-    (over _ (from_6 v es) _ c.in_default-not_alike.ensures
+    (over _ (from_6 v es) _ c.in_default-first_unlike.ensures
     (here _ (from_7 v es) _ (one_found Unled (λ e. not (ll_before es e)) es _ c.in-Some-first_unled.ensures))))))
 
 pub returns-in-None : goal.returns-in-None
@@ -89,6 +89,6 @@ returns-in-None c =
     (over _ (from_3 v es) _ (two_none Overlap _ (c.in_default-first_two.ensures (λ e f. not (apart e f)) (λ e f b p. search rules)))
     (over _ (from_4 v es) _ (two_none Moment _ (c.in_default-first_two-2.ensures (λ e f. not (not (eqb e.moment f.moment))) (λ e f b p. moment e f b (search rules))))
     (over _ (from_5 v es) _ (one_none Outside (λ e. not (inside e)) es (c.in_default-first.ensures (λ h. not (Heads·inside h)) (λ e b p. search rules)))
-    (over _ (from_6 v es) _ c.in_default-not_alike.ensures
+    (over _ (from_6 v es) _ c.in_default-first_unlike.ensures
     (over _ (from_7 v es) _ (one_none Unled (λ e. not (ll_before es e)) es c.in-None.ensures)
     refl)))))

@@ -1,9 +1,9 @@
--- `judging::object::not_alike` meets its contract.
+-- `judging::object::first_unlike` meets its contract.
 use mathlib.Core.Path.{sym, ◌∙◌}
 use Rattle.judging.specs.Orders.{calls_of}
 use Rattle.judging.proofs.ObjectLaws.{serve_go}
 use borrow.Author.Rules.{rules}
-use Rattle.judging.proofs.object.not_alike.Goals as goal
+use Rattle.judging.proofs.object.first_unlike.Goals as goal
 
 pub loop-k-preserved : goal.loop-k-preserved
 loop-k-preserved c =

@@ -1,7 +1,7 @@
--- `judging::object::not_alike`: the calls passed are answered alike.
+-- `judging::object::first_unlike`: the calls passed are answered alike.
 use Rattle.judging.specs.Orders.{calls_of}
 use Rattle.judging.proofs.ObjectLaws.{ServeInv}
-use Rattle.judging.proofs.object.not_alike.Given as goal
+use Rattle.judging.proofs.object.first_unlike.Given as goal
 
 abbrev pub invariant-loop-k : goal.invariant-loop-k
 invariant-loop-k l = ServeInv l.calls.w l.calls.log.now l.value (calls_of l.order) l.held l.k-index
