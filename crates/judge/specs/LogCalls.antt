@@ -1,6 +1,8 @@
 -- The calls of a log's text by their index: N, W, the W words of the value, then 6 + W numbers for each call (02, CR 1).
 use Rattle.std.specs.Prelude.{ℕ, ◌+◌, ◌*◌, List, cond, ltb, get_or}
 use Rattle.judging.specs.declared.heads.Head.{Head}
+use Rattle.logtext.specs.Places.{place_of}
+use Rattle.saying.specs.Told.{place_in}
 
 -- W as the text has it, 0 where it is above 64
 abbrev pub width_told : List ℕ → ℕ
@@ -24,3 +26,7 @@ head_in numbers call = record {
   truth = part_of numbers call 4;
   moment = part_of numbers call 5;
 }
+
+-- the line of the text in which it begins
+abbrev pub line_in : List ℕ → List ℕ → ℕ → ℕ
+line_in numbers text call = (place_in text (place_of (first_of numbers call) text)).line

@@ -1,6 +1,6 @@
 // A log and its calls, by their index, as a message shows them.
 ghost use Rattle.std.specs.Prelude.{◌≡◌, ◌≤◌, ◌-◌, length, get_or, Some};
-ghost use Rattle.judge.specs.LogCalls.{width_told, first_of, part_of, head_in};
+ghost use Rattle.judge.specs.LogCalls.{width_told, first_of, part_of, head_in, line_in};
 ghost use Rattle.judge.specs.CallText.{kind_text, name_text, span_text};
 
 use judging::heads;
@@ -26,7 +26,8 @@ pub(crate) struct Call<'a> {
 
 impl<'a> Log<'a> {
     pub(crate) fn call(self, index: usize) -> Call<'a>
-        ensures { result.head ≡ head_in self.entry.numbers.now index }
+        ensures line { result.line ≡ line_in self.entry.numbers.now self.entry.text.now index }
+        ensures head { result.head ≡ head_in self.entry.numbers.now index }
     {
         let numbers = self.numbers;
         let head = Head {
@@ -45,7 +46,9 @@ impl<'a> Log<'a> {
     }
 
     // The line in which a call begins.
-    pub(crate) fn line(self, index: usize) -> usize {
+    pub(crate) fn line(self, index: usize) -> usize
+        ensures { result ≡ line_in self.entry.numbers.now self.entry.text.now index }
+    {
         let place = number_places::number_place(self.text, first_of(self.numbers, index));
         Place::of(self.text, place).line
     }
