@@ -1,5 +1,5 @@
 -- The calls of a log's text by their index: N, W, the W words of the value, then 6 + W numbers for each call (02, CR 1).
-use Rattle.std.specs.Prelude.{ℕ, ◌+◌, ◌*◌, List, cond, ltb, get_or}
+use Rattle.std.specs.Prelude.{ℕ, ◌+◌, ◌*◌, List, cond, ltb, get_or, take, drop}
 use Rattle.judging.specs.declared.heads.Head.{Head}
 use Rattle.logtext.specs.Places.{place_of}
 use Rattle.saying.specs.Told.{place_in}
@@ -30,3 +30,7 @@ head_in numbers call = record {
 -- the line of the text in which it begins
 abbrev pub line_in : List ℕ → List ℕ → ℕ → ℕ
 line_in numbers text call = (place_in text (place_of (first_of numbers call) text)).line
+
+-- the W numbers from an index on, as far as there are so many
+abbrev pub words_in : List ℕ → ℕ → List ℕ
+words_in numbers from = take (width_told numbers) (drop from numbers)

@@ -1,6 +1,6 @@
 // A log and its calls, by their index, as a message shows them.
-ghost use Rattle.std.specs.Prelude.{◌≡◌, ◌≤◌, ◌-◌, length, get_or, Some};
-ghost use Rattle.judge.specs.LogCalls.{width_told, first_of, part_of, head_in, line_in};
+ghost use Rattle.std.specs.Prelude.{◌≡◌, ◌≤◌, ◌+◌, ◌-◌, length, get_or, Some};
+ghost use Rattle.judge.specs.LogCalls.{width_told, first_of, part_of, head_in, line_in, words_in};
 ghost use Rattle.judge.specs.CallText.{kind_text, name_text, span_text};
 
 use judging::heads;
@@ -28,6 +28,8 @@ impl<'a> Log<'a> {
     pub(crate) fn call(self, index: usize) -> Call<'a>
         ensures line { result.line ≡ line_in self.entry.numbers.now self.entry.text.now index }
         ensures head { result.head ≡ head_in self.entry.numbers.now index }
+        ensures words { result.words.0.now
+            ≡ words_in self.entry.numbers.now (first_of self.entry.numbers.now index + 6) }
     {
         let numbers = self.numbers;
         let head = Head {
@@ -54,7 +56,9 @@ impl<'a> Log<'a> {
     }
 
     // The initial value.
-    pub(crate) fn value(self) -> Words<'a> {
+    pub(crate) fn value(self) -> Words<'a>
+        ensures { result.0.now ≡ words_in self.entry.numbers.now 2 }
+    {
         words_from(self.numbers, 2)
     }
 }
@@ -109,7 +113,9 @@ impl fmt::Display for Words<'_> {
 }
 
 // The W numbers from an index on, as far as there are so many.
-fn words_from<'a>(numbers: &'a [u64], from: usize) -> Words<'a> {
+fn words_from<'a>(numbers: &'a [u64], from: usize) -> Words<'a>
+    ensures { result.0.now ≡ words_in numbers.now from }
+{
     let rest = &numbers[from.min(numbers.len())..];
     Words(&rest[..width(numbers).min(rest.len())])
 }
