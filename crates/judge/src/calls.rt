@@ -1,8 +1,10 @@
 // A log and its calls, by their index, as a message shows them.
-ghost use Rattle.std.specs.Prelude.{◌≡◌, ◌≤◌, ◌-◌, length, get_or, Some};
-ghost use Rattle.judge.specs.LogCalls.{width_told, first_of, part_of};
+ghost use Rattle.std.specs.Prelude.{◌≡◌, ◌≤◌, ◌+◌, ◌-◌, length, get_or, Some};
+ghost use Rattle.judge.specs.LogCalls.{width_told, first_of, part_of, head_in, line_in, words_in};
 ghost use Rattle.judge.specs.CallText.{kind_text, name_text, span_text};
 
+use judging::heads;
+use judging::heads::Head;
 use logtext::number_places;
 use saying::Place;
 use std::fmt;
@@ -14,60 +16,60 @@ pub(crate) struct Log<'a> {
     pub(crate) text: &'a [u8],
 }
 
-// A call: the line in which it begins, its six numbers and its words.
+// A call: the line in which it begins, its six numbers, 0 where there is none, and its words.
 #[derive(Clone, Copy)]
 pub(crate) struct Call<'a> {
     pub(crate) line: usize,
-    pub(crate) process: u64,
-    pub(crate) kind: u64,
-    pub(crate) start: u64,
-    pub(crate) answer: u64,
-    pub(crate) truth: u64,
-    pub(crate) moment: u64,
+    pub(crate) head: Head,
     pub(crate) words: Words<'a>,
 }
 
 impl<'a> Log<'a> {
     pub(crate) fn call(self, index: usize) -> Call<'a>
-        ensures process { result.process ≡ part_of self.entry.numbers.now index 0 }
-        ensures kind { result.kind ≡ part_of self.entry.numbers.now index 1 }
-        ensures start { result.start ≡ part_of self.entry.numbers.now index 2 }
-        ensures answer { result.answer ≡ part_of self.entry.numbers.now index 3 }
-        ensures truth { result.truth ≡ part_of self.entry.numbers.now index 4 }
-        ensures moment { result.moment ≡ part_of self.entry.numbers.now index 5 }
+        ensures line { result.line ≡ line_in self.entry.numbers.now self.entry.text.now index }
+        ensures head { result.head ≡ head_in self.entry.numbers.now index }
+        ensures words { result.words.0.now
+            ≡ words_in self.entry.numbers.now (first_of self.entry.numbers.now index + 6) }
     {
         let numbers = self.numbers;
-        Call {
-            line: self.line(index),
+        let head = Head {
             process: part(numbers, index, 0),
             kind: part(numbers, index, 1),
             start: part(numbers, index, 2),
             answer: part(numbers, index, 3),
             truth: part(numbers, index, 4),
             moment: part(numbers, index, 5),
+        };
+        Call {
+            line: self.line(index),
+            head,
             words: words_from(numbers, first_of(numbers, index) + 6),
         }
     }
 
     // The line in which a call begins.
-    pub(crate) fn line(self, index: usize) -> usize {
+    pub(crate) fn line(self, index: usize) -> usize
+        ensures { result ≡ line_in self.entry.numbers.now self.entry.text.now index }
+    {
         let place = number_places::number_place(self.text, first_of(self.numbers, index));
         Place::of(self.text, place).line
     }
 
     // The initial value.
-    pub(crate) fn value(self) -> Words<'a> {
+    pub(crate) fn value(self) -> Words<'a>
+        ensures { result.0.now ≡ words_in self.entry.numbers.now 2 }
+    {
         words_from(self.numbers, 2)
     }
 }
 
 // A call by its process and kind.
 impl fmt::Display for Call<'_> {
-    ghost output = { λ c. Some (name_text c.process c.kind) };
+    ghost output = { λ c. Some (name_text c.head) };
 
     fn fmt<W: fmt::Write>(&self, f: &mut fmt::Formatter<W>) -> fmt::Result {
-        let kind = kind_word(self.kind);
-        write!(f, "process {}'s {kind}", self.process)
+        let kind = kind_word(self.head.kind);
+        write!(f, "process {}'s {kind}", self.head.process)
     }
 }
 
@@ -75,9 +77,9 @@ fn kind_word(kind: u64) -> &'static str
     ensures { result.now ≡ kind_text kind }
 {
     match kind {
-        1 => "LL",
-        2 => "SC",
-        3 => "VL",
+        heads::LL => "LL",
+        heads::SC => "SC",
+        heads::VL => "VL",
         _ => "call",
     }
 }
@@ -87,11 +89,12 @@ fn kind_word(kind: u64) -> &'static str
 pub(crate) struct Span<'a>(pub(crate) Call<'a>);
 
 impl fmt::Display for Span<'_> {
-    ghost output = { λ s. Some (span_text s.0.process s.0.kind s.0.start s.0.answer) };
+    ghost output = { λ s. Some (span_text s.0.head) };
 
     fn fmt<W: fmt::Write>(&self, f: &mut fmt::Formatter<W>) -> fmt::Result {
         let call = self.0;
-        write!(f, "{call} from {} to {}", call.start, call.answer)
+        let Head { start, answer, .. } = call.head;
+        write!(f, "{call} from {start} to {answer}")
     }
 }
 
@@ -110,7 +113,9 @@ impl fmt::Display for Words<'_> {
 }
 
 // The W numbers from an index on, as far as there are so many.
-fn words_from<'a>(numbers: &'a [u64], from: usize) -> Words<'a> {
+fn words_from<'a>(numbers: &'a [u64], from: usize) -> Words<'a>
+    ensures { result.0.now ≡ words_in numbers.now from }
+{
     let rest = &numbers[from.min(numbers.len())..];
     Words(&rest[..width(numbers).min(rest.len())])
 }

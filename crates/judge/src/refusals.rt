@@ -45,7 +45,7 @@ fn process(to: &mut impl Write, call: Call, log: Log) -> io::Result<()> {
     write!(
         to,
         "line {}: process {} is not below N, {n}",
-        call.line, call.process
+        call.line, call.head.process
     )
 }
 
@@ -74,6 +74,6 @@ fn backwards(to: &mut impl Write, call: Call) -> io::Result<()> {
     write!(
         to,
         "line {}: {call} has the answer place {}, not after its start place, {}",
-        call.line, call.answer, call.start
+        call.line, call.head.answer, call.head.start
     )
 }

@@ -36,7 +36,7 @@ fn unknown(to: &mut impl Write, call: Call) -> io::Result<()> {
     write!(
         to,
         "1: line {}: {call} has the kind {}, not 1 (LL), 2 (SC) or 3 (VL)",
-        call.line, call.kind
+        call.line, call.head.kind
     )
 }
 
@@ -55,7 +55,7 @@ fn moment(to: &mut impl Write, call: Call, other: Call) -> io::Result<()> {
     write!(
         to,
         "3: line {} and line {}: {call} and {other} have one moment, {}",
-        call.line, other.line, call.moment
+        call.line, other.line, call.head.moment
     )
 }
 
@@ -65,14 +65,14 @@ fn outside(to: &mut impl Write, call: Call) -> io::Result<()> {
         "4: line {}: {} has the moment {}, not after its start and by its answer",
         call.line,
         Span(call),
-        call.moment
+        call.head.moment
     )
 }
 
 fn answer(to: &mut impl Write, call: Call, shown: Shown, log: Log) -> io::Result<()> {
     write!(to, "5: line {}: {call} answered ", call.line)?;
     match shown {
-        Shown::Truth(_) => write!(to, "{}", call.truth),
+        Shown::Truth(_) => write!(to, "{}", call.head.truth),
         _ => write!(to, "{}", call.words),
     }?;
     write!(to, "; Figure 1's object answers ")?;
