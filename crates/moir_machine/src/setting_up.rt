@@ -7,11 +7,11 @@ ghost use Rattle.moir_machine.specs.SetUpByValue.{set_up_number, Accepted, told,
 
 use llsc::refusals::Refusal;
 use moir_model::{Bench, sizes};
-use rows::causes;
+use moir_rows::table;
 use words::word_runs;
 
 // The refusal by the lengths of what is lent: rows 1, 2, 3, 8.
-#[tactic(auto, unfolding(crate::specs::SetUpByValue::set_up_number))]
+#[tactic(auto, unfolding(crate::specs::SetUpByValue::set_up_number, moir_rows::specs::CommandRows::lent_number))]
 pub fn set_up_refusal(
     n: usize,
     w: usize,
@@ -21,10 +21,7 @@ pub fn set_up_refusal(
 ) -> Result<(), Refusal>
     ensures { number_told result ≡ set_up_number n w records words value }
 {
-    Refusal::NOutOfRange.if_holds(causes::n_out_of_range(n))?;
-    Refusal::WOutOfRange.if_holds(causes::w_out_of_range(w))?;
-    let needed = sizes::lent_words(n, w);
-    Refusal::TooLittleLent.if_holds(causes::too_little_lent(n, needed, records, words))?;
+    table::lent_refusal(n, w, records, words)?;
     Refusal::ValueNotWWords.if_holds(value != w)
 }
 

@@ -6,8 +6,13 @@ use Rattle.moir_model.specs.declared.Bench.{Bench}
 use Rattle.moir_model.specs.declared.Process.{Process}
 use Rattle.llsc.specs.declared.Order.{Order}
 use Rattle.moir_model.specs.Records.{record_at}
-use Rattle.llsc.specs.Rows.{first}
+use Rattle.llsc.specs.Rows.{first, lent_rows}
+use Rattle.moir_model.specs.Sizes.{lent_words}
 use Rattle.moir_model.specs.Refusals.{in_range, process_rows, rows_of}
+
+-- the number of the first of rows 1, 2, 3 that holds, 0 for none
+unfoldable pub lent_number : ℕ → ℕ → ℕ → ℕ → ℕ
+lent_number n w records words = first (lent_rows n w (lent_words n w) records words [])
 
 -- row 9 looks at no words
 abbrev pub ranges_ok : Bench → List Process → Bool

@@ -1,7 +1,7 @@
 // The refusal table in row order (01, "When the bench says no").
 ghost use Rattle.std.specs.Prelude.{◌≡◌, ◌≤◌};
 ghost use Rattle.llsc.specs.Refusals.{number_told};
-ghost use Rattle.moir_rows.specs.CommandRows.{decision_number, late_number};
+ghost use Rattle.moir_rows.specs.CommandRows.{lent_number, decision_number, late_number};
 
 use crate::ranges;
 use llsc::refusals::Refusal;
@@ -9,8 +9,19 @@ use llsc::{Order, ProcessNumber};
 use moir_model::{Bench, Process, sizes};
 use rows::causes;
 
+// Rows 1, 2, 3, with which a command and a set-up begin: the first that holds.
+#[tactic(auto, unfolding(crate::specs::CommandRows::lent_number))]
+pub fn lent_refusal(n: usize, w: usize, records: usize, words: usize) -> Result<(), Refusal>
+    ensures { number_told result ≡ lent_number n w records words }
+{
+    Refusal::NOutOfRange.if_holds(causes::n_out_of_range(n))?;
+    Refusal::WOutOfRange.if_holds(causes::w_out_of_range(w))?;
+    let needed = sizes::lent_words(n, w);
+    Refusal::TooLittleLent.if_holds(causes::too_little_lent(n, needed, records, words))
+}
+
 // The first row that holds, of sixteen records by value, of which `len` are lent.
-#[tactic(auto, unfolding(crate::specs::CommandRows::decision_number, crate::specs::CommandRows::late_number))]
+#[tactic(auto, unfolding(crate::specs::CommandRows::lent_number, crate::specs::CommandRows::decision_number, crate::specs::CommandRows::late_number))]
 pub fn refusal(
     bench: Bench,
     all: [Process; 16],
@@ -22,10 +33,7 @@ pub fn refusal(
 ) -> Result<(), Refusal>
     ensures { number_told result ≡ decision_number bench all len p order value words }
 {
-    Refusal::NOutOfRange.if_holds(causes::n_out_of_range(bench.n))?;
-    Refusal::WOutOfRange.if_holds(causes::w_out_of_range(bench.w))?;
-    let needed = sizes::lent_words(bench.n, bench.w);
-    Refusal::TooLittleLent.if_holds(causes::too_little_lent(bench.n, needed, len, words))?;
+    lent_refusal(bench.n, bench.w, len, words)?;
     Refusal::NumberOutOfRange.if_holds(!ranges::in_range(bench, all))?;
     late_refusal(bench.n, bench.w, all, p, order, value)
 }
