@@ -1,7 +1,5 @@
 // The steps that touch a segment or a word of A, and those that read or write an area of their process.
-ghost use Rattle.std.specs.Prelude.{◌≡◌, cond, ◌<◌, set};
-ghost use Rattle.moir_model.specs.Words.{return_word};
-ghost use Rattle.moir_model.specs.Lines.{saves};
+ghost use Rattle.std.specs.Prelude.{◌≡◌, ◌<◌};
 ghost use Rattle.moir_model.specs.Machine.{step2, step4, step5, step6, step7, step17};
 ghost use Rattle.moir_lines.specs.Copies.{copy_line, copy_header};
 ghost use Rattle.moir_steps.specs.Ranges.{Standing};
@@ -60,22 +58,14 @@ pub fn step_6(copy: CopyOf, before: &Before<'_>) -> Moved
     items::moved_on(before.bench, next)
 }
 
-// Line 8: save[i] := y.val, where line 7 found the header as it was.
-fn save(p: ProcessNumber, bench: Bench, process: Process, words: &mut [u64])
-    requires { Standing bench process words.old × (p.0 < bench.n) }
-    ensures { words.new ≡ cond (saves bench.header process) (set words.old (return_word bench.n bench.w p process.word) process.y.val) words.old }
-{
-    if on_header::saves_word(bench.header, process) {
-        words[Row::Returned(p).word(bench.n, bench.w, process.word)] = process.y.val;
-    }
-}
-
-// Lines 7 to 9 in a WLL.
+// Lines 7 to 9 in a WLL. Line 8: save[i] := y.val, where line 7 found the header as it was.
 pub fn step_7(p: ProcessNumber, bench: Bench, process: Process, words: &mut [u64]) -> Moved
     requires { Standing bench process words.old × (p.0 < bench.n) }
     ensures { (result, words.new) ≡ step7 p bench process words.old }
 {
-    save(p, bench, process, words);
+    if on_header::saves_word(bench.header, process) {
+        words[Row::Returned(p).word(bench.n, bench.w, process.word)] = process.y.val;
+    }
     items::moved(
         bench,
         on_header::do_line_7(CopyOf::Wll, bench.w, bench.header, process),
