@@ -14,6 +14,7 @@ pub mod setting_up;
 
 // `all` holds the first sixteen lent records, with a filler where there are fewer; `len` is how many were lent. The caller
 // stores the record of an order that is obeyed.
+#[tactic(auto, using(crate::proofs::ObeyLaws::process_lent, crate::proofs::ObeyLaws::obeyable))]
 pub fn decide(
     bench: Bench,
     all: [Process; 16],
