@@ -28,7 +28,7 @@ pub fn access_of(bench: Bench, p: ProcessNumber, process: Process, words: &[u64]
     let line = process.line;
     let header = bench.header;
     let before = Before {
-        bench,
+        bench: &bench,
         process,
         words,
     };
