@@ -19,7 +19,6 @@ pub fn no_access() -> Access
 }
 
 // From the memory before the step. An idle process and a line that is none are never stepped.
-// Kept: a match that calls, as in `step`: the lines take the header or the memory, some in two Copies.
 #[tactic(auto, unfolding(crate::specs::Accesses::access_of))]
 pub fn access_of(bench: Bench, p: ProcessNumber, process: Process, words: &[u64]) -> Access
     requires { Ready bench process p words.now }
@@ -28,7 +27,7 @@ pub fn access_of(bench: Bench, p: ProcessNumber, process: Process, words: &[u64]
     let line = process.line;
     let header = bench.header;
     let before = Before {
-        bench,
+        bench: &bench,
         process,
         words,
     };

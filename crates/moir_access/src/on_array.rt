@@ -11,8 +11,8 @@ use moir_steps::word_places::Row;
 
 // Line 4: a word of the row of the process that the header of Copy names.
 pub fn read(copy: CopyOf, before: &Before<'_>) -> Access
-    requires { (copy_header copy before.now.process).pid.0 < before.now.bench.n }
-    ensures { result ≡ word_read (copy_header copy before.now.process) before.now.bench before.now.process before.now.words.now }
+    requires { (copy_header copy before.now.process).pid.0 < before.now.bench.now.n }
+    ensures { result ≡ word_read (copy_header copy before.now.process) before.now.bench.now before.now.process before.now.words.now }
 {
     let q = copy.header(before.process).pid;
     let word = before.word(Row::Announced(q));
@@ -25,8 +25,8 @@ pub fn read(copy: CopyOf, before: &Before<'_>) -> Access
 
 // Line 17: a word of p's offer area goes to p's row.
 pub fn write(p: ProcessNumber, before: &Before<'_>) -> Access
-    requires { p.0 < before.now.bench.n }
-    ensures { result ≡ word_write p before.now.bench before.now.process before.now.words.now }
+    requires { p.0 < before.now.bench.now.n }
+    ensures { result ≡ word_write p before.now.bench.now before.now.process before.now.words.now }
 {
     let word = before.word(Row::Offered(p));
     Access {

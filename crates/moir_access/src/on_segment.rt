@@ -7,7 +7,7 @@ use moir_steps::before::Before;
 
 // Lines 2 and 6.
 pub fn read(line: u8, before: &Before<'_>) -> Access
-    ensures { result ≡ segment_read line before.now.bench before.now.process before.now.words.now }
+    ensures { result ≡ segment_read line before.now.bench.now before.now.process before.now.words.now }
 {
     let held = before.segment();
     Access {
@@ -19,7 +19,7 @@ pub fn read(line: u8, before: &Before<'_>) -> Access
 
 // Line 5: CAS(addr->data[i], y, z).
 pub fn cas(before: &Before<'_>) -> Access
-    ensures { result ≡ segment_cas before.now.bench before.now.process before.now.words.now }
+    ensures { result ≡ segment_cas before.now.bench.now before.now.process before.now.words.now }
 {
     let held = before.segment();
     let process = before.process;

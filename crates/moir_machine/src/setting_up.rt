@@ -63,6 +63,7 @@ pub fn words_at_set_up(words: &mut [u64], n: usize, w: usize, value: &[u64])
 }
 
 // The whole set-up but for the records, of which `len` are lent: the bench after it, or why it is refused.
+// Kept: len, n and w one by one, as `set_up_number` takes them; a struct of what is given would be taken apart at once.
 #[tactic(auto, using(crate::proofs::SetUpLaws::preparing))]
 pub fn prepare(
     bench: Bench,

@@ -15,20 +15,20 @@ use moir_model::{Bench, Moved, Process};
 // Lines 2 and 3.
 // Kept: beside `step_6`, for one function over both would take the line as a closure, and a clause for what it computes.
 pub fn step_2(copy: CopyOf, before: &Before<'_>) -> Moved
-    ensures { (result, before.now.words.now) ≡ step2 (copy_line copy 4) (copy_line copy 7) (copy_header copy before.now.process) before.now.bench before.now.process before.now.words.now }
+    ensures { (result, before.now.words.now) ≡ step2 (copy_line copy 4) (copy_line copy 7) (copy_header copy before.now.process) before.now.bench.now before.now.process before.now.words.now }
 {
     let next = on_segment::do_line_2(copy, before.segment(), before.process);
-    items::moved_on(before.bench, next)
+    items::moved_on(*before.bench, next)
 }
 
 // Line 4.
 pub fn step_4(copy: CopyOf, before: &Before<'_>) -> Moved
-    requires { (copy_header copy before.now.process).pid.0 < before.now.bench.n }
-    ensures { (result, before.now.words.now) ≡ step4 (copy_line copy 5) (copy_header copy before.now.process) before.now.bench before.now.process before.now.words.now }
+    requires { (copy_header copy before.now.process).pid.0 < before.now.bench.now.n }
+    ensures { (result, before.now.words.now) ≡ step4 (copy_line copy 5) (copy_header copy before.now.process) before.now.bench.now before.now.process before.now.words.now }
 {
     let word = before.word(Row::Announced(copy.header(before.process).pid));
     let next = on_array::do_line_4(copy, word, before.process);
-    items::moved_on(before.bench, next)
+    items::moved_on(*before.bench, next)
 }
 
 // Line 5: the segment is what the CAS leaves there.
@@ -40,7 +40,7 @@ pub fn step_5(copy: CopyOf, mut bench: Bench, process: Process, words: &mut [u64
 {
     let k = process.word;
     let before = Before {
-        bench,
+        bench: &bench,
         process,
         words,
     };
@@ -52,10 +52,10 @@ pub fn step_5(copy: CopyOf, mut bench: Bench, process: Process, words: &mut [u64
 
 // Line 6.
 pub fn step_6(copy: CopyOf, before: &Before<'_>) -> Moved
-    ensures { (result, before.now.words.now) ≡ step6 (copy_line copy 7) before.now.bench before.now.process before.now.words.now }
+    ensures { (result, before.now.words.now) ≡ step6 (copy_line copy 7) before.now.bench.now before.now.process before.now.words.now }
 {
     let next = on_segment::do_line_6(copy, before.segment(), before.process);
-    items::moved_on(before.bench, next)
+    items::moved_on(*before.bench, next)
 }
 
 // Lines 7 to 9 in a WLL. Line 8: save[i] := y.val, where line 7 found the header as it was.

@@ -33,7 +33,7 @@ pub fn step(p: ProcessNumber, bench: Bench, process: Process, words: &mut [u64])
     let line = process.line;
     let header = bench.header;
     let before = Before {
-        bench,
+        bench: &bench,
         process,
         words,
     };
