@@ -2,6 +2,7 @@
 ghost use Rattle.std.specs.Prelude.{◌≡◌, ◌+◌, length};
 ghost use Rattle.listing.specs.Decimal.{decimal};
 
+use listing::Writer;
 use positions::StopReport;
 use std::io;
 use std::io::Write;
@@ -24,5 +25,10 @@ fn column_after(n: u64) -> usize
     ensures { result ≡ length (decimal n) + 2 }
 {
     let mut digits = [0; 20];
-    listing::number(&mut digits, 0, n) + 2
+    let mut to = Writer {
+        list: &mut digits,
+        written: 0,
+    };
+    to.number(n);
+    to.written + 2
 }

@@ -11,6 +11,7 @@ ghost use Rattle.moir_run.specs.Finished.{fresh_run, finished_of, closed, Closab
 
 use crate::entry_loop;
 use crate::turns::Run;
+use listing::Writer;
 use llsc::refusals;
 use llsc::refusals::Refusal;
 use moir_machine::setting_up;
@@ -38,7 +39,6 @@ fn fresh(bench: Bench, traced: bool) -> Run
     Run {
         bench,
         all: [moir_model::process_at_set_up(); 16],
-        written: 0,
         entries: 0,
         traced,
     }
@@ -59,12 +59,13 @@ fn returned(run: Run, number: u8, report: StopReport, written: usize) -> Finishe
 }
 
 // A run with its last line.
-fn ended(run: Run, number: u8, report: StopReport, list: &mut [u8]) -> Finished
-    requires { Closable run number list.old }
-    ensures { (result, list.new) ≡ closed run number report list.old }
+fn ended(run: Run, number: u8, report: StopReport, to: &mut Writer<'_>) -> Finished
+    requires { Closable run number to.old }
+    ensures is { (result, to.new.list.now) ≡ closed run number report to.old }
+    ensures same_list { to.new.list.ghost_name ≡ to.old.list.ghost_name }
 {
-    let next = last_lines::write(number, run.entries, list, run.written);
-    returned(run, number, report, next)
+    last_lines::write(number, run.entries, to);
+    returned(run, number, report, to.written)
 }
 
 // A run that is refused before its set-up, in either style, at no entry.
@@ -75,7 +76,8 @@ fn refused(refusal: Refusal, n: u64, w: u64, place: usize, list: &mut [u8]) -> F
 {
     let run = fresh(moir_model::empty_bench(), false);
     let report = reports::at_no_entry(n, w, place);
-    ended(run, refusal.number(), report, list)
+    let mut to = Writer { list, written: 0 };
+    ended(run, refusal.number(), report, &mut to)
 }
 
 // The words of the largest N and W.
@@ -102,10 +104,11 @@ fn started(traced: bool, first: First, kept: &[u64], count: usize, list: &mut [u
             setting_up::words_at_set_up(&mut words, n, w, &value[..w]);
             let bench = setting_up::bench_at_set_up(moir_model::empty_bench(), n, w);
             let run = fresh(bench, traced);
-            let carried = entry_loop::carry_out(run, kept, count, &mut words, list);
+            let mut to = Writer { list, written: 0 };
+            let carried = entry_loop::carry_out(run, kept, count, &mut words, &mut to);
             let number = refusals::number_of(carried.outcome);
             let report = reports::stop_report(first.n, first.w, number, kept, carried.at);
-            ended(carried.run, number, report, list)
+            ended(carried.run, number, report, &mut to)
         }
     }
 }

@@ -1,10 +1,10 @@
--- `listing::number`: the loop's invariant is that the digits of the divisions done stand in the last places.
+-- `listing::Writer::number`: the loop's invariant is that the digits of the divisions done stand in the last places.
 use mathlib.Core.Path.{sym}
 use native.Mathlib.Omega.{arith}
 use native.Mathlib.Nat.{div-mul-le_self}
-use Rattle.listing.proofs.WritingLaws.{same, room_same}
+use Rattle.listing.proofs.WritingLaws.{writes_same, fits_same}
 use Rattle.listing.proofs.FilledLaws.{most, filled_none, room, filled_more, filled_all}
-use Rattle.listing.proofs.number.Goals as goal
+use Rattle.listing.proofs.Writer.number.Goals as goal
 
 pub loop-rest-init : goal.loop-rest-init
 loop-rest-init c = let n = c.args.n in filled_none n _ (omega arith) (omega (arith, most n (omega arith)))
@@ -20,9 +20,9 @@ loop-rest-preserved c =
 pub plain-requires : goal.plain-requires
 plain-requires c =
     let all = filled_all (omega arith) c.loop-rest.invariant (omega arith) in
-    room_same (sym all) c.requires
+    fits_same (sym all) c.requires
 
 pub returns : goal.returns
 returns c =
     let all = filled_all (omega arith) c.loop-rest.invariant (omega arith) in
-    same (sym all) c.plain.ensures
+    writes_same (sym all) c.plain.ensures
