@@ -10,8 +10,9 @@ use lib.Seq.{sets}
 use Rattle.notation.specs.declared.Entry.{Entry}
 use Rattle.notation.specs.Grammar.{largest}
 use Rattle.positions.specs.declared.StopReport.{StopReport}
+use Rattle.positions.specs.declared.StopReport.TheVariants.{NotRead}
 use Rattle.text_runs.specs.TextRun.{room_needed, carry_all, begun, ended}
-use Rattle.text_runs.specs.StopPlaces.{at_no_item, at_place, item_report, StopsAt}
+use Rattle.text_runs.specs.StopPlaces.{at_no_item, item_report, StopsAt}
 use Rattle.text_runs.specs.KeptEntries.{entries_in, refused_with, started_with, report_with}
 use Rattle.text_runs.proofs.MiddleLaws.{Over}
 use Rattle.text_runs.proofs.TextLaws.{not_begun, is_begun, run_14}
@@ -72,11 +73,11 @@ pub room_left : (t : Bool) (list : List ℕ) {k : ℕ} → k ≡ room_needed t �
 room_left t list e l = omega (arith, e, l)
 
 -- "A refusal 14 at the start writes nothing."
-pub no_room : {r : Finished} {run : Run} {b : Bench} {report : StopReport} (t : Bool) (text list : List ℕ) → r ≡ finished_of run 14 report 0 → report ≡ at_place 0 → run ≡ fresh_run b t
+pub no_room : {r : Finished} {run : Run} {b : Bench} (t : Bool) (text list : List ℕ) → r ≡ finished_of run 14 NotRead 0 → run ≡ fresh_run b t
     → length list < room_needed t → TextRan t text list r list
-no_room {r} {report = report} t text list er ep eu l = record {
-  same = ap (λ (x : Finished). returned x list) er ∙ ap (λ (x : Run). returned (finished_of x 14 report 0) list) eu ∙ ap seen (run_14 figure6 t at_start text list l);
-  stops = subst (StopsAt figure6 t at_start text list) (sym (ap (λ (x : Finished). x.report) er ∙ ep)) (stops_14 figure6 l);
+no_room {r} t text list er eu l = record {
+  same = ap (λ (x : Finished). returned x list) er ∙ ap (λ (x : Run). returned (finished_of x 14 NotRead 0) list) eu ∙ ap seen (run_14 figure6 t at_start text list l);
+  stops = subst (StopsAt figure6 t at_start text list) (sym (ap (λ (x : Finished). x.report) er)) (stops_14 figure6 l);
 }
 
 -- the records are at their set-up from the start

@@ -3,7 +3,7 @@
 ghost use Rattle.std.specs.Prelude.{◌≡◌, ◌≤◌, length, replicate};
 ghost use Rattle.llsc.specs.Refusals.{refusal_number};
 ghost use Rattle.notation.specs.Grammar.{largest};
-ghost use Rattle.text_runs.specs.StopPlaces.{at_no_entry, StopInText};
+ghost use Rattle.text_runs.specs.StopPlaces.{StopInText};
 ghost use Rattle.text_runs.specs.KeptEntries.{entries_in, places_in, refused_with, started_with, report_with, says_after};
 ghost use Rattle.moir_semantics.specs.TextRun.{figure6};
 ghost use Rattle.moir_run.specs.TextRan.{at_start, seen, returned, TextRan};
@@ -18,7 +18,7 @@ use moir_machine::setting_up;
 use moir_model::{Bench, Process};
 use notation::items::Items;
 use notation::{First, items};
-use positions::StopReport;
+use positions::{Sizes, StopReport};
 use text_runs::{last_lines, limits, lists, reports};
 
 // What a text run leaves of the records, and what it returns: its number, 0 at `end`, the entries done, the bytes written
@@ -68,14 +68,13 @@ fn ended(run: Run, number: u8, report: StopReport, to: &mut Writer<'_>) -> Finis
     returned(run, number, report, to.written)
 }
 
-// A run that is refused before its set-up, in either style, at no entry.
-fn refused(refusal: Refusal, n: u64, w: u64, place: usize, list: &mut [u8]) -> Finished
+// A run that is refused before its set-up, in either style.
+fn refused(refusal: Refusal, report: StopReport, list: &mut [u8]) -> Finished
     requires { (Roomy list.old) × (refusal_number refusal ≤ 15) }
     ensures { (returned result list.new ≡ seen (refused_with figure6 (refusal_number refusal) at_start list.old)) ×
-        (result.report ≡ at_no_entry n w place) }
+        (result.report ≡ report) }
 {
     let run = fresh(moir_model::empty_bench(), false);
-    let report = reports::at_no_entry(n, w, place);
     let mut to = Writer { list, written: 0 };
     ended(run, refusal.number(), report, &mut to)
 }
@@ -97,7 +96,13 @@ fn started(traced: bool, first: First, kept: &[u64], count: usize, list: &mut [u
     let n = first.n as usize;
     let w = first.w as usize;
     match setting_up::set_up_refusal(n, w, 16, 3136, w) {
-        Err(refusal) => refused(refusal, first.n, first.w, 0, list),
+        Err(refusal) => {
+            let sizes = Sizes {
+                n: first.n,
+                w: first.w,
+            };
+            refused(refusal, StopReport::AtNoItem(sizes), list)
+        }
         Ok(()) => {
             let mut words = no_words();
             let value = lists::repeated(first.initial);
@@ -121,8 +126,10 @@ fn checked(traced: bool, first: First, text: &[u8], list: &mut [u8]) -> Finished
 {
     let mut kept = lists::empty_list();
     match items::read_items(text, first.items, limits::DEEPEST, &mut kept, 0) {
-        Err(fault) => refused(fault.cause, 0, 0, fault.place, list),
-        Ok(Items::Closed(next, _)) => refused(Refusal::TextBroken, 0, 0, next - 1, list),
+        Err(fault) => refused(fault.cause, StopReport::AtFault(fault.place), list),
+        Ok(Items::Closed(next, _)) => {
+            refused(Refusal::TextBroken, StopReport::AtFault(next - 1), list)
+        },
         Ok(Items::Ended(count)) => started(traced, first, &kept, count, list),
     }
 }
@@ -133,14 +140,13 @@ pub fn run_text(text: &[u8], traced: bool, list: &mut [u8]) -> Finished
 {
     if list.len() < limits::room_needed(traced) {
         let run = fresh(moir_model::empty_bench(), traced);
-        let report = reports::at_no_entry(0, 0, 0);
-        return returned(run, Refusal::NoRoom.number(), report, 0);
+        return returned(run, Refusal::NoRoom.number(), StopReport::NotRead, 0);
     }
     if limits::LONGEST_TEXT < text.len() {
-        return refused(Refusal::TooMuch, 0, 0, 0, list);
+        return refused(Refusal::TooMuch, StopReport::NotRead, list);
     }
     match notation::first_line(text) {
-        Err(place) => refused(Refusal::TextBroken, 0, 0, place, list),
+        Err(place) => refused(Refusal::TextBroken, StopReport::AtFault(place), list),
         Ok(first) => checked(traced, first, text, list),
     }
 }
