@@ -39,8 +39,7 @@ pub fn carry_out(
     let needed = limits::room_needed(traced);
     let mut bench = run.bench;
     let mut all = run.all;
-    // Kept: how many bytes are written stands in the run and not in a writer of its own, since a Run is a value that
-    // several functions make, keep and return, and a writer is a borrow of the list.
+    // The writer goes on where the run's listing ends.
     let mut to = Writer {
         list,
         written: run.written,

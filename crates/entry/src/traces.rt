@@ -42,6 +42,7 @@ fn answers(reply: Reply) -> bool
 }
 
 // The trace's line of an accepted entry.
+// Kept: an entry and its reply have no struct: they meet here alone, and each is a value of another crate.
 fn entry_line(entry: usize, access: Access, e: Entry, reply: Reply, to: &mut Writer<'_>)
     requires { Fits to.old (entry_line entry access e reply) }
     ensures { Writes to.old (entry_line entry access e reply) to.new }
@@ -58,6 +59,7 @@ fn entry_line(entry: usize, access: Access, e: Entry, reply: Reply, to: &mut Wri
 }
 
 // The same in a run of either style: none in one that shows no access.
+// Kept: Moir's trace has this over its own Access; one for both would be generic in how a step is written, and longer.
 pub fn trace_line(access: Option<Access>, entry: usize, e: Entry, reply: Reply, to: &mut Writer<'_>)
     requires { Fits to.old (shown_line entry access e reply) }
     ensures { Writes to.old (shown_line entry access e reply) to.new }
