@@ -1,6 +1,6 @@
 -- The run as the code holds it, what holds of it at every moment, and what its inner functions promise of it.
 -- Inner: `progress` gives `TextRun`'s run of it, and `RunLaws` (crate `run`) puts the promises together to that run.
-use Rattle.std.specs.Prelude.{◌≡◌, ℕ, ◌+◌, ◌≤◌, ◌<◌, List, [], Bool, cond, length, get_or, take}
+use Rattle.std.specs.Prelude.{◌≡◌, ℕ, ◌+◌, ◌≤◌, ◌<◌, List, [], Option, Some, None, length, get_or, take}
 use Rattle.model.specs.declared.Process.{Process}
 use Rattle.model.specs.declared.Reply.{Reply}
 use Rattle.model.specs.declared.Reply.TheVariants.{Refused, Accepted, LlAnswered, ScAnswered, VlAnswered}
@@ -12,7 +12,8 @@ use Rattle.notation.specs.declared.Entry.{Entry}
 use Rattle.notation.specs.Grammar.{largest}
 use Rattle.notation.specs.Stretches as S
 use Rattle.listing.specs.Lines.{letter_s, letter_v, ll_line, truth_line}
-use Rattle.listing.specs.Writing.{Room}
+use Rattle.listing.specs.declared.Writer.{Writer}
+use Rattle.listing.specs.Writing.{Fits}
 use Rattle.access.specs.declared.Access.{Access}
 use Rattle.entry.specs.declared.state.Run.{Run}
 use Rattle.text_runs.specs.TextRun.{most_entries, room_needed}
@@ -96,13 +97,14 @@ answer_line n w ws p (ScAnswered t k) = truth_line p letter_s k t
 answer_line n w ws p (VlAnswered t k) = truth_line p letter_v k t
 
 -- the line can be written: its process is one of N, its words are lent, and there is room
-pub record Listable (r : Reply) (p n w : ℕ) (ws list : List ℕ) (at : ℕ) : Type 0 where
+pub record Listable (r : Reply) (p n w : ℕ) (ws : List ℕ) (to : Writer) : Type 0 where
   pub process : p < n
   pub n_most : n ≤ 16
   pub w_most : w ≤ 64
   pub lent : lent_words n w ≤ length ws
-  pub room : Room list at (answer_line n w ws p r)
+  pub room : Fits to (answer_line n w ws p r)
 
--- the trace's line of an accepted entry, none in a run that is not traced
-abbrev pub shown_line : Bool → ℕ → Access → Entry → Reply → List ℕ
-shown_line t k a e r = cond t (entry_line k a e r) []
+-- the trace's line of an accepted entry, none where no access is shown
+abbrev pub shown_line : ℕ → Option Access → Entry → Reply → List ℕ
+shown_line k (Some a) e r = entry_line k a e r
+shown_line k None e r = []
