@@ -38,7 +38,7 @@ pub fn besklaun_run_board(
 {
     let mut words = [0; 5120];
     let bench = model::empty_bench();
-    let all = tables::records::records_of(tables::records::no_process());
+    let all = [tables::no_process(); 16];
     let out = board_listing::listed::run_listed(
         bench, all, n, w, initial, file, &mut words, listing,
     );

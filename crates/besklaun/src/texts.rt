@@ -18,7 +18,7 @@ fn own_run(traced: bool, text: &[u8], into: &mut [u8]) -> TextRun
 {
     let mut words = [0; 5120];
     let bench = model::empty_bench();
-    let all = tables::records::records_of(tables::records::no_process());
+    let all = [tables::no_process(); 16];
     let out = if traced {
         run::text_run::trace_by_value(bench, all, 16, &mut words, text, into)
     } else {

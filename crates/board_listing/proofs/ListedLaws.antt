@@ -10,8 +10,8 @@ use Rattle.model.specs.declared.Bench.{Bench}
 use Rattle.model.specs.Records.{no_process}
 use Rattle.model.specs.Machine.{Memory, Shaped}
 use Rattle.model.specs.SetUp.{at_set_up, set_up_refusal, set_up}
-use Rattle.tables.specs.declared.records.Records.{Records}
-use Rattle.tables.specs.Gathered.{gathered}
+use Rattle.model.specs.declared.Process.{Process}
+use Rattle.lent.specs.Gathered.{gathered}
 use Rattle.setup.specs.SetUpByValue.{set_up_number}
 use Rattle.notation.specs.Grammar.{largest}
 use Rattle.boards.specs.declared.Left.{Left}
@@ -30,7 +30,7 @@ use Rattle.text_runs.proofs.TextLaws.{not_begun, is_begun}
 use Rattle.board_listing.specs.BoardListing.{obey_all, run_listed, after_set_up, board_listed}
 use Rattle.board_listing.specs.ListedRun.{Between, Obeys, Closable, closed, end_of, RunsFile}
 
-pub fresh_closable : {b : Bench} {all : Records} {k : ℕ} {list : List ℕ} {r : Run} → r ≡ fresh_run b all k false → k ≤ 99
+pub fresh_closable : {b : Bench} {all : List Process} {k : ℕ} {list : List ℕ} {r : Run} → r ≡ fresh_run b all k false → k ≤ 99
     → room_needed false ≤ length list → Closable r list
 fresh_closable {b} {all} {k} {list} e h l = subst (λ (x : Run). Closable x list) (sym e) (record { entries = omega arith; stop = h; room = omega (arith, l) })
 
@@ -78,10 +78,10 @@ module _ (r : Run) (ws file list : List ℕ) {k : ℕ} (e : k ≡ file_number fi
     }
 
 -- the set-up
-pub lent : {all : Records} (list : List ℕ) → all ≡ gathered (take 16 all.list) no_process 16 → room_needed false ≤ length list → Lending 16 all list
+pub lent : {all : List Process} (list : List ℕ) → all ≡ gathered (take 16 all) no_process 16 → room_needed false ≤ length list → Lending 16 all list
 lent {all} list g l = record { few = omega arith; filled = gathered_filled 16 all g; room = l }
 
-module _ {all : Records} {list : List ℕ} (b : Bench) (ws file : List ℕ) (x : Lending 16 all list) (n w k : ℕ) {j : ℕ} (e : j ≡ set_up_number n w 16 (length ws) w) where
+module _ {all : List Process} {list : List ℕ} (b : Bench) (ws file : List ℕ) (x : Lending 16 all list) (n w k : ℕ) {j : ℕ} (e : j ≡ set_up_number n w 16 (length ws) w) where
   abbrev before : Memory
   before = memory_of b all 16 ws
 
@@ -139,5 +139,5 @@ file_small file e = rw e (either (good_trailer file) (good_records file))
     either true false = omega arith
     either true true = omega arith
 
-pub as_fresh : {b : Bench} {all : Records} {r : Run} → r ≡ fresh_run b all 0 false → r ≡ fresh_run r.bench r.all 0 false
+pub as_fresh : {b : Bench} {all : List Process} {r : Run} → r ≡ fresh_run b all 0 false → r ≡ fresh_run r.bench r.all 0 false
 as_fresh e = e ∙ ap (λ (x : Run). fresh_run x.bench x.all 0 false) (sym e)

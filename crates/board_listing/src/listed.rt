@@ -1,7 +1,7 @@
 // The whole run: set-up, file, commands, last line.
 ghost use Rattle.std.specs.Prelude.{◌≡◌, ◌≤◌, false, length, take};
 ghost use Rattle.model.specs.Records.{no_process};
-ghost use Rattle.tables.specs.Gathered.{gathered};
+ghost use Rattle.lent.specs.Gathered.{gathered};
 ghost use Rattle.entry.specs.RunState.{state_of};
 ghost use Rattle.run.specs.Finished.{fresh_run, memory_of};
 ghost use Rattle.text_runs.specs.TextRun.{room_needed};
@@ -13,13 +13,12 @@ use board_rows::file_refusal;
 use boards::trailers::records_of;
 use entry::state::Run;
 use llsc::refusals::{Refusal, number_of};
-use model::Bench;
+use model::{Bench, Process};
 use run::{last_line, set_up};
-use tables::records::Records;
 use text_runs::{limits, lists};
 
 // A run that is refused before its first command.
-fn refused(bench: Bench, all: Records, number: u8, list: &mut [u8]) -> Run
+fn refused(bench: Bench, all: [Process; 16], number: u8, list: &mut [u8]) -> Run
     requires { (number ≤ 99) × (room_needed false ≤ length list.old) }
     ensures { (result, list.new) ≡ closed (fresh_run bench all number false) list.old }
 {
@@ -44,7 +43,7 @@ fn run_file(run: Run, file: &[u8], words: &mut [u64], list: &mut [u8]) -> Run
 // The set-up, refused or done, and then the file.
 fn set_up_and_run(
     bench: Bench,
-    all: Records,
+    all: [Process; 16],
     n: usize,
     w: usize,
     initial: u32,
@@ -52,7 +51,7 @@ fn set_up_and_run(
     words: &mut [u64],
     list: &mut [u8],
 ) -> Run
-    requires { (all ≡ gathered (take 16 all.list) no_process 16) × (room_needed false ≤ length list.old) }
+    requires { (all ≡ gathered (take 16 all) no_process 16) × (room_needed false ≤ length list.old) }
     ensures { SetsUp (memory_of bench all 16 words.old) n w initial file.now list.old (end_of result words.new list.new) }
 {
     let number = number_of(setup::set_up_refusal(n, w, 16, words.len(), w));
@@ -73,7 +72,7 @@ fn set_up_and_run(
 // 60,000 commands.
 pub fn run_listed(
     bench: Bench,
-    all: Records,
+    all: [Process; 16],
     n: usize,
     w: usize,
     initial: u32,
@@ -81,7 +80,7 @@ pub fn run_listed(
     words: &mut [u64],
     list: &mut [u8],
 ) -> Run
-    requires { all ≡ gathered (take 16 all.list) no_process 16 }
+    requires { all ≡ gathered (take 16 all) no_process 16 }
     ensures { end_of result words.new list.new ≡ board_listed (memory_of bench all 16 words.old) n w initial file.now list.old }
 {
     if list.len() < limits::LISTING_ROOM {

@@ -22,7 +22,6 @@ use Rattle.model.specs.Tables.{no_bank, no_help}
 use Rattle.model.specs.Points.{point_of}
 use Rattle.lines.specs.Ranges.{Sized}
 use Rattle.taken.specs.declared.Taken.{Taken}
-use Rattle.tables.specs.declared.records.Records.{Records}
 use Rattle.taken.specs.Ranges.{Ready}
 use Rattle.taken.specs.Taken.{bank_index, help_index, taken_at, put_taken}
 use Rattle.taken.proofs.IndexLaws.{bank_index_small, help_index_small}
@@ -83,7 +82,7 @@ entry_at : (count at : ℕ) (entries : List ℕ) → at < count → get_or (entr
 entry_at count at entries t = get_or-map entry_in (take count entries) at 0 ∙ ap entry_in (get_or-take count entries at 0 t)
 
 -- a run that goes on, as the loop has it
-abbrev pub going_run : Bench → Records → ℕ → ℕ → Bool → Run
+abbrev pub going_run : Bench → List Process → ℕ → ℕ → Bool → Run
 going_run b all written done traced = record { bench = b; all = all; written = written; entries = done; stop = 0; traced = traced }
 
 -- at the head of the loop, after what h was before it
@@ -123,14 +122,14 @@ pub record Looking (count : ℕ) (entries : List ℕ) (len n w needed : ℕ) (h 
   pub entry_is : e ≡ entry_in (get_or entries at 0)
   pub process_is : p ≡ process_of e
   pub number_is : k ≡ record { 0 = place_of p }
-  pub record_is : q ≡ get_or h₁.run.all.list k.0 no_process
+  pub record_is : q ≡ get_or h₁.run.all k.0 no_process
   pub order_is : o ≡ order_of e
 
 pub looking : {count : ℕ} {entries : List ℕ} {len n w needed at p place : ℕ} {k : ProcessNumber} {h h₁ : RunState} {e : Entry} {o : Order}
     → Head count entries len n w needed h at h₁ → at < count → e ≡ entry_in (get_or entries at 0) → p ≡ process_of e → k ≡ record { 0 = place_of p } → place ≡ k.0
-    → o ≡ order_of e → Looking count entries len n w needed h at h₁ e p k (get_or h₁.run.all.list place no_process) o
+    → o ≡ order_of e → Looking count entries len n w needed h at h₁ e p k (get_or h₁.run.all place no_process) o
 looking {h₁ = h₁} x m a b c d o =
-    record { head = x; more = m; entry_is = a; process_is = b; number_is = c; record_is = ap (λ (i : ℕ). get_or h₁.run.all.list i no_process) d; order_is = o }
+    record { head = x; more = m; entry_is = a; process_is = b; number_is = c; record_is = ap (λ (i : ℕ). get_or h₁.run.all i no_process) d; order_is = o }
 
 module _ {count : ℕ} {entries : List ℕ} {len n w needed at p : ℕ} {k : ProcessNumber} {h h₁ : RunState} {e : Entry} {q : Process} {o : Order}
     (x : Looking count entries len n w needed h at h₁ e p k q o) where
@@ -138,7 +137,7 @@ module _ {count : ℕ} {entries : List ℕ} {len n w needed at p : ℕ} {k : Pro
   b = h₁.run.bench
 
   abbrev list : List Process
-  list = h₁.run.all.list
+  list = h₁.run.all
 
   abbrev c : Carrying len (entries_in count entries) h at h₁
   c = x.head.carrying
@@ -222,7 +221,7 @@ module _ {count : ℕ} {entries : List ℕ} {len n w needed at p : ℕ} {k : Pro
           abbrev after_at : ℕ → RunState
           after_at m = state_of (record {
             bench = put_taken b i j r.taken;
-            all = record { list = set list m r.process };
+            all = set list m r.process;
             written = r.written;
             entries = h₁.run.entries + 1;
             stop = 0;

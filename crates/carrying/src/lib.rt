@@ -47,7 +47,7 @@ pub fn carry_out(
         let e = entry_words::entry_in(entries[at]);
         let p = text_entries::process_of(e);
         let k = entries::process_number(p);
-        let process = all.list[k.record_place()];
+        let process = all[k.record_place()];
         let order = text_entries::order_of(e);
         let room = list.len() - written;
         if let Err(refusal) = refusals::refusal(order, done, room, needed, n, p, process) {
@@ -69,7 +69,7 @@ pub fn carry_out(
         bench.x = x;
         bench.bank[tables::bank_place(i)] = bank;
         bench.help[tables::help_place(j)] = help;
-        all.list[k.record_place()] = next;
+        all[k.record_place()] = next;
         written = turn.written;
         if entries::stays(e, next.line) {
             continue;

@@ -61,7 +61,7 @@ module _ {len : ℕ} {h : RunState} (e : Entry) (small : Small e) (s : Sound len
   b = h.run.bench
 
   abbrev list : List Process
-  list = h.run.all.list
+  list = h.run.all
 
   abbrev p : ℕ
   p = process_of e
@@ -196,7 +196,7 @@ module _ {len : ℕ} {h : RunState} (e : Entry) (small : Small e) (s : Sound len
           abbrev after : RunState
           after = state_of (record {
             bench = put_taken b i j r.taken;
-            all = record { list = set list p r.process };
+            all = set list p r.process;
             written = r.written;
             entries = h.run.entries + 1;
             stop = 0;

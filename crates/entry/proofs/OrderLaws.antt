@@ -23,7 +23,7 @@ module _ {len : ℕ} {h : RunState} (s : Sound len h) (z : h.run.stop ≡ 0) whe
   free = unhindered (s.going z).reached 0 Step []
 
   abbrev list : List Process
-  list = h.run.all.list
+  list = h.run.all
 
   pub lent : length (take len list) ≡ len
   lent = lent_length s.few s.filled

@@ -55,32 +55,32 @@ pub stays : {len : ℕ} {h : RunState} → Sound len h → Kept len h h
 stays s = record { sound = s; words = refl; listing = refl }
 
 module _ {len : ℕ} {h : RunState} (e : Entry) (out : Outcome) (ws : List ℕ) (small : Small e) (s : Sound len h) (r : Ready h)
-    (d : ◌≡◌ {A = Outcome × List ℕ} (out, ws) (decided h.run.bench h.run.all.list len (process_of e) (order_of e) (value_of h.run.bench.w e) h.words)) where
+    (d : ◌≡◌ {A = Outcome × List ℕ} (out, ws) (decided h.run.bench h.run.all len (process_of e) (order_of e) (value_of h.run.bench.w e) h.words)) where
   abbrev m : Memory
   m = (progress len h).memory
 
   abbrev v : List ℕ
   v = value_of h.run.bench.w e
 
-  cases : Decides h.run.bench h.run.all.list len (process_of e) (order_of e) v h.words (out, ws)
-  cases = subst (Decides h.run.bench h.run.all.list len (process_of e) (order_of e) v h.words) (sym d)
-      (decides h.run.bench h.run.all.list len (process_of e) (order_of e) v h.words s.filled.sixteen (value_every e h.run.bench.w small))
+  cases : Decides h.run.bench h.run.all len (process_of e) (order_of e) v h.words (out, ws)
+  cases = subst (Decides h.run.bench h.run.all len (process_of e) (order_of e) v h.words) (sym d)
+      (decides h.run.bench h.run.all len (process_of e) (order_of e) v h.words s.filled.sixteen (value_every e h.run.bench.w small))
 
-  stored : stored_back (take len h.run.all.list) (out, ws) ≡ command m (process_of e) (order_of e) v
-  stored = ap (stored_back (take len h.run.all.list)) d ∙ decided_command h.run.bench h.run.all.list len (process_of e) (order_of e) v h.words s.few s.filled
+  stored : stored_back (take len h.run.all) (out, ws) ≡ command m (process_of e) (order_of e) v
+  stored = ap (stored_back (take len h.run.all)) d ∙ decided_command h.run.bench h.run.all len (process_of e) (order_of e) v h.words s.few s.filled
 
   -- refused: the run stops, and nothing changes
   pub refused_becomes : (number_of out.reply ≡ 0 → ⊥) → Becomes len (commanded e) h (state_of (stopped_run h.run (number_of out.reply)) ws h.listing)
   refused_becomes n =
-      let u = unchanged h.run.bench h.run.all.list len (process_of e) (order_of e) v h.words s.filled.sixteen cases n in
+      let u = unchanged h.run.bench h.run.all len (process_of e) (order_of e) v h.words s.filled.sixteen cases n in
       rw u.words (record {
         same = sym (ap (replied (progress len h) e) (sym stored) ∙ simp (ne_eqb (number_of out.reply) 0 n));
         kept = stops (number_of out.reply) n u.few s;
       })
 
   module _ (z : number_of out.reply ≡ 0) where
-    did : Done h.run.bench h.run.all.list len (process_of e) (order_of e) v h.words (out, ws)
-    did = done h.run.bench h.run.all.list len (process_of e) (order_of e) v h.words s.filled.sixteen cases z
+    did : Done h.run.bench h.run.all len (process_of e) (order_of e) v h.words (out, ws)
+    did = done h.run.bench h.run.all len (process_of e) (order_of e) v h.words s.filled.sixteen cases z
 
     below : Below (5 * h.run.bench.n * h.run.bench.w) h.words
     below = record { at = (s.going r.goes).small }
@@ -107,7 +107,7 @@ module _ {len : ℕ} {h : RunState} (e : Entry) (out : Outcome) (ws : List ℕ) 
       after =
           state_of (record {
             bench = out.bench;
-            all = record { list = set h.run.all.list out.at out.process };
+            all = set h.run.all out.at out.process;
             written = next;
             entries = h.run.entries + 1;
             stop = 0;
@@ -118,13 +118,13 @@ module _ {len : ℕ} {h : RunState} (e : Entry) (out : Outcome) (ws : List ℕ) 
       lent_place = let x = did in omega (arith, x.place, x.process, x.records)
 
       abbrev left : Memory
-      left = record { bench = out.bench; records = set (take len h.run.all.list) out.at out.process; words = ws }
+      left = record { bench = out.bench; records = set (take len h.run.all) out.at out.process; words = ws }
 
       after_same : progress len after ≡ counted (progress len h) left (lines_of (progress len h) e (out.reply, left))
       after_same =
-          let t : take len (set h.run.all.list out.at out.process)
-          ≡ set (take len h.run.all.list) out.at out.process
-          = take-set-lt len h.run.all.list out.at out.process lent_place in
+          let t : take len (set h.run.all out.at out.process)
+          ≡ set (take len h.run.all) out.at out.process
+          = take-set-lt len h.run.all out.at out.process lent_place in
           let l : line ≡ line_of left (process_of e) out.reply = line_same left (process_of e) out.reply in
           let p = w.place in
           let q = w.list in

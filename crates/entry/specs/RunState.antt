@@ -31,7 +31,7 @@ state_of r words listing = record { run = r; words = words; listing = listing }
 -- what that is as a run in progress, where `len` records are lent
 abbrev pub progress : ℕ → RunState → Progress
 progress len h = record {
-  memory = record { bench = h.run.bench; records = take len h.run.all.list; words = h.words };
+  memory = record { bench = h.run.bench; records = take len h.run.all; words = h.words };
   listing = h.listing;
   written = h.run.written;
   entries = h.run.entries;
@@ -60,7 +60,7 @@ last_room = 17
 -- what holds of a run at every moment
 pub record Sound (len : ℕ) (h : RunState) : Type 0 where
   pub few : len ≤ 16
-  pub filled : Filled len h.run.all.list
+  pub filled : Filled len h.run.all
   pub entries : h.run.entries ≤ most_entries
   pub stop : h.run.stop ≤ 15
   pub room : h.run.written + last_room ≤ length h.listing

@@ -10,7 +10,6 @@ use model::Process;
 use positions::StopReport;
 use std::io;
 use std::io::Write;
-use tables::records::Records;
 
 // The message of a run on this bench.
 pub fn explain<W: Write>(
@@ -18,13 +17,13 @@ pub fn explain<W: Write>(
     number: u8,
     entries: usize,
     report: StopReport,
-    all: Records,
+    all: [Process; 16],
     text: &[u8],
 ) -> io::Result<()>
     ensures { number ≡ 0 → OnOk result (Appends (W.contents to.old) (W.contents to.new)
-        (open_lines (record { figure = Figure.Two; w = report.w }) 0 (take (min report.n 16) (map call_of all.list)))) }
+        (open_lines (record { figure = Figure.Two; w = report.w }) 0 (take (min report.n 16) (map call_of all)))) }
 {
-    let calls = all.list.map(|process| call_of(process));
+    let calls = all.map(|process| call_of(process));
     crate::explain(to, Figure::Two, number, entries, report, &calls, text)
 }
 

@@ -10,13 +10,12 @@ use lib.Seq.{take_all}
 use borrow.Author.Tests.{ltb-true, ltb-false}
 use Rattle.model.specs.declared.Process.{Process}
 use Rattle.model.specs.Records.{no_process}
-use Rattle.tables.specs.declared.records.Records.{Records}
-use Rattle.tables.specs.Gathered.{gathered}
+use Rattle.lent.specs.Gathered.{gathered}
 use Rattle.entry.specs.RunState.{Filled}
 use Rattle.run.specs.Finished.{at_most_sixteen}
 
 -- sixteen fillers, as a program hands them over
-pub fillers : (q : Process) (all : Records) → q ≡ no_process → all ≡ record { list = replicate 16 q } → all ≡ gathered (take 16 all.list) no_process 16
+pub fillers : (q : Process) (all : List Process) → q ≡ no_process → all ≡ replicate 16 q → all ≡ gathered (take 16 all) no_process 16
 unfolding gathered
 fillers q all e f = rw (f, e) refl
 

@@ -10,8 +10,7 @@ use Rattle.model.specs.declared.Process.{Process}
 use Rattle.model.specs.Records.{no_process}
 use Rattle.model.specs.Machine.{Memory}
 use Rattle.model.specs.SetUp.{at_set_up, set_up_refusal, set_up}
-use Rattle.tables.specs.declared.records.Records.{Records}
-use Rattle.tables.specs.Gathered.{gathered}
+use Rattle.lent.specs.Gathered.{gathered}
 use Rattle.setup.specs.SetUpByValue.{set_up_number}
 use Rattle.notation.specs.declared.Entry.{Entry}
 use Rattle.notation.specs.Grammar.{largest, deepest}
@@ -39,11 +38,11 @@ pub sound_closable : {len : ℕ} {h : RunState} → Sound len h → Closable h.r
 sound_closable s = record { entries = s.entries; stop = s.stop; room = s.room }
 
 -- with its last line a run is ended
-pub closed_answers : {len : ℕ} {report : StopReport} {list' : List ℕ} {out : Finished} (r : Run) (ws list : List ℕ) → Filled len r.all.list
+pub closed_answers : {len : ℕ} {report : StopReport} {list' : List ℕ} {out : Finished} (r : Run) (ws list : List ℕ) → Filled len r.all
     → ◌≡◌ {A = Finished × List ℕ} (out, list') (closed r report list) → Answers len out ws list' (ended (progress len (state_of r ws list)))
 closed_answers {len} {report} {out = out} r ws list f e = record {
   same = ap (λ (x : Finished × List ℕ). record { number = x.0.number; entries = x.0.entries; written = x.0.written; memory = memory_of x.0.bench x.0.all len ws; listing = x.1 }) e;
-  filled = subst (λ (x : Finished). Filled len x.all.list) (sym same) f;
+  filled = subst (λ (x : Finished). Filled len x.all) (sym same) f;
 }
   where
     same : out ≡ (closed r report list).0
@@ -69,7 +68,7 @@ pub record Carried (len : ℕ) (h h' : RunState) (e : Ended) : Type 0 where
   pub same : ended (progress len h') ≡ e
 
 -- "then 1, 2, 3, then the set-up, then the entries"
-module _ {len : ℕ} {all : Records} {list : List ℕ} (t : Bool) (f : First) (es : List Entry) (b : Bench)
+module _ {len : ℕ} {all : List Process} {list : List ℕ} (t : Bool) (f : First) (es : List Entry) (b : Bench)
     (ws : List ℕ) (x : Lending len all list) {k : ℕ} (e : k ≡ set_up_number f.n f.w len (length ws) f.w)
   where
     abbrev lent : Memory
@@ -106,19 +105,19 @@ room_most : (t : Bool) {k : ℕ} → room_needed t ≤ k → room_needed false �
 room_most true l = omega arith
 room_most false l = l
 
-pub lending_sixteen : {k : ℕ} {all : Records} {list : List ℕ} (t : Bool) (len : ℕ) → k ≡ at_most_sixteen len
-    → all ≡ gathered (take len all.list) no_process 16 → room_needed t ≤ length list → Lending k all list
+pub lending_sixteen : {k : ℕ} {all : List Process} {list : List ℕ} (t : Bool) (len : ℕ) → k ≡ at_most_sixteen len
+    → all ≡ gathered (take len all) no_process 16 → room_needed t ≤ length list → Lending k all list
 lending_sixteen {all = all} t len e g l = rw e (record { few = sixteen_most len; filled = filled_sixteen (gathered_filled len all g); room = room_most t l })
 
 -- over all lent records
-pub answered : {k : ℕ} {out : Finished} {ws' list' : List ℕ} (len : ℕ) (b : Bench) (all : Records) (ws : List ℕ)
-    (g : Memory → Ended) → k ≡ at_most_sixteen len → all ≡ gathered (take len all.list) no_process 16
+pub answered : {k : ℕ} {out : Finished} {ws' list' : List ℕ} (len : ℕ) (b : Bench) (all : List Process) (ws : List ℕ)
+    (g : Memory → Ended) → k ≡ at_most_sixteen len → all ≡ gathered (take len all) no_process 16
     → Answers k out ws' list' (g (memory_of b all k ws))
-    → (end_of len out ws' list' ≡ g (memory_of b all len ws)) × (out.all ≡ gathered (take len out.all.list) no_process 16)
+    → (end_of len out ws' list' ≡ g (memory_of b all len ws)) × (out.all ≡ gathered (take len out.all) no_process 16)
 answered {k} {out} {ws'} {list'} len b all ws g e q x =
-    let f : Filled (at_most_sixteen len) out.all.list = subst (λ (j : ℕ). Filled j out.all.list) e x.filled in
-    let a : take k all.list ≡ take len all.list = ap (λ (j : ℕ). take j all.list) e ∙ take_sixteen len all.list (gathered_filled len all q).sixteen in
-    let o : take len out.all.list ≡ take k out.all.list = sym (ap (λ (j : ℕ). take j out.all.list) e ∙ take_sixteen len out.all.list f.sixteen) in (
+    let f : Filled (at_most_sixteen len) out.all = subst (λ (j : ℕ). Filled j out.all) e x.filled in
+    let a : take k all ≡ take len all = ap (λ (j : ℕ). take j all) e ∙ take_sixteen len all (gathered_filled len all q).sixteen in
+    let o : take len out.all ≡ take k out.all = sym (ap (λ (j : ℕ). take j out.all) e ∙ take_sixteen len out.all f.sixteen) in (
       ap (λ (l : List Process). record {
         number = out.number;
         entries = out.entries;
@@ -131,8 +130,8 @@ answered {k} {out} {ws'} {list'} len b all ws g e q x =
     )
 
 -- with where the run stopped
-pub ended_as : {t : Bool} {b : Bench} {all : Records} {len : ℕ} {ws text list : List ℕ} {r : Finished} {ws' list' : List ℕ} {e : Ended}
-    → (end_of len r ws' list' ≡ e) × (r.all ≡ gathered (take len r.all.list) no_process 16)
+pub ended_as : {t : Bool} {b : Bench} {all : List Process} {len : ℕ} {ws text list : List ℕ} {r : Finished} {ws' list' : List ℕ} {e : Ended}
+    → (end_of len r ws' list' ≡ e) × (r.all ≡ gathered (take len r.all) no_process 16)
     → e ≡ run_with t (memory_of b all len ws) text list → StopsAt t (memory_of b all len ws) text list r.report
     → TextRan t b all len ws text list r ws' list'
 ended_as x e s = record { same = x.0 ∙ e; again = x.1; stops = s }

@@ -13,7 +13,6 @@ use Rattle.model.specs.declared.Process.{Process}
 use Rattle.llsc.specs.Rows.{row1, row2}
 use Rattle.model.specs.SetUp.{numbers, process_at_set_up, records_at_set_up, words_at_set_up, bench_at_set_up, at_set_up, set_up_refusal, set_up}
 use Rattle.model.specs.Machine.{Memory, Shaped}
-use Rattle.tables.specs.declared.records.Records.{Records}
 use Rattle.llsc.specs.Rows.{row8always}
 use Rattle.model.specs.Refusals.{row3}
 use Rattle.setup.specs.SetUpByValue.{set_up_number, set_up_number_lem, Accepted}
@@ -48,11 +47,11 @@ records_lent n w len words value e =
     ltb-false len n (neither (ltb words (5 * n * w)) (ltb len n) c3.0).1
 
 -- the number that the code finds is the set-up's
-pub set_up_same : (b : Bench) (all : Records) (len : ℕ) (ws : List ℕ) (n w k : ℕ) → len ≤ 16 → Filled len all.list
+pub set_up_same : (b : Bench) (all : List Process) (len : ℕ) (ws : List ℕ) (n w k : ℕ) → len ≤ 16 → Filled len all
     → set_up_number n w len (length ws) w ≡ set_up_refusal (memory_of b all len ws) n w (replicate w k)
 set_up_same b all len ws n w k h f =
     ap (λ (j : ℕ). set_up_number n w j (length ws) w) (sym (lent_length h f)) ∙
-    ap (set_up_number n w (length (take len all.list)) (length ws)) (sym (length-replicate w k)) ∙
+    ap (set_up_number n w (length (take len all)) (length ws)) (sym (length-replicate w k)) ∙
     set_up_number_lem (memory_of b all len ws) n w (replicate w k)
 
 -- records stored in lent places
@@ -82,7 +81,7 @@ words_small ws n w k a h i l =
     rw (sets-eq u ws 0 (omega (arith, a.words_lent)), get_or-append u (drop (0 + length u) ws) 0 i (omega arith))
     ((every_append (replicate w k) rest (every_replicate w k h) (every_replicate (5 * n * w - w) 0 (omega arith))).at i)
 
-module _ {len : ℕ} {all : Records} {list : List ℕ} (t : Bool) (b : Bench) (ws : List ℕ) (x : Lending len all list) where
+module _ {len : ℕ} {all : List Process} {list : List ℕ} (t : Bool) (b : Bench) (ws : List ℕ) (x : Lending len all list) where
   module _ (n w k : ℕ) (small : k ≤ largest) (z : set_up_number n w len (length ws) w ≡ 0) where
     pub accepted : Accepted n w (length ws) w
     accepted = set_up_fits n w len (length ws) w z
@@ -94,13 +93,13 @@ module _ {len : ℕ} {all : Records} {list : List ℕ} (t : Bool) (b : Bench) (w
     in_lent = omega (arith, mapped_length (2 * n) n, records_lent n w len (length ws) w z)
 
     abbrev pub first : RunState
-    first = state_of (fresh_run (bench_at_set_up b n w) (record { list = records_at_set_up all.list n }) 0 t) (words_at_set_up ws n w (replicate w k)) list
+    first = state_of (fresh_run (bench_at_set_up b n w) (records_at_set_up all n) 0 t) (words_at_set_up ws n w (replicate w k)) list
 
     pub begun_same : progress len first ≡ begun t (at_set_up (memory_of b all len ws) n w (replicate w k)) list 0
     begun_same =
         ap (λ (l : List Process).
         begun t (record { bench = bench_at_set_up b n w; records = l; words = words_at_set_up ws n w (replicate w k) }) list 0)
-        (take_sets len all.list 0 new_records in_lent)
+        (take_sets len all 0 new_records in_lent)
 
     set_up_done : set_up (memory_of b all len ws) n w (replicate w k) ≡ (0, at_set_up (memory_of b all len ws) n w (replicate w k))
     unfolding set_up
@@ -116,7 +115,7 @@ module _ {len : ℕ} {all : Records} {list : List ℕ} (t : Bool) (b : Bench) (w
     pub begun_sound : Shaped (memory_of b all len ws) → Sound len first
     begun_sound shaped = record {
       few = x.few;
-      filled = filled_sets all.list 0 new_records in_lent x.filled;
+      filled = filled_sets all 0 new_records in_lent x.filled;
       entries = omega arith;
       stop = omega arith;
       room = omega (arith, x.room);
@@ -124,7 +123,7 @@ module _ {len : ℕ} {all : Records} {list : List ℕ} (t : Bool) (b : Bench) (w
     }
 
     -- what the code holds after its set-up
-    pub first_state_is : {r : Run} {b' : Bench} {all' : Records} {ws' value : List ℕ} → r ≡ fresh_run b' all' 0 t → b' ≡ bench_at_set_up b n w → all' ≡ record { list = records_at_set_up all.list n }
+    pub first_state_is : {r : Run} {b' : Bench} {all' : List Process} {ws' value : List ℕ} → r ≡ fresh_run b' all' 0 t → b' ≡ bench_at_set_up b n w → all' ≡ records_at_set_up all n
         → ws' ≡ words_at_set_up ws n w (take w value) → value ≡ replicate 64 k → state_of r ws' list ≡ first
     first_state_is {value = value} er eb ea ew ev =
         let v : take w value ≡ replicate w k = ap (take w) ev ∙ take_replicate w 64 k accepted.w_most in

@@ -10,8 +10,7 @@ use Rattle.model.specs.declared.Process.{Process}
 use Rattle.model.specs.Records.{no_process}
 use Rattle.model.specs.Machine.{Memory}
 use Rattle.model.specs.SetUp.{at_set_up, set_up_refusal, set_up}
-use Rattle.tables.specs.declared.records.Records.{Records}
-use Rattle.tables.specs.Gathered.{gathered}
+use Rattle.lent.specs.Gathered.{gathered}
 use Rattle.setup.specs.SetUpByValue.{set_up_number}
 use Rattle.notation.specs.declared.Entry.{Entry}
 use Rattle.notation.specs.Grammar.{largest}
@@ -44,7 +43,7 @@ module _ {len count at : ℕ} (entries : List ℕ) {h h' : RunState} (fits : cou
   item_read n w = S.item_read figure2 entries fits z over n w
 
 -- "then 1, 2, 3, then the set-up, then the entries"
-module _ {len : ℕ} {all : Records} {list : List ℕ} (t : Bool) (f : First) (es : List Entry) (ps : List ℕ) (b : Bench) (ws : List ℕ) (x : Lending len all list)
+module _ {len : ℕ} {all : List Process} {list : List ℕ} (t : Bool) (f : First) (es : List Entry) (ps : List ℕ) (b : Bench) (ws : List ℕ) (x : Lending len all list)
     {k : ℕ} (e : k ≡ set_up_number f.n f.w len (length ws) f.w) where
   abbrev lent : Memory
   lent = memory_of b all len ws
@@ -75,9 +74,9 @@ module _ {len : ℕ} {all : Records} {list : List ℕ} (t : Bool) (f : First) (e
       ∙ sym (is_begun (set_up_refusal lent f.n f.w value) (λ m. reported (begun t m list 0)) (at_set_up lent f.n f.w value) lent nowhere (sym same_number ∙ z))
 
 -- over all lent records
-pub report_sixteen : {k : ℕ} {report : StopReport} {t : Bool} {text list : List ℕ} (len : ℕ) (b : Bench) (all : Records) (ws : List ℕ)
-    → k ≡ at_most_sixteen len → all ≡ gathered (take len all.list) no_process 16
+pub report_sixteen : {k : ℕ} {report : StopReport} {t : Bool} {text list : List ℕ} (len : ℕ) (b : Bench) (all : List Process) (ws : List ℕ)
+    → k ≡ at_most_sixteen len → all ≡ gathered (take len all) no_process 16
     → StopInText t (memory_of b all k ws) text list report → StopInText t (memory_of b all len ws) text list report
 report_sixteen {k} {report} {t} {text} {list} len b all ws e q x =
-    let a : take k all.list ≡ take len all.list = ap (λ (j : ℕ). take j all.list) e ∙ take_sixteen len all.list (gathered_filled len all q).sixteen in
+    let a : take k all ≡ take len all = ap (λ (j : ℕ). take j all) e ∙ take_sixteen len all (gathered_filled len all q).sixteen in
     subst (λ (l : List Process). StopInText t (record { bench = b; records = l; words = ws }) text list report) a x

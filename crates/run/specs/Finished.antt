@@ -5,8 +5,8 @@ use Rattle.std.proofs.lemmas.List.Edits.{sets}
 use Rattle.model.specs.declared.Bench.{Bench}
 use Rattle.model.specs.Records.{no_process}
 use Rattle.model.specs.Machine.{Memory}
-use Rattle.tables.specs.declared.records.Records.{Records}
-use Rattle.tables.specs.Gathered.{gathered}
+use Rattle.model.specs.declared.Process.{Process}
+use Rattle.lent.specs.Gathered.{gathered}
 use Rattle.notation.specs.declared.Entry.{Entry}
 use Rattle.notation.specs.EntryWords.{largest_place}
 use Rattle.notation.specs.Readers as R
@@ -21,7 +21,7 @@ use Rattle.semantics.specs.TextRun.{figure2, Ended, run_with}
 use Rattle.semantics.specs.StopPlaces.{StopsAt}
 use Rattle.entry.specs.RunState.{Filled, last_room}
 
-abbrev pub fresh_run : Bench → Records → ℕ → Bool → Run
+abbrev pub fresh_run : Bench → List Process → ℕ → Bool → Run
 fresh_run b all k t = record { bench = b; all = all; written = 0; entries = 0; stop = k; traced = t }
 
 abbrev pub finished_of : Run → StopReport → ℕ → Finished
@@ -43,8 +43,8 @@ pub record Closable (r : Run) (list : List ℕ) : Type 0 where
   pub room : r.written + last_room ≤ length list
 
 -- the lent memory, with `len` records
-abbrev pub memory_of : Bench → Records → ℕ → List ℕ → Memory
-memory_of b all len words = record { bench = b; records = take len all.list; words = words }
+abbrev pub memory_of : Bench → List Process → ℕ → List ℕ → Memory
+memory_of b all len words = record { bench = b; records = take len all; words = words }
 
 -- of the lent records at most sixteen are looked at
 abbrev pub at_most_sixteen : ℕ → ℕ
@@ -57,19 +57,19 @@ end_of len r ws list = record { number = r.number; entries = r.entries; written 
 -- what a part of a text run answers, with the memory and the listing after it
 pub record Answers (len : ℕ) (r : Finished) (ws list : List ℕ) (e : Ended) : Type 0 where
   pub same : end_of len r ws list ≡ e
-  pub filled : Filled len r.all.list
+  pub filled : Filled len r.all
 
 -- what is lent to a part of a text run
-pub record Lending (len : ℕ) (all : Records) (list : List ℕ) : Type 0 where
+pub record Lending (len : ℕ) (all : List Process) (list : List ℕ) : Type 0 where
   pub few : len ≤ 16
-  pub filled : Filled len all.list
+  pub filled : Filled len all
   pub room : room_needed false ≤ length list
 
 -- what a whole text run answers, in one of the two styles, where `all` holds the first sixteen of `len` lent records:
 -- the run of `semantics`, at any lent memory, with the filler in its place again, and where it stopped
-pub record TextRan (t : Bool) (b : Bench) (all : Records) (len : ℕ) (ws text list : List ℕ) (r : Finished) (ws' list' : List ℕ) : Type 0 where
+pub record TextRan (t : Bool) (b : Bench) (all : List Process) (len : ℕ) (ws text list : List ℕ) (r : Finished) (ws' list' : List ℕ) : Type 0 where
   pub same : end_of len r ws' list' ≡ run_with t (memory_of b all len ws) text list
-  pub again : r.all ≡ gathered (take len r.all.list) no_process 16
+  pub again : r.all ≡ gathered (take len r.all) no_process 16
   pub stops : StopsAt t (memory_of b all len ws) text list r.report
 
 -- the first line is read

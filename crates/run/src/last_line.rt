@@ -3,9 +3,8 @@ ghost use Rattle.std.specs.Prelude.{◌≡◌};
 ghost use Rattle.run.specs.Finished.{fresh_run, finished_of, closed, Closable};
 
 use entry::state::Run;
-use model::Bench;
+use model::{Bench, Process};
 use positions::StopReport;
-use tables::records::Records;
 use text_runs::last_lines;
 
 // What a text run leaves of the bench and the records, and what it returns: its number, the entries done, the listing
@@ -13,7 +12,7 @@ use text_runs::last_lines;
 #[derive(Clone, Copy)]
 pub struct Finished {
     pub bench: Bench,
-    pub all: Records,
+    pub all: [Process; 16],
     pub number: u8,
     pub entries: usize,
     pub written: usize,
@@ -21,7 +20,7 @@ pub struct Finished {
 }
 
 // A run before its first entry, or one that a refusal keeps from it.
-pub fn fresh(bench: Bench, all: Records, number: u8, traced: bool) -> Run
+pub fn fresh(bench: Bench, all: [Process; 16], number: u8, traced: bool) -> Run
     ensures { result ≡ fresh_run bench all number traced }
 {
     Run {

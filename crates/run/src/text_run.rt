@@ -3,7 +3,7 @@
 ghost use Rattle.std.specs.Prelude.{◌≡◌, true, false, ◌≤◌, length, take};
 ghost use Rattle.llsc.specs.Refusals.{refusal_number};
 ghost use Rattle.model.specs.Records.{no_process};
-ghost use Rattle.tables.specs.Gathered.{gathered};
+ghost use Rattle.lent.specs.Gathered.{gathered};
 ghost use Rattle.notation.specs.Grammar.{largest};
 ghost use Rattle.text_runs.specs.StopPlaces.{at_no_entry};
 ghost use Rattle.semantics.specs.StopPlaces.{StopInText};
@@ -13,16 +13,15 @@ ghost use Rattle.run.specs.Finished.{memory_of, at_most_sixteen, Answers, Lendin
 use crate::last_line::Finished;
 use crate::{last_line, set_up};
 use llsc::refusals::Refusal;
-use model::Bench;
+use model::{Bench, Process};
 use notation::items::Items;
 use notation::{First, items};
-use tables::records::Records;
 use text_runs::{limits, lists, reports};
 
 // A run that is refused before its set-up, in either style, at no entry.
 fn refused(
     bench: Bench,
-    all: Records,
+    all: [Process; 16],
     len: usize,
     cause: Refusal,
     n: u64,
@@ -44,7 +43,7 @@ fn refused(
 // where W is in its range.
 fn started(
     bench: Bench,
-    all: Records,
+    all: [Process; 16],
     len: usize,
     traced: bool,
     first: First,
@@ -78,7 +77,7 @@ fn started(
 // "then 10 and 11 over the whole text": its items are read once, into the list of its entries.
 fn checked(
     bench: Bench,
-    all: Records,
+    all: [Process; 16],
     len: usize,
     traced: bool,
     first: First,
@@ -118,14 +117,14 @@ pub fn records_seen(len: usize) -> usize
 // A text run in one of the two styles.
 fn run_in_style(
     bench: Bench,
-    all: Records,
+    all: [Process; 16],
     len: usize,
     traced: bool,
     words: &mut [u64],
     text: &[u8],
     list: &mut [u8],
 ) -> Finished
-    requires { all ≡ gathered (take len all.list) no_process 16 }
+    requires { all ≡ gathered (take len all) no_process 16 }
     ensures { TextRan traced bench all len words.old text.now list.old
         result words.new list.new }
 {
@@ -161,13 +160,13 @@ fn run_in_style(
 // `all` holds the first sixteen of `len` lent records, with a filler where there are fewer.
 pub fn run_by_value(
     bench: Bench,
-    all: Records,
+    all: [Process; 16],
     len: usize,
     words: &mut [u64],
     text: &[u8],
     list: &mut [u8],
 ) -> Finished
-    requires { all ≡ gathered (take len all.list) no_process 16 }
+    requires { all ≡ gathered (take len all) no_process 16 }
     ensures { TextRan false bench all len words.old text.now list.old
         result words.new list.new }
 {
@@ -177,13 +176,13 @@ pub fn run_by_value(
 // The same run, with the trace in place of the listing.
 pub fn trace_by_value(
     bench: Bench,
-    all: Records,
+    all: [Process; 16],
     len: usize,
     words: &mut [u64],
     text: &[u8],
     list: &mut [u8],
 ) -> Finished
-    requires { all ≡ gathered (take len all.list) no_process 16 }
+    requires { all ≡ gathered (take len all) no_process 16 }
     ensures { TextRan true bench all len words.old text.now list.old
         result words.new list.new }
 {

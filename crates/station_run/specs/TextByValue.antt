@@ -3,8 +3,7 @@
 use Rattle.std.specs.Prelude.{◌≡◌, ℕ, List, map, cond, eqb, length, get_or, set}
 use Rattle.model.specs.declared.Bench.{Bench}
 use Rattle.model.specs.Records.{no_process}
-use Rattle.tables.specs.declared.records.Records.{Records}
-use Rattle.tables.specs.Gathered as T
+use Rattle.model.specs.declared.Process.{Process}
 use Rattle.run.specs.declared.last_line.Finished.{Finished}
 use Rattle.run.specs.Finished.{at_most_sixteen}
 use Rattle.station.specs.declared.Station.{Station}
@@ -21,18 +20,18 @@ abbrev pub bench_before : Station → Bench
 bench_before s = unsized (get_or s.tables 0 no_tables)
 
 -- sixteen processes as record 0 has them
-abbrev pub records_before : List StationProcess → Records
-records_before all = T.gathered (map (process_of record0) all) no_process 16
+abbrev pub records_before : List StationProcess → List Process
+records_before all = map (process_of record0) all
 
 -- the station record after the run
 abbrev pub station_ran : Station → Bench → Station
 station_ran s b = record { n = b.n; w = b.w; r = 1; tables = set s.tables 0 (put_tables b) }
 
 -- what record 0's run made of process p, put back
-abbrev pub put_at : Records → ℕ → StationProcess → StationProcess
-put_at rs p q = put_process record0 q (get_or rs.list p no_process)
+abbrev pub put_at : List Process → ℕ → StationProcess → StationProcess
+put_at rs p q = put_process record0 q (get_or rs p no_process)
 
-abbrev pub processes_ran : List StationProcess → Records → ℕ → List StationProcess
+abbrev pub processes_ran : List StationProcess → List Process → ℕ → List StationProcess
 processes_ran all rs k = firsts (put_at rs) 0 k all
 
 abbrev pub left_with : Station → List StationProcess → ℕ → Finished → RunLeft

@@ -4,15 +4,15 @@
 #![tactic(auto)]
 
 ghost use Rattle.std.specs.Prelude.{◌≡◌, ◌≤◌};
+ghost use Rattle.station.specs.Projection.{process_of};
 ghost use Rattle.station_records.specs.Gathered.{LentProcesses};
+ghost use Rattle.station_run.specs.StationText.{record0};
 ghost use Rattle.station_run.specs.TextByValue.{bench_before, records_before, station_ran, processes_ran, put_back, StationRan};
 
-use model::Bench;
+use model::{Bench, Process};
 use run::last_line::Finished;
 use run::text_run;
 use station::{RecordNumber, Station, StationProcess, Tables};
-use tables::records;
-use tables::records::Records;
 
 // What a text run leaves of the station and the process records, how many of these to store back, and what it returns:
 // its number, 0 at `end`, the entries done and the listing bytes written.
@@ -40,15 +40,17 @@ fn bench_before(station: Station) -> Bench
     }
 }
 
-// The processes as record 0 has them.
-fn records_before(all: [StationProcess; 16]) -> Records
+// A process as record 0 has it.
+fn seen(process: StationProcess) -> Process
+    ensures { result ≡ process_of record0 process }
+{
+    station_records::process_of(RecordNumber(0), process)
+}
+
+fn records_before(all: [StationProcess; 16]) -> [Process; 16]
     ensures { result ≡ records_before all }
 {
-    let mut next = records::records_of(records::no_process());
-    for i in 0..16 {
-        next.list[i] = station_records::process_of(RecordNumber(0), all[i]);
-    }
-    next
+    all.map(|process| seen(process))
 }
 
 // N, W, R = 1 and the tables of record 0.
@@ -65,14 +67,14 @@ fn station_ran(station: Station, bench: Bench) -> Station
 // The first `count` processes, with what record 0's run made of them.
 fn processes_ran(
     mut all: [StationProcess; 16],
-    records: Records,
+    records: [Process; 16],
     count: usize,
 ) -> [StationProcess; 16]
     requires { count ≤ 16 }
     ensures { result ≡ processes_ran all records count }
 {
     for i in 0..count {
-        all[i] = station_records::put_process(RecordNumber(0), all[i], records.list[i]);
+        all[i] = station_records::put_process(RecordNumber(0), all[i], records[i]);
     }
     all
 }

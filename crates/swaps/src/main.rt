@@ -17,7 +17,7 @@ fn main(rt: HostRuntime) -> Result<ExitCode, AllocError> {
     let mut marked = vec![in rt.alloc(); 0; 3265730]?;
     let mut words = [0; 5120];
     let bench = model::empty_bench();
-    let all = tables::records::records_of(tables::records::no_process());
+    let all = [tables::no_process(); 16];
     let out = run::text_run::trace_by_value(bench, all, 16, &mut words, given, &mut list);
     let trace = &list[..out.written.min(list.len())];
     let count = marking::output::mark_lines(trace, &mut marked);

@@ -14,7 +14,7 @@ fn main(rt: HostRuntime) -> Result<ExitCode, AllocError> {
     let mut list = vec![in rt.alloc(); 0; 3145728]?;
     let mut words = [0; 5120];
     let bench = model::empty_bench();
-    let all = tables::records::records_of(tables::records::no_process());
+    let all = [tables::no_process(); 16];
     let out = run::text_run::trace_by_value(bench, all, 16, &mut words, given, &mut list);
     let mut errors = rt.stderr();
     let told = messages::output(&mut rt.stdout(), &mut errors, list.get(..out.written)).and_then(
