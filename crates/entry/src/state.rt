@@ -1,14 +1,26 @@
-// A run in progress, by value.
+// What a run holds, by value.
+ghost use Rattle.std.specs.Prelude.{◌≡◌};
+ghost use Rattle.entry.specs.RunState.{empty_held};
+
 use model::{Bench, Process};
 
-// The bench and the records, the bytes of the listing that are written, the entries done, the number of the refusal
-// that stopped the run, 0 while it goes on, and whether it writes a trace.
+// The bench record and the first sixteen process records.
 #[derive(Clone, Copy)]
-pub struct Run {
+pub struct Held {
     pub bench: Bench,
     pub all: [Process; 16],
-    pub written: usize,
-    pub entries: usize,
-    pub stop: u8,
-    pub traced: bool,
 }
+
+impl Held {
+    // An empty bench, and no process: what a program, or the C library, has of its own.
+    pub fn empty() -> Held
+        ensures { result ≡ empty_held }
+    {
+        Held {
+            bench: model::empty_bench(),
+            all: [model::process_at_set_up(0); 16],
+        }
+    }
+}
+
+pub type Run = text_runs::runs::Run<Held>;

@@ -3,6 +3,7 @@
 
 #![tactic(auto)]
 
+use llsc::refusals::number_of;
 use std::process::ExitCode;
 
 fn main(rt: HostRuntime) -> ExitCode {
@@ -16,10 +17,10 @@ fn main(rt: HostRuntime) -> ExitCode {
         |()| {
             moir_messages::explain(
                 &mut errors,
-                out.number,
+                number_of(out.outcome),
                 out.entries,
                 out.report,
-                out.all,
+                out.held.all,
                 given,
             )
         },

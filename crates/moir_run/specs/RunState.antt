@@ -5,15 +5,17 @@ use Rattle.llsc.specs.declared.refusals.Refusal.{Refusal}
 use Rattle.llsc.specs.Refusals.{refusal_number}
 use Rattle.notation.specs.declared.Entry.{Entry}
 use Rattle.text_runs.specs.TextRun.{most_entries, lines_of}
+use Rattle.text_runs.specs.Runs.{last_room}
 use Rattle.text_runs.proofs.SingleEntries.{outcome}
 use Rattle.moir_semantics.specs.TextRun.{figure6, Progress}
 use Rattle.moir_semantics.proofs.SmallWords.{Small}
-use Rattle.moir_run.specs.declared.turns.Run.{Run}
+use Rattle.text_runs.specs.declared.runs.Run.{Run}
+use Rattle.moir_run.specs.declared.turns.Held.{Held}
 
 -- the run, with the number that it stops with, 0 while it goes on, the lent words and the listing
-abbrev pub progress : Run → ℕ → List ℕ → List ℕ → Progress
+abbrev pub progress : Run Held → ℕ → List ℕ → List ℕ → Progress
 progress r k words listing = record {
-  memory = record { bench = r.bench; records = r.all; words = words };
+  memory = record { bench = r.held.bench; records = r.held.all; words = words };
   listing = listing;
   written = r.written;
   entries = r.entries;
@@ -22,13 +24,9 @@ progress r k words listing = record {
 }
 
 -- after an entry: the run goes on, or it is refused where it stands
-abbrev pub turned : Run → Result Run Refusal → List ℕ → List ℕ → Progress
+abbrev pub turned : Run Held → Result (Run Held) Refusal → List ℕ → List ℕ → Progress
 turned r (Ok next) words listing = progress next 0 words listing
 turned r (Err f) words listing = progress r (refusal_number f) words listing
-
--- the longest last line has 17 bytes
-abbrev pub last_room : ℕ
-last_room = 17
 
 -- what holds of a run at every moment
 pub record Sound (s : Progress) : Type 0 where

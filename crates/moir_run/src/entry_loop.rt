@@ -3,18 +3,10 @@ ghost use Rattle.std.specs.Prelude.{◌≤◌, length};
 ghost use Rattle.moir_run.specs.RunState.{progress, Sound};
 ghost use Rattle.moir_run.specs.Finished.{Carries};
 
-use crate::turns::Run;
+use crate::turns::{Held, Run};
 use crate::{entries, turns};
-use llsc::refusals::Refusal;
 use notation::entry_words;
-
-// The run after its list, its place in it, that of the entry that was refused, or the end; and why it was refused.
-#[derive(Clone, Copy)]
-pub struct Carried {
-    pub run: Run,
-    pub at: usize,
-    pub outcome: Result<(), Refusal>,
-}
+use text_runs::runs::Carried;
 
 // An entry that is refused stops the run; `!` stays at its place in the list until its call answers.
 pub fn carry_out(
@@ -23,7 +15,7 @@ pub fn carry_out(
     count: usize,
     words: &mut [u64],
     list: &mut [u8],
-) -> Carried
+) -> Carried<Held>
     requires { (count ≤ length kept.now) × (Sound (progress run 0 words.old list.old)) }
     ensures { Carries kept.now count run words.old list.old result words.new list.new }
 {
@@ -42,7 +34,7 @@ pub fn carry_out(
                 };
             }
         }
-        if !entries::stays(e, now.all) {
+        if !entries::stays(e, now.held.all) {
             at += 1;
         }
     }

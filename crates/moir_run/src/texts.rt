@@ -7,64 +7,27 @@ ghost use Rattle.text_runs.specs.StopPlaces.{at_no_entry, StopInText};
 ghost use Rattle.text_runs.specs.KeptEntries.{entries_in, places_in, refused_with, started_with, report_with, says_after};
 ghost use Rattle.moir_semantics.specs.TextRun.{figure6};
 ghost use Rattle.moir_run.specs.TextRan.{at_start, seen, returned, TextRan};
-ghost use Rattle.moir_run.specs.Finished.{fresh_run, finished_of, closed, Closable, Headed, Roomy};
+ghost use Rattle.moir_run.specs.Finished.{held_with, Headed, Roomy};
 
 use crate::entry_loop;
-use crate::turns::Run;
-use llsc::refusals;
+use crate::turns::Held;
 use llsc::refusals::Refusal;
 use moir_machine::setting_up;
-use moir_model::{Bench, Process};
+use moir_model::Bench;
 use notation::items::Items;
 use notation::{First, items};
-use positions::StopReport;
-use text_runs::{last_lines, limits, lists, reports};
+use text_runs::{limits, lists, reports, runs};
 
-// What a text run leaves of the records, and what it returns: its number, 0 at `end`, the entries done, the bytes written
-// of the listing or of the trace, and where it stopped.
-#[derive(Clone, Copy)]
-pub struct Finished {
-    pub all: [Process; 16],
-    pub number: u8,
-    pub entries: usize,
-    pub written: usize,
-    pub report: StopReport,
-}
+pub type Finished = runs::Finished<Held>;
 
-// A run before its first entry, or one that a refusal keeps from it.
-fn fresh(bench: Bench, traced: bool) -> Run
-    ensures { result ≡ fresh_run bench traced }
+// A bench with its records at their set-up.
+fn held_with(bench: Bench) -> Held
+    ensures { result ≡ held_with bench }
 {
-    Run {
+    Held {
         bench,
         all: [moir_model::process_at_set_up(); 16],
-        written: 0,
-        entries: 0,
-        traced,
     }
-}
-
-// What a run returns that ends with a number and has written so many bytes.
-fn returned(run: Run, number: u8, report: StopReport, written: usize) -> Finished
-    ensures { result ≡ finished_of run number report written }
-{
-    let all = run.all;
-    Finished {
-        all,
-        number,
-        entries: run.entries,
-        written,
-        report,
-    }
-}
-
-// A run with its last line.
-fn ended(run: Run, number: u8, report: StopReport, list: &mut [u8]) -> Finished
-    requires { Closable run number list.old }
-    ensures { (result, list.new) ≡ closed run number report list.old }
-{
-    let next = last_lines::write(number, run.entries, list, run.written);
-    returned(run, number, report, next)
 }
 
 // A run that is refused before its set-up, in either style, at no entry.
@@ -73,9 +36,9 @@ fn refused(refusal: Refusal, n: u64, w: u64, place: usize, list: &mut [u8]) -> F
     ensures { (returned result list.new ≡ seen (refused_with figure6 (refusal_number refusal) at_start list.old)) ×
         (result.report ≡ at_no_entry n w place) }
 {
-    let run = fresh(moir_model::empty_bench(), false);
+    let run = runs::fresh(held_with(moir_model::empty_bench()), false);
     let report = reports::at_no_entry(n, w, place);
-    ended(run, refusal.number(), report, list)
+    runs::ended(run, Err(refusal), report, list)
 }
 
 // The words of the largest N and W.
@@ -101,11 +64,11 @@ fn started(traced: bool, first: First, kept: &[u64], count: usize, list: &mut [u
             let value = lists::repeated(first.initial);
             setting_up::words_at_set_up(&mut words, n, w, &value[..w]);
             let bench = setting_up::bench_at_set_up(moir_model::empty_bench(), n, w);
-            let run = fresh(bench, traced);
+            let run = runs::fresh(held_with(bench), traced);
             let carried = entry_loop::carry_out(run, kept, count, &mut words, list);
-            let number = refusals::number_of(carried.outcome);
-            let report = reports::stop_report(first.n, first.w, number, kept, carried.at);
-            ended(carried.run, number, report, list)
+            let outcome = carried.outcome;
+            let report = reports::stop_report(first.n, first.w, outcome, kept, carried.at);
+            runs::ended(carried.run, outcome, report, list)
         }
     }
 }
@@ -129,9 +92,9 @@ pub fn run_text(text: &[u8], traced: bool, list: &mut [u8]) -> Finished
     ensures { TextRan traced text.now list.old result list.new }
 {
     if list.len() < limits::room_needed(traced) {
-        let run = fresh(moir_model::empty_bench(), traced);
+        let run = runs::fresh(held_with(moir_model::empty_bench()), traced);
         let report = reports::at_no_entry(0, 0, 0);
-        return returned(run, Refusal::NoRoom.number(), report, 0);
+        return runs::returned(run, Err(Refusal::NoRoom), report, 0);
     }
     if limits::LONGEST_TEXT < text.len() {
         return refused(Refusal::TooMuch, 0, 0, 0, list);

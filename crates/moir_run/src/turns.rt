@@ -15,24 +15,22 @@ use notation::Entry;
 use text_runs::entries::{order_of, process_of};
 use text_runs::limits;
 
-// A run in progress: bench and records, the bytes of the listing or of the trace that are written, the entries done, and
-// whether it is traced.
+// What a run holds: the bench and the sixteen records.
 #[derive(Clone, Copy)]
-pub struct Run {
+pub struct Held {
     pub bench: Bench,
     pub all: [Process; 16],
-    pub written: usize,
-    pub entries: usize,
-    pub traced: bool,
 }
+
+pub type Run = text_runs::runs::Run<Held>;
 
 // An entry that nothing refuses. What a trace shows is seen in the memory before the command.
 fn accepted(run: Run, e: Entry, list: &mut [u8], words: &mut [u64]) -> Run
     requires { Free e (progress run 0 words.old list.old) }
     ensures { progress result 0 words.new list.new ≡ commanded figure6 e (progress run 0 words.old list.old) }
 {
-    let bench = run.bench;
-    let mut all = run.all;
+    let bench = run.held.bench;
+    let mut all = run.held.all;
     let p = process_of(e);
     let own = ProcessNumber(p as u8);
     let place = own.record_place();
@@ -46,9 +44,9 @@ fn accepted(run: Run, e: Entry, list: &mut [u8], words: &mut [u64]) -> Run
     let shown = written_lines::trace_line(access, k, e, moved.reply, list, run.written);
     let written = written_lines::answer_line(moved.reply, p, moved.bench, words, list, shown);
     all[place] = moved.process;
+    let bench = moved.bench;
     Run {
-        bench: moved.bench,
-        all,
+        held: Held { bench, all },
         written,
         entries: k,
         ..run
@@ -65,7 +63,7 @@ pub fn turn(run: Run, e: Entry, list: &mut [u8], words: &mut [u64]) -> Result<Ru
     limits::before_entry(run.entries, list.len() - run.written, needed)?;
     let p = process_of(e) as usize;
     let order = order_of(e);
-    let count = entries::words_of(e, run.bench.w);
-    table::refusal(run.bench, run.all, 16, p, order, count, words.len())?;
+    let count = entries::words_of(e, run.held.bench.w);
+    table::refusal(run.held.bench, run.held.all, 16, p, order, count, words.len())?;
     Ok(accepted(run, e, list, words))
 }

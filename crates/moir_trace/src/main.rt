@@ -3,6 +3,7 @@
 
 #![tactic(auto)]
 
+use llsc::refusals::number_of;
 use std::alloc::AllocError;
 use std::process::ExitCode;
 
@@ -18,10 +19,10 @@ fn main(rt: HostRuntime) -> Result<ExitCode, AllocError> {
         |()| {
             moir_messages::explain(
                 &mut errors,
-                out.number,
+                number_of(out.outcome),
                 out.entries,
                 out.report,
-                out.all,
+                out.held.all,
                 given,
             )
         },

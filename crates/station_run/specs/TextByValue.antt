@@ -4,7 +4,9 @@ use Rattle.std.specs.Prelude.{◌≡◌, ℕ, List, map, cond, eqb, length, get_
 use Rattle.model.specs.declared.Bench.{Bench}
 use Rattle.model.specs.Records.{no_process}
 use Rattle.model.specs.declared.Process.{Process}
-use Rattle.run.specs.declared.last_line.Finished.{Finished}
+use Rattle.llsc.specs.Refusals.{number_told}
+use Rattle.entry.specs.declared.state.Held.{Held}
+use Rattle.text_runs.specs.declared.runs.Finished.{Finished}
 use Rattle.run.specs.Finished.{at_most_sixteen}
 use Rattle.station.specs.declared.Station.{Station}
 use Rattle.station.specs.declared.StationProcess.{StationProcess}
@@ -34,18 +36,18 @@ put_at rs p q = put_process record0 q (get_or rs p no_process)
 abbrev pub processes_ran : List StationProcess → List Process → ℕ → List StationProcess
 processes_ran all rs k = firsts (put_at rs) 0 k all
 
-abbrev pub left_with : Station → List StationProcess → ℕ → Finished → RunLeft
-left_with s all k out = record { station = s; all = all; stored = k; number = out.number; entries = out.entries; written = out.written }
+abbrev pub left_with : Station → List StationProcess → ℕ → Finished Held → RunLeft
+left_with s all k out = record { station = s; all = all; stored = k; outcome = out.outcome; entries = out.entries; written = out.written }
 
-unfoldable pub put_back : Station → List StationProcess → Finished → RunLeft
+unfoldable pub put_back : Station → List StationProcess → Finished Held → RunLeft
 put_back s all out =
-    cond (eqb out.bench.n 0) (left_with s all 0 out)
-    (left_with (station_ran s out.bench) (processes_ran all out.all (at_most_sixteen out.bench.n)) (at_most_sixteen out.bench.n) out)
+    cond (eqb out.held.bench.n 0) (left_with s all 0 out)
+    (left_with (station_ran s out.held.bench) (processes_ran all out.held.all (at_most_sixteen out.held.bench.n)) (at_most_sixteen out.held.bench.n) out)
 
 -- what a run returns and leaves, with the process records, the words and the listing after it
 abbrev pub ended_with : RunLeft → List StationProcess → List ℕ → List ℕ → StationEnded
 ended_with r ps ws list =
-    record { number = r.number; entries = r.entries; written = r.written; memory = station_memory r.station ps ws; listing = list }
+    record { number = number_told r.outcome; entries = r.entries; written = r.written; memory = station_memory r.station ps ws; listing = list }
 
 -- what a text run answers where `all` holds the first sixteen of `len` lent process records: stored back, the run of
 -- `station_run_text`

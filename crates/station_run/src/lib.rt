@@ -9,19 +9,22 @@ ghost use Rattle.station_records.specs.Gathered.{LentProcesses};
 ghost use Rattle.station_run.specs.StationText.{record0};
 ghost use Rattle.station_run.specs.TextByValue.{bench_before, records_before, station_ran, processes_ran, put_back, StationRan};
 
+use entry::state::Held;
+use llsc::refusals::Refusal;
 use model::{Bench, Process};
-use run::last_line::Finished;
 use run::text_run;
+use run::text_run::Finished;
 use station::{RecordNumber, Station, StationProcess, Tables};
 
-// What a text run leaves of the station and the process records, how many of these to store back, and what it returns:
-// its number, 0 at `end`, the entries done and the listing bytes written.
+// What a text run leaves of the station and the process records, how many of these to store back, none where it was
+// refused before its set-up, and what it returns: why it was refused, if it was, the entries done and the listing bytes
+// written.
 #[derive(Clone, Copy)]
 pub struct RunLeft {
     pub station: Station,
     pub all: [StationProcess; 16],
     pub stored: usize,
-    pub number: u8,
+    pub outcome: Result<(), Refusal>,
     pub entries: usize,
     pub written: usize,
 }
@@ -84,20 +87,19 @@ fn processes_ran(
 fn put_back(station: Station, all: [StationProcess; 16], out: Finished) -> RunLeft
     ensures { result ≡ put_back station all out }
 {
-    let Finished {
+    let Held {
         bench,
         all: records,
-        number,
-        entries,
-        written,
-        ..
-    } = out;
+    } = out.held;
+    let outcome = out.outcome;
+    let entries = out.entries;
+    let written = out.written;
     if bench.n == 0 {
         return RunLeft {
             station,
             all,
             stored: 0,
-            number,
+            outcome,
             entries,
             written,
         };
@@ -108,7 +110,7 @@ fn put_back(station: Station, all: [StationProcess; 16], out: Finished) -> RunLe
         station: station_ran(station, bench),
         all,
         stored,
-        number,
+        outcome,
         entries,
         written,
     }
@@ -127,8 +129,10 @@ pub fn run_by_value(
     ensures { StationRan station all len words.old text.now listing.old
         result words.new listing.new }
 {
-    let bench = bench_before(station);
-    let records = records_before(all);
-    let out = text_run::run_by_value(bench, records, len, words, text, listing);
+    let held = Held {
+        bench: bench_before(station),
+        all: records_before(all),
+    };
+    let out = text_run::run_by_value(held, len, words, text, listing);
     put_back(station, all, out)
 }

@@ -4,6 +4,8 @@
 
 #![tactic(auto)]
 
+use entry::state::Held;
+use llsc::refusals::number_of;
 use std::alloc::AllocError;
 use std::process::ExitCode;
 
@@ -16,9 +18,8 @@ fn main(rt: HostRuntime) -> Result<ExitCode, AllocError> {
     // room for it with two columns before each line
     let mut marked = vec![in rt.alloc(); 0; 3265730]?;
     let mut words = [0; 5120];
-    let bench = model::empty_bench();
-    let all = [tables::no_process(); 16];
-    let out = run::text_run::trace_by_value(bench, all, 16, &mut words, given, &mut list);
+    let held = Held::empty();
+    let out = run::text_run::trace_by_value(held, 16, &mut words, given, &mut list);
     let trace = &list[..out.written.min(list.len())];
     let count = marking::output::mark_lines(trace, &mut marked);
     let mut errors = rt.stderr();
@@ -26,10 +27,10 @@ fn main(rt: HostRuntime) -> Result<ExitCode, AllocError> {
         |()| {
             messages::figure2::explain(
                 &mut errors,
-                out.number,
+                number_of(out.outcome),
                 out.entries,
                 out.report,
-                out.all,
+                out.held.all,
                 given,
             )
         },

@@ -1,14 +1,13 @@
-// The tables of the bench record, each reached only by its own kind of number, and the process record that stands for none.
+// The tables of the bench record, each reached only by its own kind of number.
 // A table that is worked on where it stands is indexed by what its own function here makes of its kind (`bank_place`).
 
 #![tactic(auto)]
 
 ghost use Rattle.std.specs.Prelude.{◌≡◌, ◌<◌};
-ghost use Rattle.model.specs.Records.{no_process};
 ghost use Rattle.model.specs.Tables.{bank_at, help_at, put_x, put_bank, put_help};
 
 use llsc::ProcessNumber;
-use model::{BankPlace, Bench, HelpPlace, Process, SequenceNumber, XPlace};
+use model::{BankPlace, Bench, HelpPlace, SequenceNumber, XPlace};
 
 // The place in Bank that a sequence number names.
 pub fn bank_place(i: SequenceNumber) -> usize
@@ -65,11 +64,4 @@ pub fn put_help(bench: Bench, i: ProcessNumber, place: HelpPlace) -> Bench
     let mut bench = bench;
     bench.help[help_place(i)] = place;
     bench
-}
-
-// What stands in place of a process record where none is lent.
-pub fn no_process() -> Process
-    ensures { result ≡ no_process }
-{
-    model::process_at_set_up(0)
 }

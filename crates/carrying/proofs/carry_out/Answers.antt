@@ -1,13 +1,14 @@
 -- `carrying::carry_out`: a turn of the loop is an entry made, refused or not yet over (`LoopLaws`).
 use mathlib.Core.Path.{refl, sym, ◌∙◌}
 use native.Mathlib.Omega.{arith}
-use Rattle.carrying.proofs.LoopLaws.{from_run, first_head, head_all, looking, place_small, taken_at_lem, loop_refused, not_refused, is_refused}
+use Rattle.llsc.proofs.RefusalNumbers.{number_some}
+use Rattle.carrying.proofs.LoopLaws.{first_head, head_all, looking, place_small, taken_at_lem, loop_refused, not_refused}
 use Rattle.carrying.proofs.LoopLaws.{loop_sized, loop_more, loop_bank, loop_help, loop_turnable, loop_over, loop_further}
 use Rattle.carrying.proofs.carry_out.Goals as goal
 
 pub loop-at-init : goal.loop-at-init
 loop-at-init c =
-    (first_head c.requires.0 c.requires.1 c.requires.2 refl refl c.room_needed-needed.ensures, refl)
+    (first_head c.requires.0 c.requires.1 refl refl c.room_needed-needed.ensures, refl)
 
 pub bounds-entries-at : goal.bounds-entries-at
 bounds-entries-at c =
@@ -166,22 +167,22 @@ shape_of-list-after-loop-at c = (head_all c.loop-at.invariant.0 c.loop-at-test.f
 
 pub returns-after-loop-at : goal.returns-after-loop-at
 returns-after-loop-at c =
-    from_run c.requires.2 (rw c.loop-at.invariant.1 (head_all c.loop-at.invariant.0 c.loop-at-test.false))
+    rw c.loop-at.invariant.1 (head_all c.loop-at.invariant.0 c.loop-at-test.false)
 
 pub shape_of-words-in-Err : goal.shape_of-words-in-Err
 shape_of-words-in-Err c =
     let x = looking c.loop-at.invariant.0 c.loop-at-test.true c.entry_in-e.ensures c.process_of-p.ensures c.process_number-k.ensures
     c.record_place.ensures c.order_of-order.ensures in
-    (loop_refused x (c.number-stop.ensures ∙ c.in-Err.ensures) (is_refused c.in-Err.refusal c.number-stop.ensures)).becomes.kept.words
+    (loop_refused x c.in-Err.ensures (number_some c.in-Err.refusal)).becomes.kept.words
 
 pub shape_of-list-in-Err : goal.shape_of-list-in-Err
 shape_of-list-in-Err c =
     let x = looking c.loop-at.invariant.0 c.loop-at-test.true c.entry_in-e.ensures c.process_of-p.ensures c.process_number-k.ensures
     c.record_place.ensures c.order_of-order.ensures in
-    (loop_refused x (c.number-stop.ensures ∙ c.in-Err.ensures) (is_refused c.in-Err.refusal c.number-stop.ensures)).becomes.kept.listing
+    (loop_refused x c.in-Err.ensures (number_some c.in-Err.refusal)).becomes.kept.listing
 
 pub returns-in-Err : goal.returns-in-Err
 returns-in-Err c =
     let x = looking c.loop-at.invariant.0 c.loop-at-test.true c.entry_in-e.ensures c.process_of-p.ensures c.process_number-k.ensures
     c.record_place.ensures c.order_of-order.ensures in
-    from_run c.requires.2 (loop_refused x (c.number-stop.ensures ∙ c.in-Err.ensures) (is_refused c.in-Err.refusal c.number-stop.ensures))
+    (loop_refused x c.in-Err.ensures (number_some c.in-Err.refusal))

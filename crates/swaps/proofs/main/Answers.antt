@@ -1,5 +1,4 @@
 -- `swaps::main`: the records that it hands over are fillers.
-use mathlib.Core.Path.{refl}
 use Rattle.run.proofs.RecordLaws.{fillers}
 use Rattle.swaps.proofs.main.Goals as goal
 

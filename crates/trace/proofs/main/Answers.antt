@@ -1,5 +1,4 @@
 -- `trace::main`: the records that it hands over are fillers.
-use mathlib.Core.Path.{refl}
 use Rattle.run.proofs.RecordLaws.{fillers}
 use Rattle.trace.proofs.main.Goals as goal
 

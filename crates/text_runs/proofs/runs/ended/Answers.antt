@@ -1,0 +1,6 @@
+-- `text_runs::runs::ended`: the last line, and what the run returns.
+use Rattle.text_runs.proofs.LastLaws.{closable_room}
+use Rattle.text_runs.proofs.runs.ended.Goals as goal
+
+pub write-next-requires : goal.write-next-requires
+write-next-requires g c = closable_room c.requires
