@@ -26,10 +26,11 @@ use Rattle.board_rows.proofs.FileRows.{has_trailer}
 use Rattle.text_runs.specs.TextRun.{room_needed}
 use Rattle.semantics.specs.TextRun.{Progress, Ended, ended, begun}
 use Rattle.entry.specs.declared.state.Held.{Held}
-use Rattle.text_runs.specs.declared.runs.Run.{Run}
+use Rattle.entry.specs.declared.state.Run.{Run}
 use Rattle.entry.specs.RunState.{RunState, state_of, progress}
 use Rattle.entry.proofs.FilledLaws.{gathered_filled}
-use Rattle.text_runs.specs.Runs.{Outcome, fresh_run}
+use Rattle.entry.specs.RunState.{fresh_run}
+use Rattle.text_runs.specs.Runs.{Outcome}
 use Rattle.run.specs.Finished.{memory_of, Lending}
 use Rattle.run.proofs.StartLaws.{set_up_same, first, begun_same, begun_sound}
 use Rattle.text_runs.proofs.TextLaws.{not_begun, is_begun}
@@ -48,7 +49,7 @@ pub obeyed_closable : {rs : _} {h : RunState} {s : Stopped} {ws list : List ℕ}
 obeyed_closable o = record { entries = o.few; stop = omega (arith, o.stop); room = o.room }
 
 -- "25 and 26 also before a run"
-module _ (r : Run Held) (ws file list : List ℕ) {o : Outcome} (e : number_told o ≡ file_number file) where
+module _ (r : Run) (ws file list : List ℕ) {o : Outcome} (e : number_told o ≡ file_number file) where
   abbrev m : Memory
   m = memory_of r.held 16 ws
 
@@ -79,7 +80,7 @@ module _ (r : Run Held) (ws file list : List ℕ) {o : Outcome} (e : number_told
     unfolding run_listed
     file_run_is fresh {done} {ws' = ws'} {list' = list'} o c = record {
       same = closed_ends done ws' list' c ∙ ap ended o.same
-          ∙ ap (λ (x : Run Held). ended (obey_all (left_of file l) (progress 16 (state_of x 0 ws list)))) fresh
+          ∙ ap (λ (x : Run). ended (obey_all (left_of file l) (progress 16 (state_of x 0 ws list)))) fresh
           ∙ ap (λ rs. ended (obey_all rs (begun false m list 0))) (as_left file l f)
           ∙ sym (ap ran (eq-eqb (file_number file) 0 (sym e ∙ z)));
       words = o.words;
@@ -114,7 +115,7 @@ module _ {list : List ℕ} (held : Held) (ws file : List ℕ) (x : Lending 16 he
     abbrev begins : RunState
     begins = first false held ws x n w k small (sym e ∙ z)
 
-    pub begun_between : Shaped before → {r : Run Held} {ws₁ : List ℕ} → state_of r 0 ws₁ list ≡ begins → Between (state_of r 0 ws₁ list)
+    pub begun_between : Shaped before → {r : Run} {ws₁ : List ℕ} → state_of r 0 ws₁ list ≡ begins → Between (state_of r 0 ws₁ list)
     begun_between s q = subst Between (sym q) (record {
       sound = begun_sound false held ws x n w k small (sym e ∙ z) s;
       goes = refl;
@@ -123,7 +124,7 @@ module _ {list : List ℕ} (held : Held) (ws file : List ℕ) (x : Lending 16 he
       room = omega (arith, x.room);
     })
 
-    pub set_up_run : {r : Run Held} {out : Stopped} {ws₁ ws' list' : List ℕ} → state_of r 0 ws₁ list ≡ begins → RunsFile r ws₁ file list out ws' list'
+    pub set_up_run : {r : Run} {out : Stopped} {ws₁ ws' list' : List ℕ} → state_of r 0 ws₁ list ≡ begins → RunsFile r ws₁ file list out ws' list'
         → end_of out ws' list' ≡ after_set_up before file list (set_up before n w v)
     unfolding set_up
     set_up_run q o =
@@ -151,5 +152,5 @@ file_small file e = rw e (either (good_trailer file) (good_records file))
     either true false = omega arith
     either true true = omega arith
 
-pub as_fresh : {held : Held} {r : Run Held} → r ≡ fresh_run held false → r ≡ fresh_run r.held false
-as_fresh e = e ∙ ap (λ (x : Run Held). fresh_run x.held false) (sym e)
+pub as_fresh : {held : Held} {r : Run} → r ≡ fresh_run held false → r ≡ fresh_run r.held false
+as_fresh e = e ∙ ap (λ (x : Run). fresh_run x.held false) (sym e)

@@ -7,10 +7,11 @@ use Rattle.llsc.specs.Refusals.{number_told}
 use Rattle.std.proofs.lemmas.List.Edits.{sets}
 use Rattle.boards.specs.Files.{BoardRecord}
 use Rattle.entry.specs.declared.state.Held.{Held}
-use Rattle.text_runs.specs.declared.runs.Run.{Run}
+use Rattle.entry.specs.declared.state.Run.{Run}
 use Rattle.entry.specs.RunState.{RunState, progress, Sound}
 use Rattle.run.specs.Finished.{memory_of}
-use Rattle.text_runs.specs.Runs.{fresh_run, last_of}
+use Rattle.entry.specs.RunState.{fresh_run}
+use Rattle.text_runs.specs.Runs.{last_of}
 use Rattle.semantics.specs.TextRun.{Progress, Ended}
 use Rattle.model.specs.Machine.{Memory}
 use Rattle.model.specs.SetUp.{set_up}
@@ -21,7 +22,7 @@ use Rattle.board_listing.specs.BoardListing.{obey_all, run_listed, after_set_up}
 abbrev pub recounted : ℕ → Progress → Progress
 recounted k s = record { memory = s.memory; listing = s.listing; written = s.written; entries = k; stop = s.stop; traced = s.traced }
 
-abbrev pub with_entries : Run Held → ℕ → Run Held
+abbrev pub with_entries : Run → ℕ → Run
 with_entries r k = record { held = r.held; written = r.written; entries = k; traced = r.traced }
 
 -- where 744 bytes were left there are 31 behind an answer line; the longest last line has 19
@@ -51,7 +52,7 @@ pub record Closable (s : Stopped) (list : List ℕ) : Type 0 where
   pub stop : number_told s.outcome ≤ 99
   pub room : s.run.written + last_room ≤ length list
 
-abbrev pub with_written : Run Held → ℕ → Run Held
+abbrev pub with_written : Run → ℕ → Run
 with_written r k = record { held = r.held; written = k; entries = r.entries; traced = r.traced }
 
 -- a run that is refused before its first command
@@ -61,7 +62,7 @@ refused_with held f = record { run = fresh_run held false; outcome = Err f }
 -- a run with its last line
 abbrev pub closed : Stopped → List ℕ → Stopped × List ℕ
 closed s list =
-    (record { run = with_written s.run (s.run.written + length (last_of s.run s.outcome)); outcome = s.outcome }, sets list s.run.written (last_of s.run s.outcome))
+    (record { run = with_written s.run (s.run.written + length (last_of s.run.entries s.outcome)); outcome = s.outcome }, sets list s.run.written (last_of s.run.entries s.outcome))
 
 -- what a closed run returns and leaves
 abbrev pub end_of : Stopped → List ℕ → List ℕ → Ended
@@ -69,7 +70,7 @@ end_of s ws list =
     record { number = number_told s.outcome; entries = s.run.entries; written = s.run.written; memory = memory_of s.run.held 16 ws; listing = list }
 
 -- the file run after a set-up, and the whole from the set-up on
-pub record RunsFile (r : Run Held) (ws file list : List ℕ) (s : Stopped) (ws' list' : List ℕ) : Type 0 where
+pub record RunsFile (r : Run) (ws file list : List ℕ) (s : Stopped) (ws' list' : List ℕ) : Type 0 where
   pub same : end_of s ws' list' ≡ run_listed (memory_of r.held 16 ws) file list
   pub words : length ws' ≡ length ws
 

@@ -8,7 +8,7 @@ ghost use Rattle.board_listing.specs.BoardListing.{entry_of};
 ghost use Rattle.board_listing.specs.ListedRun.{with_entries, Between};
 
 use boards::numbers::number_at;
-use entry::state::{Held, Run};
+use entry::state::Run;
 use notation::{Entry, entry_words};
 use text_runs::runs::Carried;
 
@@ -35,7 +35,7 @@ pub fn with_entries(run: Run, entries: usize) -> Run
 }
 
 // One entry, as the only one of its list.
-pub fn obey(run: Run, e: Entry, words: &mut [u64], list: &mut [u8]) -> Carried<Held>
+pub fn obey(run: Run, e: Entry, words: &mut [u64], list: &mut [u8]) -> Carried<Run>
     requires { (Between (state_of run 0 words.old list.old)) × (Small e) }
     ensures { Becomes 16 (carry e) (state_of run 0 words.old list.old)
         (state_of result.run (number_told result.outcome) words.new list.new) }

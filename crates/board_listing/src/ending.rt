@@ -3,6 +3,7 @@ ghost use Rattle.std.specs.Prelude.{◌≡◌};
 ghost use Rattle.board_listing.specs.ListedRun.{Closable, with_written, closed};
 
 use entry::state::Run;
+use listing::Writer;
 use llsc::refusals::Refusal;
 use text_runs::last_lines;
 
@@ -25,9 +26,13 @@ pub fn close(stopped: Stopped, list: &mut [u8]) -> Stopped
     ensures { (result, list.new) ≡ closed stopped list.old }
 {
     let run = stopped.run;
-    let next = last_lines::write(stopped.outcome, run.entries, list, run.written);
+    let mut to = Writer {
+        list,
+        written: run.written,
+    };
+    last_lines::write(stopped.outcome, run.entries, &mut to);
     Stopped {
-        run: with_written(run, next),
+        run: with_written(run, to.written),
         ..stopped
     }
 }

@@ -6,7 +6,7 @@ ghost use Rattle.lent.specs.Gathered.{gathered};
 ghost use Rattle.entry.specs.RunState.{state_of};
 ghost use Rattle.run.specs.Finished.{memory_of};
 ghost use Rattle.text_runs.specs.TextRun.{room_needed};
-ghost use Rattle.text_runs.specs.Runs.{fresh_run};
+ghost use Rattle.entry.specs.RunState.{fresh_run};
 ghost use Rattle.board_listing.specs.BoardListing.{board_listed};
 ghost use Rattle.board_listing.specs.ListedRun.{Between, closed, refused_with, end_of, RunsFile, SetsUp};
 
@@ -17,7 +17,7 @@ use boards::trailers::records_of;
 use entry::state::{Held, Run};
 use llsc::refusals::Refusal;
 use run::set_up;
-use text_runs::{limits, lists, runs};
+use text_runs::{limits, lists};
 
 // A run that is refused before its first command.
 fn refused(held: Held, cause: Refusal, list: &mut [u8]) -> Stopped
@@ -25,7 +25,7 @@ fn refused(held: Held, cause: Refusal, list: &mut [u8]) -> Stopped
     ensures { (result, list.new) ≡ closed (refused_with held cause) list.old }
 {
     let stopped = Stopped {
-        run: runs::fresh(held, false),
+        run: Run::fresh(held, false),
         outcome: Err(cause),
     };
     ending::close(stopped, list)
@@ -64,7 +64,7 @@ fn set_up_and_run(
     setup::words_at_set_up(words, n, w, &value[..w]);
     let bench = setup::bench_at_set_up(held.bench, n, w);
     let all = set_up::records_at_set_up(held.all, n);
-    let run = runs::fresh(Held { bench, all }, false);
+    let run = Run::fresh(Held { bench, all }, false);
     run_file(run, file, words, list)
 }
 
@@ -86,7 +86,7 @@ pub fn run_listed(
 {
     if list.len() < limits::LISTING_ROOM {
         return Stopped {
-            run: runs::fresh(held, false),
+            run: Run::fresh(held, false),
             outcome: Err(Refusal::NoRoom),
         };
     }

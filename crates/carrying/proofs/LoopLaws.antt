@@ -29,7 +29,8 @@ use Rattle.notation.specs.declared.Entry.TheVariants.{StartLl, StartVl, StartSc,
 use Rattle.notation.specs.Grammar.{largest}
 use Rattle.notation.specs.EntryWords.{entry_in, entry_of_kind, kind_in, process_in, number_in}
 use Rattle.entry.specs.declared.state.Held.{Held}
-use Rattle.text_runs.specs.declared.runs.Run.{Run}
+use Rattle.entry.specs.declared.state.Run.{Run}
+use Rattle.listing.specs.declared.Writer.{Writer}
 use Rattle.entry.specs.declared.turn.Turn.{Turn}
 use Rattle.text_runs.specs.TextRun.{room_needed, process_of, order_of}
 use Rattle.semantics.specs.TextRun.{single}
@@ -79,7 +80,7 @@ entry_at : (count at : ℕ) (entries : List ℕ) → at < count → get_or (entr
 entry_at count at entries t = get_or-map entry_in (take count entries) at 0 ∙ ap entry_in (get_or-take count entries at 0 t)
 
 -- a run that goes on, as the loop has it
-abbrev pub going_run : Bench → List Process → ℕ → ℕ → Bool → Run Held
+abbrev pub going_run : Bench → List Process → ℕ → ℕ → Bool → Run
 going_run b all written done traced = record { held = record { bench = b; all = all }; written = written; entries = done; traced = traced }
 
 -- at the head of the loop, after what h was before it
@@ -91,7 +92,12 @@ pub record Head (count : ℕ) (entries : List ℕ) (len n w needed : ℕ) (h : R
   pub w_most : w ≤ 64
   pub needed_is : needed ≡ room_needed h₁.run.traced
 
-pub first_head : {len count n w needed : ℕ} {entries : List ℕ} {r : Run Held} {ws list : List ℕ} → let h = state_of (going_run r.held.bench r.held.all r.written r.entries r.traced) 0 ws list in
+-- the bytes after the loop are those that the writer had
+pub in_list : {len k : ℕ} {r : Run} {ws l l' : List ℕ} {es : List Entry} {h : RunState} {at : ℕ} → l' ≡ l
+    → Carries len es h (state_of r k ws l) at → Carries len es h (state_of r k ws l') at
+in_list {len} {k} {r} {ws} {es = es} {h = h} {at = at} e x = subst (λ (y : List ℕ). Carries len es h (state_of r k ws y) at) (sym e) x
+
+pub first_head : {len count n w needed : ℕ} {entries : List ℕ} {r : Run} {ws list : List ℕ} → let h = state_of (going_run r.held.bench r.held.all r.written r.entries r.traced) 0 ws list in
     count ≤ length entries → Sound len (state_of r 0 ws list) → n ≡ r.held.bench.n → w ≡ r.held.bench.w
     → needed ≡ room_needed r.traced → Head count entries len n w needed h 0 h
 first_head {count = count} {entries = entries} l s en ew er = record {
@@ -202,27 +208,31 @@ module _ {count : ℕ} {entries : List ℕ} {len n w needed at p : ℕ} {k : Pro
       loop_help = rw at_help (help_index_small ready (point_of own.line))
 
       module _ {places : Taken} (et : places ≡ taken_at b i j) where
-        pub loop_turnable : Turnable h₁.run.traced (h₁.run.entries + 1) e n w places q h₁.words h₁.listing h₁.run.written
-        loop_turnable = rw (is_own, x.head.n_is, x.head.w_is) (entry_turnable e small s c.goes x.head.needed_is free at_bank at_help et)
+        -- to is where the lines go
+        abbrev goes_to : Writer → Type 0
+        goes_to to = (to.list.now ≡ h₁.listing) × (to.written ≡ h₁.run.written)
 
-        module _ {r : Turn} {ws lst : List ℕ} (turn : Turns h₁.run.traced (h₁.run.entries + 1) e n w places q h₁.words h₁.listing h₁.run.written r ws lst) where
-          turn_own : Turns h₁.run.traced (h₁.run.entries + 1) e b.n b.w places own h₁.words h₁.listing h₁.run.written r ws lst
+        pub loop_turnable : {to : Writer} → goes_to to → Turnable h₁.run.traced (h₁.run.entries + 1) e n w places q h₁.words to
+        loop_turnable g = rw (is_own, x.head.n_is, x.head.w_is) (entry_turnable e small s c.goes x.head.needed_is free at_bank at_help et g.0 g.1)
+
+        module _ {to to' : Writer} (g : goes_to to) {r : Turn} {ws : List ℕ} (turn : Turns h₁.run.traced (h₁.run.entries + 1) e n w places q h₁.words to r ws to') where
+          turn_own : Turns h₁.run.traced (h₁.run.entries + 1) e b.n b.w places own h₁.words to r ws to'
           turn_own = rw (is_own, x.head.n_is, x.head.w_is) at turn
 
           -- the run with one entry more, its record stored at a place
           abbrev after_at : ℕ → RunState
           after_at m = state_of (record {
             held = record { bench = put_taken b i j r.taken; all = set list m r.process };
-            written = r.written;
+            written = to'.written;
             entries = h₁.run.entries + 1;
             traced = h₁.run.traced;
-          }) 0 ws lst
+          }) 0 ws to'.list.now
 
           stored : (P : RunState → Type 0) → P (after_at (process_of e)) → P (after_at k.0)
           stored P x = subst (λ (m : ℕ). P (after_at m)) (sym own_place) x
 
           made : Becomes len (single (get_or es at (entry_in 0))) h₁ (after_at (process_of e))
-          made = this (entry_made e small s c.goes x.head.needed_is free at_bank at_help et turn_own)
+          made = this (entry_made e small s c.goes x.head.needed_is free at_bank at_help et g.0 g.1 turn_own)
 
           here : process_of (get_or es at (entry_in 0)) ≡ process_of e
           here = ap process_of (entry_at count at entries x.more ∙ sym x.entry_is)
@@ -230,7 +240,7 @@ module _ {count : ℕ} {entries : List ℕ} {len n w needed at p : ℕ} {k : Pro
           line : (record_at (take len (set list (process_of e) r.process)) (record { 0 = process_of (get_or es at (entry_in 0)) })).line ≡ r.process.line
           line =
               ap (λ (m : ℕ). (record_at (take len (set list (process_of e) r.process)) (record { 0 = m })).line) here
-              ∙ own_line e small s c.goes x.head.needed_is free at_bank at_help et turn_own
+              ∙ own_line e small s c.goes x.head.needed_is free at_bank at_help et g.0 g.1 turn_own
 
           same_stay : stays_at (get_or es at (entry_in 0)) r.process.line ≡ stays_at e r.process.line
           same_stay = ap (λ (d : Entry). stays_at d r.process.line) (entry_at count at entries x.more ∙ sym x.entry_is)

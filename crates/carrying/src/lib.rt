@@ -10,6 +10,7 @@ ghost use Rattle.carrying.specs.Carried.{Carries};
 
 use entry::state::{Held, Run};
 use entry::{entries, refusals, turn};
+use listing::Writer;
 use notation::entry_words;
 use text_runs::runs::Carried;
 use text_runs::{entries as text_entries, limits};
@@ -23,7 +24,7 @@ pub fn carry_out(
     count: usize,
     words: &mut [u64],
     list: &mut [u8],
-) -> Carried<Held>
+) -> Carried<Run>
     requires { (count ≤ length entries.now) × (Sound len (state_of run 0 words.old list.old)) }
     ensures { Carries len (entries_in count entries.now) (state_of run 0 words.old list.old)
         (state_of result.run (number_told result.outcome) words.new list.new) result.at }
@@ -34,7 +35,12 @@ pub fn carry_out(
     let needed = limits::room_needed(traced);
     let mut bench = run.held.bench;
     let mut all = run.held.all;
-    let mut written = run.written;
+    // Kept: how many bytes are written stands in the run and not in a writer of its own, since a Run is a value that
+    // several functions make, keep and return, and a writer is a borrow of the list.
+    let mut to = Writer {
+        list,
+        written: run.written,
+    };
     let mut done = run.entries;
     let mut outcome = Ok(());
     let mut at = 0;
@@ -45,7 +51,7 @@ pub fn carry_out(
         let k = entries::process_number(p);
         let process = all[k.record_place()];
         let order = text_entries::order_of(e);
-        let room = list.len() - written;
+        let room = to.list.len() - to.written;
         if let Err(refusal) = refusals::refusal(order, done, room, needed, n, p, process) {
             outcome = Err(refusal);
             break;
@@ -56,7 +62,7 @@ pub fn carry_out(
         let help = bench.help[tables::help_place(j)];
         let places = taken::places(bench.x, bank, help);
         done += 1;
-        let turn = turn::carry(traced, done, e, n, w, places, process, words, list, written);
+        let turn = turn::carry(traced, done, e, n, w, places, process, words, &mut to);
         let put = turn.taken;
         let x = put.x;
         let bank = put.bank;
@@ -66,7 +72,6 @@ pub fn carry_out(
         bench.bank[tables::bank_place(i)] = bank;
         bench.help[tables::help_place(j)] = help;
         all[k.record_place()] = next;
-        written = turn.written;
         if entries::stays(e, next.line) {
             continue;
         }
@@ -75,7 +80,7 @@ pub fn carry_out(
     let held = Held { bench, all };
     let run = Run {
         held,
-        written,
+        written: to.written,
         entries: done,
         traced,
     };

@@ -13,10 +13,11 @@ use Rattle.notation.specs.declared.Entry.{Entry}
 use Rattle.notation.specs.Grammar.{largest}
 use Rattle.notation.specs.Stretches as S
 use Rattle.listing.specs.Lines.{letter_s, letter_v, ll_line, truth_line}
-use Rattle.listing.specs.Writing.{Room}
+use Rattle.listing.specs.declared.Writer.{Writer}
+use Rattle.listing.specs.Writing.{Fits}
 use Rattle.access.specs.declared.Access.{Access}
 use Rattle.entry.specs.declared.state.Held.{Held}
-use Rattle.text_runs.specs.declared.runs.Run.{Run}
+use Rattle.entry.specs.declared.state.Run.{Run}
 use Rattle.text_runs.specs.TextRun.{most_entries, room_needed}
 use Rattle.text_runs.specs.Runs.{last_room}
 use Rattle.semantics.specs.TextRun.{Progress, entry_line}
@@ -26,14 +27,18 @@ use Rattle.semantics.specs.Reached.{Reached}
 abbrev pub empty_held : Held
 empty_held = record { bench = empty_bench; all = replicate 16 no_process }
 
+-- before the first entry nothing is written and no entry done
+abbrev pub fresh_run : Held → Bool → Run
+fresh_run held t = record { held = held; written = 0; entries = 0; traced = t }
+
 -- the run, the number of the refusal that stopped it, 0 while it goes on, the lent words and the listing
 pub record RunState : Type 0 where
-  pub run : Run Held
+  pub run : Run
   pub stop : ℕ
   pub words : List ℕ
   pub listing : List ℕ
 
-abbrev pub state_of : Run Held → ℕ → List ℕ → List ℕ → RunState
+abbrev pub state_of : Run → ℕ → List ℕ → List ℕ → RunState
 state_of r k words listing = record { run = r; stop = k; words = words; listing = listing }
 
 -- what that is as a run in progress, where `len` records are lent
@@ -97,12 +102,12 @@ answer_line n w ws p (ScAnswered t k) = truth_line p letter_s k t
 answer_line n w ws p (VlAnswered t k) = truth_line p letter_v k t
 
 -- the line can be written: its process is one of N, its words are lent, and there is room
-pub record Listable (r : Reply) (p n w : ℕ) (ws list : List ℕ) (at : ℕ) : Type 0 where
+pub record Listable (r : Reply) (p n w : ℕ) (ws : List ℕ) (to : Writer) : Type 0 where
   pub process : p < n
   pub n_most : n ≤ 16
   pub w_most : w ≤ 64
   pub lent : lent_words n w ≤ length ws
-  pub room : Room list at (answer_line n w ws p r)
+  pub room : Fits to (answer_line n w ws p r)
 
 -- the trace's line of an accepted entry, none in a run that is not traced
 abbrev pub shown_line : Bool → ℕ → Access → Entry → Reply → List ℕ

@@ -2,9 +2,10 @@
 use mathlib.Core.Path.{◌≡◌, sym, ap, subst, ◌∙◌}
 use mathlib.Core.Bool.{Bool, true, false}
 use mathlib.Core.List.{List}
-use Prim.Native.Nat.{ℕ, ◌≤◌}
+use Prim.Native.Nat.{ℕ, ◌+◌, ◌≤◌}
 use native.Mathlib.Omega.{arith}
 use lib.ListN.{length, take, replicate}
+use lib.Seq.{sets}
 use Rattle.model.specs.declared.Bench.{Bench}
 use Rattle.model.specs.declared.Process.{Process}
 use Rattle.model.specs.Records.{no_process}
@@ -17,7 +18,7 @@ use Rattle.notation.specs.Grammar.{largest, deepest}
 use Rattle.notation.specs.Groups.{ItemsEnded}
 use Rattle.notation.specs.Listed.{Keeps}
 use Rattle.entry.specs.declared.state.Held.{Held}
-use Rattle.text_runs.specs.declared.runs.Run.{Run}
+use Rattle.entry.specs.declared.state.Run.{Run}
 use Rattle.text_runs.specs.declared.runs.Finished.{Finished}
 use Rattle.notation.specs.declared.First.{First}
 use Rattle.text_runs.specs.TextRun.{room_needed}
@@ -26,7 +27,8 @@ use Rattle.positions.specs.declared.StopReport.{StopReport}
 use Rattle.semantics.specs.StopPlaces.{StopsAt}
 use Rattle.entry.specs.RunState.{RunState, state_of, progress, Filled, Sound, Kept, Becomes}
 use Rattle.text_runs.specs.KeptEntries.{entries_in}
-use Rattle.text_runs.specs.Runs.{Outcome, closed, Closable}
+use Rattle.listing.specs.declared.Writer.{Writer}
+use Rattle.text_runs.specs.Runs.{Outcome, Closable, finished_of, last_of}
 use Rattle.llsc.specs.Refusals.{number_told}
 use Rattle.run.specs.Finished.{memory_of, at_most_sixteen, end_of, Answers, Lending, TextRan, refused_with, started_with, says_after}
 use Rattle.entry.proofs.FilledLaws.{gathered_filled, filled_gathered}
@@ -37,22 +39,26 @@ use Rattle.semantics.proofs.FarLaws.{far_refused}
 use Rattle.run.proofs.StartLaws.{set_up_same, first, begun_same}
 
 -- a sound run has room for its last line
-pub sound_closable : {len : ℕ} {r : Run Held} {o : Outcome} {ws list : List ℕ} → Sound len (state_of r (number_told o) ws list) → Closable r o list
-sound_closable s = record { entries = s.entries; stop = s.stop; room = s.room }
+pub sound_closable : {len : ℕ} {r : Run} {o : Outcome} {ws : List ℕ} {to : Writer} → to.written ≡ r.written → Sound len (state_of r (number_told o) ws to.list.now) → Closable r.entries o to
+sound_closable e s = record { few = s.entries; stop = s.stop; room = omega (arith, e, s.room) }
+
+-- what a run comes to with its last line
+abbrev closed_run : Run → Outcome → StopReport → List ℕ → Finished Held × List ℕ
+closed_run r o report list = (finished_of r.held r.entries o report (r.written + length (last_of r.entries o)), sets list r.written (last_of r.entries o))
 
 -- with its last line a run is ended
-pub closed_answers : {len : ℕ} {report : StopReport} {list' : List ℕ} {out : Finished Held} (r : Run Held) (o : Outcome) (ws list : List ℕ) → Filled len r.held.all
-    → ◌≡◌ {A = Finished Held × List ℕ} (out, list') (closed r o report list) → Answers len out ws list' (ended (progress len (state_of r (number_told o) ws list)))
-closed_answers {len} {report} {out = out} r o ws list f e = record {
-  same = ap (λ (x : Finished Held × List ℕ). end_of len x.0 ws x.1) e;
+pub closed_answers : {len : ℕ} {report : StopReport} {l l' : List ℕ} {out : Finished Held} (r : Run) (o : Outcome) (ws list : List ℕ) → Filled len r.held.all
+    → ◌≡◌ {A = Finished Held × List ℕ} (out, l) (closed_run r o report list) → l' ≡ l → Answers len out ws l' (ended (progress len (state_of r (number_told o) ws list)))
+closed_answers {len} {report} {out = out} r o ws list f e q = record {
+  same = ap (λ (y : List ℕ). end_of len out ws y) q ∙ ap (λ (x : Finished Held × List ℕ). end_of len x.0 ws x.1) e;
   filled = subst (λ (x : Finished Held). Filled len x.held.all) (sym same) f;
 }
   where
-    same : out ≡ (closed r o report list).0
+    same : out ≡ (closed_run r o report list).0
     same = ap (λ (x : Finished Held × List ℕ). x.0) e
 
-pub closed_report : {report : StopReport} {list' : List ℕ} {out : Finished Held} (r : Run Held) (o : Outcome) (list : List ℕ)
-    → ◌≡◌ {A = Finished Held × List ℕ} (out, list') (closed r o report list) → out.report ≡ report
+pub closed_report : {report : StopReport} {l : List ℕ} {out : Finished Held} (r : Run) (o : Outcome) (list : List ℕ)
+    → ◌≡◌ {A = Finished Held × List ℕ} (out, l) (closed_run r o report list) → out.report ≡ report
 closed_report r o list e = ap (λ (x : Finished Held × List ℕ). x.0.report) e
 
 pub answers_as : {len : ℕ} {out : Finished Held} {ws list : List ℕ} {a b : Ended} → Answers len out ws list a → a ≡ b → Answers len out ws list b

@@ -4,10 +4,8 @@ use mathlib.Core.Bool.{Bool, cond}
 use mathlib.Core.List.{List, [], ◌∷◌, ◌++◌, map}
 use Prim.Native.Nat.{ℕ, zero, suc, ◌+◌, ◌-◌, ◌*◌, ◌≤◌, ◌<◌}
 use native.Mathlib.Omega.{arith}
-use lib.Dec.{ltb}
 use lib.ListN.{length, get_or, set, take, drop, replicate, length-append, length-replicate, get_or-append}
 use lib.Seq.{sets, sets-eq, take-set-lt}
-use borrow.Author.Tests.{ltb-false}
 use Rattle.model.specs.declared.Bench.{Bench}
 use Rattle.model.specs.declared.Process.{Process}
 use Rattle.llsc.specs.Rows.{row1, row2}
@@ -16,21 +14,20 @@ use Rattle.model.specs.Machine.{Memory, Shaped}
 use Rattle.llsc.specs.Rows.{row8always}
 use Rattle.model.specs.Refusals.{row3}
 use Rattle.setup.specs.SetUpByValue.{set_up_number, set_up_number_lem, Accepted}
-use Rattle.rows.proofs.RowLaws.{cleared, neither}
-use Rattle.setup.proofs.SetUpLaws.{first_row_lem, set_up_fits}
+use Rattle.rows.proofs.RowLaws.{begins_in_order}
+use Rattle.setup.proofs.SetUpLaws.{first_row_lem, set_up_fits, mapped_length}
 use Rattle.notation.specs.Grammar.{largest}
 use Rattle.entry.specs.RunState.{RunState, state_of, progress, Filled, Sound}
 use Rattle.semantics.specs.Reached.{Reached}
 use Rattle.semantics.specs.TextRun.{Progress, begun}
-use Rattle.text_runs.specs.Runs.{fresh_run}
+use Rattle.entry.specs.RunState.{fresh_run}
 use Rattle.run.specs.Finished.{memory_of, Lending}
 use Rattle.entry.specs.declared.state.Held.{Held}
-use Rattle.text_runs.specs.declared.runs.Run.{Run}
+use Rattle.entry.specs.declared.state.Run.{Run}
 use Rattle.entry.proofs.WordLaws.{Every, every_replicate, take_replicate}
 use Rattle.entry.proofs.FilledLaws.{filled_set, lent_length}
 use Rattle.semantics.proofs.ReachedLaws.{reached_set_up}
 use Rattle.entry.proofs.CommandLaws.{first_small}
-use Rattle.run.proofs.SetUpLaws.{mapped_length}
 
 pub number_small : (n w len words value : ℕ) → set_up_number n w len words value ≤ 9
 unfolding set_up_number
@@ -39,14 +36,7 @@ number_small n w len words value = first_small (row1 n ∷ row2 w ∷ row3 n w l
 -- row 3 leaves enough records
 records_lent : (n w len words value : ℕ) → set_up_number n w len words value ≡ 0 → n ≤ len
 unfolding set_up_number
-records_lent n w len words value e =
-    let r8 : ℕ = cond (row8always w value).holds 8 0 in
-    let r3 : ℕ = cond (row3 n w len words).holds 3 r8 in
-    let r2 : ℕ = cond (row2 w).holds 2 r3 in
-    let c1 = cleared (row1 n).holds 0 r2 e in
-    let c2 = cleared (row2 w).holds 1 r3 c1.1 in
-    let c3 = cleared (row3 n w len words).holds 2 r8 c2.1 in
-    ltb-false len n (neither (ltb words (5 * n * w)) (ltb len n) c3.0).1
+records_lent n w len words value e = (begins_in_order n w len words (cond (row8always w value).holds 8 0) e).0.records_lent
 
 -- the number that the code finds is the set-up's
 pub set_up_same : (held : Held) (len : ℕ) (ws : List ℕ) (n w k : ℕ) → len ≤ 16 → Filled len held.all
@@ -92,7 +82,7 @@ module _ {len : ℕ} {list : List ℕ} (t : Bool) (held : Held) (ws : List ℕ) 
     new_records = map process_at_set_up (numbers (2 * n) n)
 
     in_lent : 0 + length new_records ≤ len
-    in_lent = omega (arith, mapped_length (2 * n) n, records_lent n w len (length ws) w z)
+    in_lent = omega (arith, mapped_length process_at_set_up (2 * n) n, records_lent n w len (length ws) w z)
 
     abbrev pub first : RunState
     first = state_of (fresh_run (record { bench = bench_at_set_up held.bench n w; all = records_at_set_up held.all n }) t) 0 (words_at_set_up ws n w (replicate w k)) list
@@ -125,7 +115,7 @@ module _ {len : ℕ} {list : List ℕ} (t : Bool) (held : Held) (ws : List ℕ) 
     }
 
     -- what the code holds after its set-up
-    pub first_state_is : {r : Run Held} {b' : Bench} {all' : List Process} {ws' value : List ℕ} → r ≡ fresh_run (record { bench = b'; all = all' }) t → b' ≡ bench_at_set_up held.bench n w → all' ≡ records_at_set_up held.all n
+    pub first_state_is : {r : Run} {b' : Bench} {all' : List Process} {ws' value : List ℕ} → r ≡ fresh_run (record { bench = b'; all = all' }) t → b' ≡ bench_at_set_up held.bench n w → all' ≡ records_at_set_up held.all n
         → ws' ≡ words_at_set_up ws n w (take w value) → value ≡ replicate 64 k → state_of r 0 ws' list ≡ first
     first_state_is {value = value} er eb ea ew ev =
         let v : take w value ≡ replicate w k = ap (take w) ev ∙ take_replicate w 64 k accepted.w_most in

@@ -5,42 +5,41 @@ ghost use Rattle.llsc.specs.Refusals.{refusal_number};
 ghost use Rattle.model.specs.Records.{no_process};
 ghost use Rattle.lent.specs.Gathered.{gathered};
 ghost use Rattle.notation.specs.Grammar.{largest};
-ghost use Rattle.text_runs.specs.StopPlaces.{at_no_entry};
 ghost use Rattle.semantics.specs.StopPlaces.{StopInText};
 ghost use Rattle.text_runs.specs.KeptEntries.{entries_in, places_in};
 ghost use Rattle.run.specs.Finished.{memory_of, at_most_sixteen, Answers, Lending, Headed, TextRan, started_with, report_with, says_after, refused_with};
 
 use crate::set_up;
-use entry::state::Held;
+use entry::state::{Held, Run};
+use listing::Writer;
 use llsc::refusals::Refusal;
 use notation::items::Items;
 use notation::{First, items};
+use positions::{Sizes, StopReport};
+use text_runs::runs::Finished;
 use text_runs::{limits, lists, reports, runs};
 
-pub type Finished = runs::Finished<Held>;
-
-// A run that is refused before its set-up, in either style, at no entry.
+// A run that is refused before its set-up, in either style.
+// Kept: what is lent stays three: the run takes `held` on, `len` is for row 3 and the contracts, the list is written.
 fn refused(
     held: Held,
     len: usize,
     cause: Refusal,
-    n: u64,
-    w: u64,
-    place: usize,
+    report: StopReport,
     words: &mut [u64],
     list: &mut [u8],
-) -> Finished
+) -> Finished<Held>
     requires { (Lending len held.all list.old) × (refusal_number cause ≤ 15) }
     ensures { Answers len result words.new list.new (refused_with (refusal_number cause) (memory_of held len words.old) list.old) ×
-        (result.report ≡ at_no_entry n w place) }
+        (result.report ≡ report) }
 {
-    let run = runs::fresh(held, false);
-    let report = reports::at_no_entry(n, w, place);
-    runs::ended(run, Err(cause), report, list)
+    let mut to = Writer { list, written: 0 };
+    runs::ended(held, 0, Err(cause), report, &mut to)
 }
 
 // "then 1, 2, 3, then the set-up, then the entries": those of the list, up to `count`. The value is looked at only
 // where W is in its range.
+// Kept: the run takes `held` and `traced` with it, and not `len`, so that a struct of the three would be taken apart here.
 fn started(
     held: Held,
     len: usize,
@@ -50,7 +49,7 @@ fn started(
     count: usize,
     words: &mut [u64],
     list: &mut [u8],
-) -> Finished
+) -> Finished<Held>
     requires { (Lending len held.all list.old) × (first.initial ≤ largest) × (count ≤ length entries.now) }
     ensures { Answers len result words.new list.new
         (started_with traced first (entries_in count entries.now) (memory_of held len words.old) list.old) ×
@@ -60,20 +59,30 @@ fn started(
     let n = first.n as usize;
     let w = first.w as usize;
     if let Err(cause) = setup::set_up_refusal(n, w, len, words.len(), w) {
-        return refused(held, len, cause, first.n, first.w, 0, words, list);
+        let sizes = Sizes {
+            n: first.n,
+            w: first.w,
+        };
+        return refused(held, len, cause, StopReport::AtNoItem(sizes), words, list);
     }
     let value = lists::repeated(first.initial);
     setup::words_at_set_up(words, n, w, &value[..w]);
     let bench = setup::bench_at_set_up(held.bench, n, w);
     let all = set_up::records_at_set_up(held.all, n);
-    let run = runs::fresh(Held { bench, all }, traced);
+    let run = Run::fresh(Held { bench, all }, traced);
     let carried = carrying::carry_out(run, len, entries, count, words, list);
     let outcome = carried.outcome;
     let report = reports::stop_report(first.n, first.w, outcome, entries, carried.at);
-    runs::ended(carried.run, outcome, report, list)
+    let run = carried.run;
+    let mut to = Writer {
+        list,
+        written: run.written,
+    };
+    runs::ended(run.held, run.entries, outcome, report, &mut to)
 }
 
 // "then 10 and 11 over the whole text": its items are read once, into the list of its entries.
+// Kept: text ends here, words and list go on to the loop; a struct of three borrows would be taken apart by this function.
 fn checked(
     held: Held,
     len: usize,
@@ -82,7 +91,7 @@ fn checked(
     words: &mut [u64],
     text: &[u8],
     list: &mut [u8],
-) -> Finished
+) -> Finished<Held>
     requires { (Lending len held.all list.old) × (Headed text.now first) }
     ensures { Answers len result words.new list.new
         (says_after traced text.now first (memory_of held len words.old) list.old) ×
@@ -92,15 +101,15 @@ fn checked(
     let read = match items::read_items(text, first.items, limits::DEEPEST, &mut kept, 0) {
         Ok(read) => read,
         Err(fault) => {
-            return refused(held, len, fault.cause, 0, 0, fault.place, words, list);
+            let report = StopReport::AtFault(fault.place);
+            return refused(held, len, fault.cause, report, words, list);
         }
     };
     match read {
         Items::Ended(count) => started(held, len, traced, first, &kept, count, words, list),
         Items::Closed(next, _) => {
-            let place = next - 1;
-            let cause = Refusal::TextBroken;
-            refused(held, len, cause, 0, 0, place, words, list)
+            let report = StopReport::AtFault(next - 1);
+            refused(held, len, Refusal::TextBroken, report, words, list)
         }
     }
 }
@@ -113,6 +122,7 @@ pub fn records_seen(len: usize) -> usize
 }
 
 // A text run in one of the two styles.
+// Kept: that the fillers stand is asked here and by the two entries, which only name the style.
 fn run_in_style(
     held: Held,
     len: usize,
@@ -120,22 +130,31 @@ fn run_in_style(
     words: &mut [u64],
     text: &[u8],
     list: &mut [u8],
-) -> Finished
+) -> Finished<Held>
     requires { held.all ≡ gathered (take len held.all) no_process 16 }
     ensures { TextRan traced held len words.old text.now list.old
         result words.new list.new }
 {
     let lent = records_seen(len);
     if list.len() < limits::room_needed(traced) {
-        let run = runs::fresh(held, traced);
-        return runs::returned(run, Err(Refusal::NoRoom), reports::at_no_entry(0, 0, 0), 0);
+        return Finished {
+            held,
+            outcome: Err(Refusal::NoRoom),
+            entries: 0,
+            written: 0,
+            report: StopReport::NotRead,
+        };
     }
     if limits::LONGEST_TEXT < text.len() {
-        return refused(held, lent, Refusal::TooMuch, 0, 0, 0, words, list);
+        let report = StopReport::NotRead;
+        return refused(held, lent, Refusal::TooMuch, report, words, list);
     }
     let header = notation::first_line(text);
     match header {
-        Err(place) => refused(held, lent, Refusal::TextBroken, 0, 0, place, words, list),
+        Err(place) => {
+            let report = StopReport::AtFault(place);
+            refused(held, lent, Refusal::TextBroken, report, words, list)
+        }
         Ok(first) => checked(held, lent, traced, first, words, text, list),
     }
 }
@@ -151,7 +170,7 @@ pub fn run_by_value(
     words: &mut [u64],
     text: &[u8],
     list: &mut [u8],
-) -> Finished
+) -> Finished<Held>
     requires { held.all ≡ gathered (take len held.all) no_process 16 }
     ensures { TextRan false held len words.old text.now list.old
         result words.new list.new }
@@ -166,7 +185,7 @@ pub fn trace_by_value(
     words: &mut [u64],
     text: &[u8],
     list: &mut [u8],
-) -> Finished
+) -> Finished<Held>
     requires { held.all ≡ gathered (take len held.all) no_process 16 }
     ensures { TextRan true held len words.old text.now list.old
         result words.new list.new }

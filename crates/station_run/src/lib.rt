@@ -13,8 +13,8 @@ use entry::state::Held;
 use llsc::refusals::Refusal;
 use model::{Bench, Process};
 use run::text_run;
-use run::text_run::Finished;
 use station::{RecordNumber, Station, StationProcess, Tables};
+use text_runs::runs::Finished;
 
 // What a text run leaves of the station and the process records, how many of these to store back, none where it was
 // refused before its set-up, and what it returns: why it was refused, if it was, the entries done and the listing bytes
@@ -84,7 +84,7 @@ fn processes_ran(
 
 // Where N is still 0, the run was refused before its set-up, and nothing is to be stored.
 #[tactic(auto, unfolding(crate::specs::TextByValue::put_back))]
-fn put_back(station: Station, all: [StationProcess; 16], out: Finished) -> RunLeft
+fn put_back(station: Station, all: [StationProcess; 16], out: Finished<Held>) -> RunLeft
     ensures { result ≡ put_back station all out }
 {
     let Held {

@@ -22,18 +22,18 @@ fn main(rt: HostRuntime) -> Result<ExitCode, AllocError> {
     let out = run::text_run::trace_by_value(held, 16, &mut words, given, &mut list);
     let trace = &list[..out.written.min(list.len())];
     let count = marking::output::mark_lines(trace, &mut marked);
-    let mut errors = rt.stderr();
-    let told = messages::output(&mut rt.stdout(), &mut errors, marked.get(..count)).and_then(
-        |()| {
-            messages::figure2::explain(
-                &mut errors,
-                number_of(out.outcome),
-                out.entries,
-                out.report,
-                out.held.all,
-                given,
-            )
-        },
+    let ended = messages::Ended {
+        number: number_of(out.outcome),
+        entries: out.entries,
+        report: out.report,
+        text: given,
+    };
+    let status = messages::conclude(
+        &mut rt.stdout(),
+        &mut rt.stderr(),
+        marked.get(..count),
+        ended,
+        messages::figure2::left(out.held.all),
     );
-    Ok(console::status(told))
+    Ok(status)
 }

@@ -1,25 +1,16 @@
-// A text run, by value, over what a bench holds of its memory: before an entry, after its list, at its end.
+// How a text run goes on and ends, by value, over what a bench holds.
 ghost use Rattle.std.specs.Prelude.{◌≡◌};
-ghost use Rattle.text_runs.specs.Runs.{fresh_run, finished_of, closed, Closable};
+ghost use Rattle.text_runs.specs.Runs.{closed, Closable};
 
 use crate::last_lines;
+use listing::Writer;
 use llsc::refusals::Refusal;
 use positions::StopReport;
 
-// A run that goes on: what it holds, the bytes of the listing or of the trace that are written, the entries done, and
-// whether it is traced.
-#[derive(Clone, Copy)]
-pub struct Run<H> {
-    pub held: H,
-    pub written: usize,
-    pub entries: usize,
-    pub traced: bool,
-}
-
 // The run after its list, its place in it, that of the entry that was refused, or the end; and why it was refused.
 #[derive(Clone, Copy)]
-pub struct Carried<H> {
-    pub run: Run<H>,
+pub struct Carried<R> {
+    pub run: R,
     pub at: usize,
     pub outcome: Result<(), Refusal>,
 }
@@ -35,46 +26,24 @@ pub struct Finished<H> {
     pub report: StopReport,
 }
 
-// A run before its first entry, or one that a refusal keeps from it.
-pub fn fresh<H: Copy>(held: H, traced: bool) -> Run<H>
-    ensures { result ≡ fresh_run held traced }
-{
-    Run {
-        held,
-        written: 0,
-        entries: 0,
-        traced,
-    }
-}
-
-// What a run returns that has written so many bytes.
-pub fn returned<H: Copy>(
-    run: Run<H>,
-    outcome: Result<(), Refusal>,
-    report: StopReport,
-    written: usize,
-) -> Finished<H>
-    ensures { result ≡ finished_of run outcome report written }
-{
-    Finished {
-        held: run.held,
-        outcome,
-        entries: run.entries,
-        written,
-        report,
-    }
-}
-
 // A run with its last line.
 pub fn ended<H: Copy>(
-    run: Run<H>,
+    held: H,
+    entries: usize,
     outcome: Result<(), Refusal>,
     report: StopReport,
-    list: &mut [u8],
+    to: &mut Writer<'_>,
 ) -> Finished<H>
-    requires { Closable run outcome list.old }
-    ensures { (result, list.new) ≡ closed run outcome report list.old }
+    requires { Closable entries outcome to.old }
+    ensures is { (result, to.new.list.now) ≡ closed held entries outcome report to.old }
+    ensures same_list { to.new.list.ghost_name ≡ to.old.list.ghost_name }
 {
-    let next = last_lines::write(outcome, run.entries, list, run.written);
-    returned(run, outcome, report, next)
+    last_lines::write(outcome, entries, to);
+    Finished {
+        held,
+        outcome,
+        entries,
+        written: to.written,
+        report,
+    }
 }

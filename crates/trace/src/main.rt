@@ -17,18 +17,18 @@ fn main(rt: HostRuntime) -> Result<ExitCode, AllocError> {
     let mut words = [0; 5120];
     let held = Held::empty();
     let out = run::text_run::trace_by_value(held, 16, &mut words, given, &mut list);
-    let mut errors = rt.stderr();
-    let told = messages::output(&mut rt.stdout(), &mut errors, list.get(..out.written)).and_then(
-        |()| {
-            messages::figure2::explain(
-                &mut errors,
-                number_of(out.outcome),
-                out.entries,
-                out.report,
-                out.held.all,
-                given,
-            )
-        },
+    let ended = messages::Ended {
+        number: number_of(out.outcome),
+        entries: out.entries,
+        report: out.report,
+        text: given,
+    };
+    let status = messages::conclude(
+        &mut rt.stdout(),
+        &mut rt.stderr(),
+        list.get(..out.written),
+        ended,
+        messages::figure2::left(out.held.all),
     );
-    Ok(console::status(told))
+    Ok(status)
 }

@@ -3,7 +3,7 @@ use mathlib.Core.Path.{sym, ap, subst, ◌∙◌}
 use mathlib.Core.Bool.{false}
 use Rattle.std.specs.Prelude.{Err}
 use Rattle.entry.specs.declared.state.Held.{Held}
-use Rattle.text_runs.specs.declared.runs.Run.{Run}
+use Rattle.entry.specs.declared.state.Run.{Run}
 use Rattle.board_listing.specs.ListedRun.{Closable, closed}
 use Rattle.board_listing.proofs.ListedLaws.{refused_closable}
 use Rattle.board_listing.proofs.listed.refused.Goals as goal
@@ -14,4 +14,4 @@ close-requires c = rw c.fresh.ensures (refused_closable c.requires.0 c.requires.
 pub returns : goal.returns
 returns c =
     let a = c.args in
-    c.close.ensures ∙ ap (λ (r : Run Held). closed (record { run = r; outcome = Err a.cause }) a.list.now) c.fresh.ensures
+    c.close.ensures ∙ ap (λ (r : Run). closed (record { run = r; outcome = Err a.cause }) a.list.now) c.fresh.ensures

@@ -12,8 +12,7 @@ use Rattle.moir_run.proofs.texts.run_text.Goals as goal
 pub returns-then-list-room_needed : goal.returns-then-list-room_needed
 returns-then-list-room_needed c =
     let a = c.args in
-    no_room a.traced a.text.now a.list.now c.returned.ensures c.at_no_entry-report.ensures c.fresh-run.ensures c.held_with.ensures
-    (omega (arith, c.if-list-room_needed.true, c.room_needed.ensures))
+    no_room a.traced a.text.now a.list.now c.fresh-run.ensures (omega (arith, c.if-list-room_needed.true, c.room_needed.ensures))
 
 pub returns-then-text-gt-LONGEST_TEXT : goal.returns-then-text-gt-LONGEST_TEXT
 returns-then-text-gt-LONGEST_TEXT c =

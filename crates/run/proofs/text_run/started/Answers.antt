@@ -2,6 +2,7 @@
 use mathlib.Core.Path.{refl, sym, ap, subst, ◌∙◌}
 use Prim.Native.Nat.{ℕ}
 use native.Mathlib.Omega.{arith}
+use Rattle.std.proofs.Common.{rules}
 use lib.ListN.{length, length-replicate}
 use lib.Seq.{length-sets}
 use Rattle.rows.proofs.Refused.{number_some}
@@ -82,7 +83,7 @@ stop_report-report-requires c =
 
 pub ended-requires : goal.ended-requires
 ended-requires c =
-    sound_closable c.carry_out-carried.ensures.becomes.kept.sound
+    sound_closable refl c.carry_out-carried.ensures.becomes.kept.sound
 
 pub shape_of-words : goal.shape_of-words
 shape_of-words c =
@@ -100,6 +101,6 @@ returns c =
     let made = carried_start a.traced a.first es a.held a.words.now c.requires.0 refl c.requires.1 e begins out.becomes in
     let item = item_read a.entries.now c.requires.2 refl out a.first.n a.first.w in
     let begun = begun_report a.traced a.first es ps a.held a.words.now c.requires.0 refl c.requires.1 e begins in (
-      answers_as (closed_answers c.carry_out-carried.result.run c.carry_out-carried.result.outcome _ _ c.carry_out-carried.ensures.becomes.kept.sound.filled c.ended.ensures) made.same,
-      closed_report c.carry_out-carried.result.run c.carry_out-carried.result.outcome _ c.ended.ensures ∙ c.stop_report-report.ensures ∙ item ∙ begun,
+      answers_as (closed_answers c.carry_out-carried.result.run c.carry_out-carried.result.outcome _ _ c.carry_out-carried.ensures.becomes.kept.sound.filled c.ended.ensures.is (search rules)) made.same,
+      closed_report c.carry_out-carried.result.run c.carry_out-carried.result.outcome _ c.ended.ensures.is ∙ c.stop_report-report.ensures ∙ item ∙ begun,
     )
