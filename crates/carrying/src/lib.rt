@@ -35,8 +35,7 @@ pub fn carry_out(
     let needed = limits::room_needed(traced);
     let mut bench = run.held.bench;
     let mut all = run.held.all;
-    // Kept: how many bytes are written stands in the run and not in a writer of its own, since a Run is a value that
-    // several functions make, keep and return, and a writer is a borrow of the list.
+    // The writer goes on where the run's listing ends.
     let mut to = Writer {
         list,
         written: run.written,

@@ -1,12 +1,12 @@
 -- The trace's line of a command that a run carries out: what the code shows is what the text run says, in at most 128 bytes.
 use mathlib.Core.Path.{◌≡◌, refl, sym, ap, ◌∙◌}
-use mathlib.Core.Bool.{Bool, true, false, not, cond}
-use mathlib.Core.List.{List, []}
+use mathlib.Core.Bool.{Bool, true, false, cond}
+use mathlib.Core.List.{[]}
 use Prim.Native.Nat.{ℕ, ◌≤◌, ◌<◌}
 use native.Mathlib.Omega.{arith}
 use lib.ListN.{length}
 use lib.Seq.{get_or-take}
-use borrow.Author.Tests.{not-true, not-false, lt-leb}
+use borrow.Author.Tests.{not-false, lt-leb}
 use Rattle.model.specs.declared.SequenceNumber.{SequenceNumber}
 use Rattle.llsc.specs.declared.ProcessNumber.{ProcessNumber}
 use Rattle.model.specs.declared.Bench.{Bench}
@@ -98,7 +98,7 @@ module _ {len : ℕ} {h : RunState} (s : Sound len h) (z : h.stop ≡ 0) where
     pub shown_same : {i : SequenceNumber} {j : ProcessNumber} {t : Taken} (k : ℕ)
         → i ≡ bank_index (point_of own.line) b.n own
         → j ≡ help_index (point_of own.line) b.n (number_of e) own → t ≡ taken_at b i j
-        → (traced : Bool) → shown_line traced k (access_seen traced (number_of e) b.n b.w t own h.words) e r ≡ cond traced (trace_line k m e r) []
+        → (traced : Bool) → shown_line k (access_seen traced (number_of e) b.n b.w t own h.words) e r ≡ cond traced (trace_line k m e r) []
     shown_same k ei ej et true =
         let in_row : word_of own.word < b.w = omega (arith, (own_ready (process_of e) n).word) in
         ap (λ (x : Access). entry_line k x e r) (access_seen_is (number_of e) b own h.words in_row (point_of own.line) ei ej et ∙ same_access n)

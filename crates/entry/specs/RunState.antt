@@ -1,6 +1,6 @@
 -- The run as the code holds it, what holds of it at every moment, and what its inner functions promise of it.
 -- Inner: `progress` gives `TextRun`'s run of it, and `RunLaws` (crate `run`) puts the promises together to that run.
-use Rattle.std.specs.Prelude.{◌≡◌, ℕ, ◌+◌, ◌≤◌, ◌<◌, List, [], Bool, cond, length, get_or, take, replicate}
+use Rattle.std.specs.Prelude.{◌≡◌, ℕ, ◌+◌, ◌≤◌, ◌<◌, List, [], Bool, Option, Some, None, length, get_or, take, replicate}
 use Rattle.model.specs.declared.Process.{Process}
 use Rattle.model.specs.declared.Reply.{Reply}
 use Rattle.model.specs.declared.Reply.TheVariants.{Refused, Accepted, LlAnswered, ScAnswered, VlAnswered}
@@ -109,6 +109,7 @@ pub record Listable (r : Reply) (p n w : ℕ) (ws : List ℕ) (to : Writer) : Ty
   pub lent : lent_words n w ≤ length ws
   pub room : Fits to (answer_line n w ws p r)
 
--- the trace's line of an accepted entry, none in a run that is not traced
-abbrev pub shown_line : Bool → ℕ → Access → Entry → Reply → List ℕ
-shown_line t k a e r = cond t (entry_line k a e r) []
+-- the trace's line of an accepted entry, none where no access is shown
+abbrev pub shown_line : ℕ → Option Access → Entry → Reply → List ℕ
+shown_line k (Some a) e r = entry_line k a e r
+shown_line k None e r = []

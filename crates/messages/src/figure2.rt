@@ -44,6 +44,7 @@ fn kind_of(line: u8) -> Option<Kind>
 }
 
 // The line of Figure 2 to which a program point belongs.
+// Kept: a number, since a message shows it as Figure 2 numbers its lines, and nothing chooses by it.
 fn figure_line(line: u8) -> u8
     ensures { result ≡ figure_line line }
 {
