@@ -3,6 +3,7 @@ ghost use Rattle.std.specs.Prelude.{◌≡◌, Bool, ◌≤◌, ◌<◌, ◌/◌
 ghost use Rattle.verdicts.specs.Log.{width, entries};
 ghost use Rattle.verdicts.specs.Reasons.{two_at_fault};
 ghost use Rattle.judging.specs.declared.heads.Head.{Head};
+ghost use Rattle.judging.specs.Orders.{Fits};
 ghost use Rattle.judging.specs.Heads.{head, entry_at, first_from, lacks_ll, first_unled, Decides, DecidesTwo};
 
 use crate::heads;
@@ -14,6 +15,13 @@ pub struct Calls<'a> {
     pub log: &'a [u64],
     pub w: usize,
     pub ghost narrow: { w ≤ 64 },
+}
+
+// The calls of a log that no cause refuses: at most 512, of processes below 16.
+#[derive(Clone, Copy)]
+pub struct Admitted<'a> {
+    pub calls: Calls<'a>,
+    pub ghost fits: { Fits calls.w calls.log.now },
 }
 
 impl<'a> Calls<'a> {

@@ -40,6 +40,7 @@ pub fn word_of(e: Entry) -> u64
     requires { Small e }
     ensures { (entry_in result ≡ kept_entry e) × (result < place_unit) }
 {
+    // Kept: no switch between functions: it gives each kind its number, and zero for the number that only an SC has.
     match e {
         Entry::StartLl(p) => packed(0, p, 0),
         Entry::StartVl(p) => packed(1, p, 0),

@@ -5,9 +5,11 @@
 ghost use Rattle.std.specs.Prelude.{◌≡◌, ◌≤◌, length};
 ghost use Rattle.llsc.specs.declared.refusals.Refusal.TheVariants.{TextBroken};
 ghost use Rattle.notation.specs.Stretches.{AtItem};
-ghost use Rattle.notation.specs.Listed.{Opened, Placeable, GroupSays, ItemSays, ItemsSay};
+ghost use Rattle.notation.specs.Listed.{Opened, Placeable, ItemsSay};
+ghost use Rattle.notation.specs.Cursor.{ReadsItem, ReadsGroup, ReadsItems};
 
-use crate::{Follow, Start, after, begin, entry_words, skip, turns};
+use crate::reader::Reader;
+use crate::{Follow, Start, entry_words, turns};
 use llsc::refusals::Refusal;
 
 // Why a text is refused, 10 or 11, and the place of the fault.
@@ -34,64 +36,74 @@ fn broken(place: usize) -> Fault
     }
 }
 
-// A group with `n` turns whose items begin at `body`, where groups may stand `depth` deep; its entries go into the list
-// from `from` on. The place after it, and where the list goes on.
+// A group with `n` turns, read from its `(` on, where groups may stand `depth` deep; its entries go into the list from
+// `from` on. Where the list goes on.
 #[cycle(read_group_read_item_read_items)]
 fn read_group(
-    text: &[u8],
+    reader: &mut Reader,
     n: u64,
-    body: usize,
     depth: usize,
     list: &mut [u64],
     from: usize,
-) -> Result<(usize, usize), Fault>
-    requires { (Opened text.now n body) × (from ≤ length list.old) × (Placeable text.now) }
-    ensures { GroupSays text.now n body depth list.old list.new from result }
+) -> Result<usize, Fault>
+    requires { (Opened reader.old.text.now n reader.old.at) × (from ≤ length list.old) × (Placeable reader.old.text.now) }
+    ensures { ReadsGroup n depth list.old list.new from reader.old reader.new result }
 {
     if depth == 0 {
         return Err(Fault {
             cause: Refusal::TooDeep,
-            place: body - 1,
+            place: reader.at - 1,
         });
     }
-    let first = read_items(text, body, depth - 1, list, from)?;
+    let first = read_on(reader, depth - 1, list, from)?;
     match first {
-        Items::Ended(_) => Err(broken(text.len())),
-        Items::Closed(next, to) => {
-            let end = turns::repeat(list, from, to, n);
-            Ok((next, end))
-        }
+        Items::Ended(_) => Err(broken(reader.text.len())),
+        Items::Closed(_, to) => Ok(turns::repeat(list, from, to, n)),
     }
 }
 
-// The item that begins at a place; its entries go into the list from `from` on. The place after it, and where the list
-// goes on.
+// An item; its entries go into the list from `from` on. Where the list goes on.
 #[cycle(read_group_read_item_read_items)]
 fn read_item(
-    text: &[u8],
-    at: usize,
+    reader: &mut Reader,
     depth: usize,
     list: &mut [u64],
     from: usize,
-) -> Result<(usize, usize), Fault>
-    requires { (AtItem text.now at) × (from ≤ length list.old) × (Placeable text.now) }
-    ensures { ItemSays text.now at depth list.old list.new from result }
+) -> Result<usize, Fault>
+    requires { (AtItem reader.old.text.now reader.old.at) × (from ≤ length list.old) × (Placeable reader.old.text.now) }
+    ensures { ReadsItem depth list.old list.new from reader.old reader.new result }
 {
-    let start = match begin(text, at) {
-        Ok(start) => start,
-        Err(place) => return Err(broken(place)),
-    };
-    match start {
-        Start::Single(e, end) => {
-            let past = entry_words::keep(list, from, e, at);
-            Ok((end, past))
-        }
-        Start::Group(n, body) => read_group(text, n, body, depth, list, from),
+    let at = reader.at;
+    match reader.begin() {
+        None => Err(broken(reader.at)),
+        Some(Start::Single(e)) => Ok(entry_words::keep(list, from, e, at)),
+        Some(Start::Group(n)) => read_group(reader, n, depth, list, from),
     }
 }
 
 // Items up to a `)` or the end of the text; their entries go into the list from `from` on.
 #[cycle(read_group_read_item_read_items)]
+fn read_on(reader: &mut Reader, depth: usize, list: &mut [u64], from: usize) -> Result<Items, Fault>
+    requires { (from ≤ length list.old) × (Placeable reader.old.text.now) }
+    ensures { ReadsItems depth list.old list.new from reader.old reader.new result }
+{
+    reader.skip();
+    if reader.text.len() <= reader.at {
+        return Ok(Items::Ended(from));
+    }
+    let mut to = from;
+    loop {
+        to = read_item(reader, depth, list, to)?;
+        match reader.after() {
+            None => return Err(broken(reader.at)),
+            Some(Follow::Item) => {}
+            Some(Follow::End) => return Ok(Items::Ended(to)),
+            Some(Follow::Shut) => return Ok(Items::Closed(reader.at, to)),
+        }
+    }
+}
+
+// The items of a text from a place on.
 pub fn read_items(
     text: &[u8],
     at: usize,
@@ -102,22 +114,6 @@ pub fn read_items(
     requires { (at ≤ length text.now) × (from ≤ length list.old) × (Placeable text.now) }
     ensures { ItemsSay text.now at depth list.old list.new from result }
 {
-    let mut next = skip(text, at);
-    if text.len() <= next {
-        return Ok(Items::Ended(from));
-    }
-    let mut to = from;
-    loop {
-        let (end, past) = read_item(text, next, depth, list, to)?;
-        to = past;
-        let then = match after(text, end) {
-            Ok(then) => then,
-            Err(place) => return Err(broken(place)),
-        };
-        match then {
-            Follow::Item(place) => next = place,
-            Follow::End => return Ok(Items::Ended(to)),
-            Follow::Shut(shut) => return Ok(Items::Closed(shut, to)),
-        }
-    }
+    let mut reader = Reader { text, at };
+    read_on(&mut reader, depth, list, from)
 }

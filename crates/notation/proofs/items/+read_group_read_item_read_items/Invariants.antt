@@ -1,6 +1,8 @@
--- `notation::items::read_group`, `read_item` and `read_items`: each entry read is kept.
+-- `notation::items::read_group`, `read_item` and `read_on`: each entry read is kept.
 -- The depth falls from a group to its items, the text from item to item.
-use Prim.Native.Nat.{◌+◌, ◌-◌, ◌*◌}
+use Prim.Native.Nat.{ℕ, ◌+◌, ◌-◌, ◌*◌}
+use mathlib.Core.Path.{◌≡◌}
+use mathlib.Core.List.{List}
 use lib.ListN.{length}
 use Rattle.notation.specs.Places.{fore, Moves}
 use Rattle.notation.specs.Groups.{Sofar}
@@ -13,12 +15,16 @@ decreases-read_group l = 3 * l.depth
 abbrev pub decreases-read_item : goal.decreases-read_item
 decreases-read_item l = 3 * l.depth + 1
 
-abbrev pub decreases-read_items : goal.decreases-read_items
-decreases-read_items l = 3 * l.depth + 2
+abbrev pub decreases-read_on : goal.decreases-read_on
+decreases-read_on l = 3 * l.depth + 2
 
-abbrev pub invariant-read_items-loop-end : goal.invariant-read_items-loop-end
-invariant-read_items-loop-end l =
-    Keeps l.text l.initial.list l.list l.from l.to (λ es. Sofar l.text l.at l.depth l.next es) (λ ps. Moves l.text l.at fore l.next fore ps)
+-- the text is the same, and its items up to a place are kept
+pub record Inv (s s' : List ℕ) (at next d : ℕ) (list list' : List ℕ) (from to : ℕ) : Type 0 where
+  pub same : s' ≡ s
+  pub keeps : Keeps s list list' from to (λ es. Sofar s at d next es) (λ ps. Moves s at fore next fore ps)
 
-abbrev pub decreases-read_items-loop-end : goal.decreases-read_items-loop-end
-decreases-read_items-loop-end l = length l.text - l.next
+abbrev pub invariant-read_on-loop-to : goal.invariant-read_on-loop-to
+invariant-read_on-loop-to l = Inv l.fn.reader.text.now l.reader.text.now l.fn.reader.at l.reader.at l.depth l.initial.list l.list l.from l.to
+
+abbrev pub decreases-read_on-loop-to : goal.decreases-read_on-loop-to
+decreases-read_on-loop-to l = length l.reader.text.now - l.reader.at
