@@ -9,24 +9,26 @@ use Rattle.notation.specs.declared.Entry.{Entry}
 use Rattle.notation.specs.declared.items.Fault.{Fault}
 use Rattle.notation.specs.declared.items.Items.{Items}
 use Rattle.notation.specs.declared.items.Items.TheVariants.{Closed}
-use Rattle.notation.specs.Places.{fore, tail, Moves}
+use Rattle.notation.specs.Places.{ClosesAfter}
 use Rattle.notation.specs.Readers.{Following, Follows}
 use Rattle.notation.specs.Stretches.{Begun}
-use Rattle.notation.specs.Groups.{ItemRead, ItemBroken, ItemsEnded}
+use Rattle.notation.specs.Groups.{ItemBroken, ItemsEnded, ItemsClosed}
 use Rattle.notation.specs.Listed.{Keeps, Opened, ItemSays, GroupSays}
-use Rattle.notation.specs.Cursor.{StandsAt}
+use Rattle.notation.specs.Cursor.{StandAt}
 use Rattle.notation.proofs.GroupLaws.{item_ended}
 
--- where it stands behind items, where the reply is known
-pub stands_as : {r : Items} {at next to : ℕ} → StandsAt (Ok r) at → r ≡ Closed next to → at ≡ next
-stands_as {at = at} s e = subst (λ (x : Items). StandsAt (Ok x) at) e s
+-- where they stand behind items, where the reply is known
+stand_as : {r : Items} {at count next to : ℕ} → StandAt (Ok r) at count → r ≡ Closed next to → (at ≡ next) × (count ≡ to)
+stand_as {at = at} {count} s e = subst (λ (x : Items). StandAt (Ok x) at count) e s
 
--- a group up to there
-pub turned : {s list list' : List ℕ} {from to at d place next : ℕ} → place ≡ next
-    → Keeps s list list' from to (λ es. ItemRead s at d next es) (λ ps. Moves s at fore next tail ps)
-    → Keeps s list list' from to (λ es. ItemRead s at d place es) (λ ps. Moves s at fore place tail ps)
-turned {s} {list} {list'} {from} {to} {at} {d} e k =
-    subst (λ (x : ℕ). Keeps s list list' from to (λ es. ItemRead s at d x es) (λ ps. Moves s at fore x tail ps)) (sym e) k
+-- and what is kept up to there
+pub kept_to : {s list list' : List ℕ} {from body at count next to d : ℕ} {r : Items} → StandAt (Ok r) at count → r ≡ Closed next to
+    → Keeps s list list' from to (λ es. ItemsClosed s body d next es) (λ ps. ClosesAfter s body next ps)
+    → Keeps s list list' from count (λ es. ItemsClosed s body d at es) (λ ps. ClosesAfter s body at ps)
+kept_to {s} {list} {list'} {from} {body} {at} {count} {next} {to} {d} h e k =
+    let z = stand_as h e in
+    subst (λ (x : ℕ). Keeps s list list' from x (λ es. ItemsClosed s body d at es) (λ ps. ClosesAfter s body at ps)) (sym z.1)
+    (subst (λ (x : ℕ). Keeps s list list' from to (λ es. ItemsClosed s body d x es) (λ ps. ClosesAfter s body x ps)) (sym z.0) k)
 
 module _ {s s' : List ℕ} (e : s' ≡ s) where
   pub ends_in : {next : ℕ} → length s' ≤ next → length s ≤ next

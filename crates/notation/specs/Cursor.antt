@@ -1,17 +1,19 @@
--- What a reader's methods promise: the text stays, and of it stands what `Readers` says, up to the place at which the
--- reader stands then.
--- Inner: `Readers` says what a reply is.
+-- What the methods of a reader and of a list of entries promise: the text stays, and of it stands what `Readers` says, up
+-- to the place at which the reader stands then; and the list is the one that was lent.
+-- Inner: `Readers` says what a reply is, and `Listed` what is kept.
 use Rattle.std.specs.Prelude.{ℕ, ◌≤◌, ◌<◌, ◌≡◌, List, false, length, get_or, Option, Some, None, Result, Ok, Err}
 use Rattle.notation.specs.declared.Kind.{Kind}
 use Rattle.notation.specs.declared.Kind.TheVariants.{Digit}
 use Rattle.notation.specs.declared.First.{First}
+use Rattle.notation.specs.declared.Entry.{Entry}
 use Rattle.notation.specs.declared.reader.Reader.{Reader}
+use Rattle.notation.specs.declared.entry_list.EntryList.{EntryList}
 use Rattle.notation.specs.declared.items.Fault.{Fault}
 use Rattle.notation.specs.declared.items.Items.{Items}
 use Rattle.notation.specs.declared.items.Items.TheVariants.{Ended, Closed}
 use Rattle.notation.specs.Bytes.{kind_of, is_digit}
 use Rattle.notation.specs.Readers.{Skipped, Headed, NotHeaded}
-use Rattle.notation.specs.Listed.{ItemSays, GroupSays, ItemsSay}
+use Rattle.notation.specs.Listed.{Lists, Repeated, ItemSays, GroupSays, ItemsSay}
 
 -- what the byte at a place is, where there is one
 abbrev pub KindAt : List ℕ → ℕ → Option Kind → Type 0
@@ -42,27 +44,41 @@ abbrev pub HeadSays : List ℕ → ℕ → Result (First × ℕ) ℕ → Type 0
 HeadSays s at (Ok (f, next)) = Headed s f.n f.w f.initial f.items
 HeadSays s at (Err place) = NotHeaded s place
 
--- where the list goes on behind an item, and the place after it in the text
-abbrev pub ends_at : Result ℕ Fault → ℕ → Result (ℕ × ℕ) Fault
-ends_at (Ok to) next = Ok (next, to)
-ends_at (Err f) next = Err f
+-- entries and the places of their items are put into a list, or its last ones from a place on are repeated
+pub record Puts (es : List Entry) (ps : List ℕ) (l m : EntryList) : Type 0 where
+  pub same : m.list.ghost_name ≡ l.list.ghost_name
+  pub lists : Lists l.list.now m.list.now l.count m.count es ps
 
--- it has read an item, or a group from its body on, or items
-pub record ReadsItem (d : ℕ) (list list' : List ℕ) (from : ℕ) (a b : Reader) (r : Result ℕ Fault) : Type 0 where
-  pub same : b.text.now ≡ a.text.now
-  pub says : ItemSays a.text.now a.at d list list' from (ends_at r b.at)
+pub record Repeats (from n : ℕ) (l m : EntryList) : Type 0 where
+  pub same : m.list.ghost_name ≡ l.list.ghost_name
+  pub repeated : Repeated l.list.now m.list.now from l.count n m.count
 
-pub record ReadsGroup (n d : ℕ) (list list' : List ℕ) (from : ℕ) (a b : Reader) (r : Result ℕ Fault) : Type 0 where
-  pub same : b.text.now ≡ a.text.now
-  pub says : GroupSays a.text.now n a.at d list list' from (ends_at r b.at)
+-- where an item ends in the text, and its entries in the list
+abbrev pub ends_at : Result (Unit {0}) Fault → ℕ → ℕ → Result (ℕ × ℕ) Fault
+ends_at (Ok done) next to = Ok (next, to)
+ends_at (Err f) next to = Err f
 
--- where it stands behind the `)` that closes items
-abbrev pub StandsAt : Result Items Fault → ℕ → Type 0
-StandsAt (Ok (Closed next to)) at = at ≡ next
-StandsAt (Ok (Ended to)) at = Unit {0}
-StandsAt (Err f) at = Unit {0}
+-- the text and the list stay
+pub record Stay (a b : Reader) (l m : EntryList) : Type 0 where
+  pub text : b.text.now ≡ a.text.now
+  pub list : m.list.ghost_name ≡ l.list.ghost_name
 
-pub record ReadsItems (d : ℕ) (list list' : List ℕ) (from : ℕ) (a b : Reader) (r : Result Items Fault) : Type 0 where
-  pub same : b.text.now ≡ a.text.now
-  pub says : ItemsSay a.text.now a.at d list list' from r
-  pub stands : StandsAt r b.at
+-- an item has been read, or a group from its body on, or items
+pub record ReadsItem (d : ℕ) (a b : Reader) (l m : EntryList) (r : Result (Unit {0}) Fault) : Type 0 where
+  pub stay : Stay a b l m
+  pub says : ItemSays a.text.now a.at d l.list.now m.list.now l.count (ends_at r b.at m.count)
+
+pub record ReadsGroup (n d : ℕ) (a b : Reader) (l m : EntryList) (r : Result (Unit {0}) Fault) : Type 0 where
+  pub stay : Stay a b l m
+  pub says : GroupSays a.text.now n a.at d l.list.now m.list.now l.count (ends_at r b.at m.count)
+
+-- where they stand behind the `)` that closes items
+abbrev pub StandAt : Result Items Fault → ℕ → ℕ → Type 0
+StandAt (Ok (Closed next to)) at count = (at ≡ next) × (count ≡ to)
+StandAt (Ok (Ended to)) at count = Unit {0}
+StandAt (Err f) at count = Unit {0}
+
+pub record ReadsItems (d : ℕ) (a b : Reader) (l m : EntryList) (r : Result Items Fault) : Type 0 where
+  pub stay : Stay a b l m
+  pub says : ItemsSay a.text.now a.at d l.list.now m.list.now l.count r
+  pub stand : StandAt r b.at m.count

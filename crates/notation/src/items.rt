@@ -8,8 +8,9 @@ ghost use Rattle.notation.specs.Stretches.{AtItem};
 ghost use Rattle.notation.specs.Listed.{Opened, Placeable, ItemsSay};
 ghost use Rattle.notation.specs.Cursor.{ReadsItem, ReadsGroup, ReadsItems};
 
+use crate::entry_list::EntryList;
 use crate::reader::Reader;
-use crate::{Follow, Start, entry_words, turns};
+use crate::{Follow, Start};
 use llsc::refusals::Refusal;
 
 // Why a text is refused, 10 or 11, and the place of the fault.
@@ -36,18 +37,16 @@ fn broken(place: usize) -> Fault
     }
 }
 
-// A group with `n` turns, read from its `(` on, where groups may stand `depth` deep; its entries go into the list from
-// `from` on. Where the list goes on.
+// A group with `n` turns, read from its `(` on, where groups may stand `depth` deep.
 #[cycle(read_group_read_item_read_items)]
 fn read_group(
     reader: &mut Reader,
     n: u64,
     depth: usize,
-    list: &mut [u64],
-    from: usize,
-) -> Result<usize, Fault>
-    requires { (Opened reader.old.text.now n reader.old.at) × (from ≤ length list.old) × (Placeable reader.old.text.now) }
-    ensures { ReadsGroup n depth list.old list.new from reader.old reader.new result }
+    entries: &mut EntryList,
+) -> Result<(), Fault>
+    requires { (Opened reader.old.text.now n reader.old.at) × (Placeable reader.old.text.now) }
+    ensures { ReadsGroup n depth reader.old reader.new entries.old entries.new result }
 {
     if depth == 0 {
         return Err(Fault {
@@ -55,55 +54,56 @@ fn read_group(
             place: reader.at - 1,
         });
     }
-    let first = read_on(reader, depth - 1, list, from)?;
+    let from = entries.count;
+    let first = read_on(reader, depth - 1, entries)?;
     match first {
         Items::Ended(_) => Err(broken(reader.text.len())),
-        Items::Closed(_, to) => Ok(turns::repeat(list, from, to, n)),
-    }
-}
-
-// An item; its entries go into the list from `from` on. Where the list goes on.
-#[cycle(read_group_read_item_read_items)]
-fn read_item(
-    reader: &mut Reader,
-    depth: usize,
-    list: &mut [u64],
-    from: usize,
-) -> Result<usize, Fault>
-    requires { (AtItem reader.old.text.now reader.old.at) × (from ≤ length list.old) × (Placeable reader.old.text.now) }
-    ensures { ReadsItem depth list.old list.new from reader.old reader.new result }
-{
-    let at = reader.at;
-    match reader.begin() {
-        None => Err(broken(reader.at)),
-        Some(Start::Single(e)) => Ok(entry_words::keep(list, from, e, at)),
-        Some(Start::Group(n)) => read_group(reader, n, depth, list, from),
-    }
-}
-
-// Items up to a `)` or the end of the text; their entries go into the list from `from` on.
-#[cycle(read_group_read_item_read_items)]
-fn read_on(reader: &mut Reader, depth: usize, list: &mut [u64], from: usize) -> Result<Items, Fault>
-    requires { (from ≤ length list.old) × (Placeable reader.old.text.now) }
-    ensures { ReadsItems depth list.old list.new from reader.old reader.new result }
-{
-    reader.skip();
-    if reader.text.len() <= reader.at {
-        return Ok(Items::Ended(from));
-    }
-    let mut to = from;
-    loop {
-        to = read_item(reader, depth, list, to)?;
-        match reader.after() {
-            None => return Err(broken(reader.at)),
-            Some(Follow::Item) => {}
-            Some(Follow::End) => return Ok(Items::Ended(to)),
-            Some(Follow::Shut) => return Ok(Items::Closed(reader.at, to)),
+        Items::Closed(..) => {
+            entries.repeat(from, n);
+            Ok(())
         }
     }
 }
 
-// The items of a text from a place on.
+// An item.
+#[cycle(read_group_read_item_read_items)]
+fn read_item(reader: &mut Reader, depth: usize, entries: &mut EntryList) -> Result<(), Fault>
+    requires { (AtItem reader.old.text.now reader.old.at) × (Placeable reader.old.text.now) }
+    ensures { ReadsItem depth reader.old reader.new entries.old entries.new result }
+{
+    let at = reader.at;
+    match reader.begin() {
+        None => Err(broken(reader.at)),
+        Some(Start::Single(e)) => {
+            entries.keep(e, at);
+            Ok(())
+        }
+        Some(Start::Group(n)) => read_group(reader, n, depth, entries),
+    }
+}
+
+// Items up to a `)` or the end of the text.
+#[cycle(read_group_read_item_read_items)]
+fn read_on(reader: &mut Reader, depth: usize, entries: &mut EntryList) -> Result<Items, Fault>
+    requires { Placeable reader.old.text.now }
+    ensures { ReadsItems depth reader.old reader.new entries.old entries.new result }
+{
+    reader.skip();
+    if reader.text.len() <= reader.at {
+        return Ok(Items::Ended(entries.count));
+    }
+    loop {
+        read_item(reader, depth, entries)?;
+        match reader.after() {
+            None => return Err(broken(reader.at)),
+            Some(Follow::Item) => {}
+            Some(Follow::End) => return Ok(Items::Ended(entries.count)),
+            Some(Follow::Shut) => return Ok(Items::Closed(reader.at, entries.count)),
+        }
+    }
+}
+
+// The items of a text from a place on; their entries go into the list from a place of its own on.
 pub fn read_items(
     text: &[u8],
     at: usize,
@@ -115,5 +115,6 @@ pub fn read_items(
     ensures { ItemsSay text.now at depth list.old list.new from result }
 {
     let mut reader = Reader { text, at };
-    read_on(&mut reader, depth, list, from)
+    let mut entries = EntryList { list, count: from };
+    read_on(&mut reader, depth, &mut entries)
 }

@@ -3,10 +3,11 @@
 
 #![tactic(auto)]
 
+mod entry_list;
 pub mod entry_words;
 pub mod items;
 mod reader;
-pub mod turns;
+mod turns;
 
 ghost use Rattle.std.specs.Prelude.{◌≡◌};
 ghost use Rattle.notation.specs.Bytes.{kind_of, entry_of};

@@ -1,12 +1,13 @@
 -- `notation::items::read_group`, `read_item` and `read_on`: each entry read is kept.
 -- The depth falls from a group to its items, the text from item to item.
 use Prim.Native.Nat.{ℕ, ◌+◌, ◌-◌, ◌*◌}
-use mathlib.Core.Path.{◌≡◌}
-use mathlib.Core.List.{List}
 use lib.ListN.{length}
+use Rattle.notation.specs.declared.reader.Reader.{Reader}
+use Rattle.notation.specs.declared.entry_list.EntryList.{EntryList}
 use Rattle.notation.specs.Places.{fore, Moves}
 use Rattle.notation.specs.Groups.{Sofar}
 use Rattle.notation.specs.Listed.{Keeps}
+use Rattle.notation.specs.Cursor.{Stay}
 use Rattle.notation.proofs.items.+read_group_read_item_read_items.Given as goal
 
 abbrev pub decreases-read_group : goal.decreases-read_group
@@ -18,13 +19,13 @@ decreases-read_item l = 3 * l.depth + 1
 abbrev pub decreases-read_on : goal.decreases-read_on
 decreases-read_on l = 3 * l.depth + 2
 
--- the text is the same, and its items up to a place are kept
-pub record Inv (s s' : List ℕ) (at next d : ℕ) (list list' : List ℕ) (from to : ℕ) : Type 0 where
-  pub same : s' ≡ s
-  pub keeps : Keeps s list list' from to (λ es. Sofar s at d next es) (λ ps. Moves s at fore next fore ps)
+-- the items up to where the reader stands are kept
+pub record Inv (d : ℕ) (a b : Reader) (l m : EntryList) : Type 0 where
+  pub stay : Stay a b l m
+  pub keeps : Keeps a.text.now l.list.now m.list.now l.count m.count (λ es. Sofar a.text.now a.at d b.at es) (λ ps. Moves a.text.now a.at fore b.at fore ps)
 
-abbrev pub invariant-read_on-loop-to : goal.invariant-read_on-loop-to
-invariant-read_on-loop-to l = Inv l.fn.reader.text.now l.reader.text.now l.fn.reader.at l.reader.at l.depth l.initial.list l.list l.from l.to
+abbrev pub invariant-read_on-loop-reader : goal.invariant-read_on-loop-reader
+invariant-read_on-loop-reader l = Inv l.depth l.fn.reader l.reader l.fn.entries l.entries
 
-abbrev pub decreases-read_on-loop-to : goal.decreases-read_on-loop-to
-decreases-read_on-loop-to l = length l.reader.text.now - l.reader.at
+abbrev pub decreases-read_on-loop-reader : goal.decreases-read_on-loop-reader
+decreases-read_on-loop-reader l = length l.reader.text.now - l.reader.at
