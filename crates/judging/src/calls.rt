@@ -32,6 +32,7 @@ impl<'a> Calls<'a> {
     }
 
     // The call of an index, without its words.
+    // Kept: `k < count` is asked where an index comes in: an index of its own type would have to hold the log it is of.
     pub fn head(&self, k: usize) -> Head
         requires { k < length self.now.log.now / width self.now.w }
         ensures { result ≡ head (entry_at self.now.w self.now.log.now k) }

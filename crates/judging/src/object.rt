@@ -31,7 +31,8 @@ fn words_held<'a>(calls: &Calls<'a>, value: &'a [u64], held: &Held) -> &'a [u64]
 
 // Whether the object answers a call as the call says.
 fn alike<'a>(admitted: &Admitted<'a>, value: &'a [u64], held: &Held, k: usize) -> bool
-    requires { (k < count admitted.now.calls.w admitted.now.calls.log.now) × (Sane admitted.now.calls.w admitted.now.calls.log.now held.now) }
+    requires call { k < count admitted.now.calls.w admitted.now.calls.log.now }
+    requires sane { Sane admitted.now.calls.w admitted.now.calls.log.now held.now }
     ensures { result ≡ told_alike admitted.now.calls.w admitted.now.calls.log.now value.now k held.now }
 {
     let e = admitted.calls.head(k);
@@ -43,7 +44,8 @@ fn alike<'a>(admitted: &Admitted<'a>, value: &'a [u64], held: &Held, k: usize) -
 
 // The object serves a call.
 fn serve(admitted: &Admitted, held: &mut Held, k: usize)
-    requires { (k < count admitted.now.calls.w admitted.now.calls.log.now) × (Sane admitted.now.calls.w admitted.now.calls.log.now held.old) }
+    requires call { k < count admitted.now.calls.w admitted.now.calls.log.now }
+    requires sane { Sane admitted.now.calls.w admitted.now.calls.log.now held.old }
     ensures { MovedOn admitted.now.calls.w admitted.now.calls.log.now k held.old held.new }
 {
     let e = admitted.calls.head(k);
@@ -58,7 +60,7 @@ fn serve(admitted: &Admitted, held: &mut Held, k: usize)
 
 // What the object answers a call.
 fn shown(admitted: &Admitted, held: &Held, k: usize) -> Shown
-    requires { (k < count admitted.now.calls.w admitted.now.calls.log.now) }
+    requires { k < count admitted.now.calls.w admitted.now.calls.log.now }
     ensures { result ≡ shown_at admitted.now.calls.w admitted.now.calls.log.now k held.now }
 {
     let e = admitted.calls.head(k);
@@ -74,7 +76,8 @@ fn shown(admitted: &Admitted, held: &Held, k: usize) -> Shown
 // The first call, in the order of the moments, that the object, begun with the value, does not answer alike.
 pub fn first_unlike<'a>(admitted: &Admitted<'a>, value: &'a [u64], order: &Order) -> Option<Fault>
     requires { SortedBy admitted.now.calls.w admitted.now.calls.log.now order.now }
-    ensures { result ≡ not_alike (fresh value.now) in_value (numbered_in_order (entries admitted.now.calls.w admitted.now.calls.log.now)) }
+    ensures { let es = entries admitted.now.calls.w admitted.now.calls.log.now in
+        result ≡ not_alike (fresh value.now) in_value (numbered_in_order es) }
 {
     let mut held = Held {
         links: [false; 16],

@@ -11,4 +11,4 @@ returns-then-e-eq-LL c =
     ∙ told_ll a.w a.log.now c.args.k c.args.held.now c.args.value.now (sym (ap (λ (e : Head). e.kind) c.head-e.ensures) ∙ c.if-e-eq-LL.true) _ _ c.words_held.ensures c.words.ensures
 
 pub bounds-held-e : goal.bounds-held-e
-bounds-held-e c = let a = c.args.admitted.now.calls in low_process a.w a.log.now c.args.admitted.now.fits c.args.k c.requires.0 _ c.head-e.ensures
+bounds-held-e c = let a = c.args.admitted.now.calls in low_process a.w a.log.now c.args.admitted.now.fits c.args.k c.requires.call _ c.head-e.ensures
