@@ -69,7 +69,9 @@ module _ {s : List ℕ} where
     same = λ stack os d.
         elim (leb (length s) at) as (λ t. leb (length s) at ≡ t → scan (drop at s) (offer_num p v) stack os d ≡ scan (drop at s) done stack (os ++ StartSc p v ∷ []) d) [
           | true ↦ (λ t. let l = leb-true _ _ t in scan_end s at (offer_num p v) stack os d l ∙ at_end_offer p v stack os ∙ sym (scan_end s at done stack (os ++ StartSc p v ∷ []) d l))
-          | false ↦ (λ t. let l = leb-false _ _ t in let w = offer_move p v (kind_of (get_or s at 0)) (e l) in scan_at s at (offer_num p v) stack os d l ∙ simp (w.0, w.1) (sym (scan_at s at done stack (os ++ StartSc p v ∷ []) d l ∙ simp append-nil)))
+          | false ↦ (λ t. let l = leb-false _ _ t in let w = offer_move p v (kind_of (get_or s at 0)) (e l) in
+              scan_at s at (offer_num p v) stack os d l ∙ simp (w.0, w.1)
+              (sym (scan_at s at done stack (os ++ StartSc p v ∷ []) d l ∙ simp append-nil)))
         ] refl;
   }
 
@@ -150,7 +152,8 @@ module _ {s : List ℕ} where
   offer_start w h e (Ok (k, next)) x = offer_once w h e x
   offer_start {p = p} w h e (Err place) x = then_fault (to_offer w h e) (offer_none p x)
 
-  group_start : {at n place : ℕ} → Whole s at n place → place < length s → kind_of (get_or s place 0) ≡ Open → (t : Bool) → count_ok n ≡ t → StartSays s at (cond t (Ok (Group n, place + 1)) (Err place))
+  group_start : {at n place : ℕ} → Whole s at n place → place < length s → kind_of (get_or s place 0) ≡ Open → (t : Bool) → count_ok n ≡ t
+      → StartSays s at (cond t (Ok (Group n, place + 1)) (Err place))
   group_start w h e true ok = group_begun w h e ok
   group_start w h e false ok = group_bad w h e ok
 
@@ -203,7 +206,9 @@ module _ {s : List ℕ} where
       on = omega (arith, k.on);
       item = record { here = l; item = ap is_gap c };
       places = places_on h e k;
-      goes = then gapped (record { on = omega arith; within = omega arith; same = λ stack os r. scan_at s next (between true) stack os r l ∙ simp (c, append-nil) (sym (scan_at s next (between false) stack os r l ∙ simp (c, append-nil))) });
+      goes = then gapped (record { on = omega arith; within = omega arith; same = λ stack os r.
+          scan_at s next (between true) stack os r l ∙ simp (c, append-nil)
+          (sym (scan_at s next (between false) stack os r l ∙ simp (c, append-nil))) });
     }
 
     gap_stray : next < length s → move (between true) (kind_of (get_or s next 0)) ≡ bad → Faults s at done 10 next
