@@ -4,6 +4,8 @@ ghost use Rattle.boards.specs.Merging.{merge_files};
 ghost use Rattle.besklaun.specs.BoardRuns.{board_run};
 
 use boards::Merged;
+use entry::state::Held;
+use llsc::refusals::number_of;
 
 // Two trace files made one, into the bytes lent.
 // Wrong programs that this rules out: one that takes the two files the other way round, which shows at equal ticks; one
@@ -37,14 +39,11 @@ pub fn besklaun_run_board(
     ensures { (result, listing.new) ≡ board_run n w initial file.now listing.old }
 {
     let mut words = [0; 5120];
-    let bench = model::empty_bench();
-    let all = tables::records::records_of(tables::records::no_process());
-    let out = board_listing::listed::run_listed(
-        bench, all, n, w, initial, file, &mut words, listing,
-    );
+    let held = Held::empty();
+    let out = board_listing::listed::run_listed(held, n, w, initial, file, &mut words, listing);
     BoardRun {
-        number: out.stop,
-        done: out.entries,
-        written: out.written,
+        number: number_of(out.outcome),
+        done: out.run.entries,
+        written: out.run.written,
     }
 }

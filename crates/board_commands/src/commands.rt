@@ -1,13 +1,16 @@
 // A record of a trace file as a command on record 0 of a station.
 ghost use Rattle.std.specs.Prelude.{◌≡◌, ◌+◌, ◌≤◌, length};
 ghost use Rattle.boards.specs.Places.{record_at};
+ghost use Rattle.station_machine.specs.StationDecision.{numbered};
 ghost use Rattle.board_commands.specs.BoardRun.{order_of};
 ghost use Rattle.board_commands.specs.ByValue.{decided};
 
 use boards::numbers::number_at;
 use llsc::Order;
-use station::{Station, StationProcess};
+use llsc::refusals::Refusal;
 use station_machine::Outcome;
+use station_records::gathered::Gathered;
+use station_rows::commands::Command;
 use text_runs::lists::repeated;
 
 // CR 12: "order (1: 0 step, 1 LL, 2 SC, 3 VL)".
@@ -25,21 +28,24 @@ fn order_of(byte: u8) -> Order
 
 // The command of the record at a place.
 pub fn decide_at(
-    station: Station,
-    all: [StationProcess; 16],
-    len: usize,
+    lent: Gathered,
     file: &[u8],
     at: usize,
     words: &mut [u64],
-) -> Outcome
+) -> Result<Outcome, Refusal>
     requires { at + 12 ≤ length file.now }
-    ensures { (result, words.new)
-        ≡ decided station all len (record_at file.now at) words.old }
+    ensures { (numbered result, words.new)
+        ≡ decided lent.station lent.all lent.len (record_at file.now at) words.old }
 {
     let value = repeated(number_at(file, at + 4) as u64);
     let p = file[at + 8] as usize;
     let order = order_of(file[at + 9]);
     // Where W is over 64 a command is refused before its value's words are counted.
-    let w = station.w.min(64);
-    station_machine::decide(station, all, len, p, order, 0, &value[..w], words)
+    let w = lent.station.w.min(64);
+    let command = Command {
+        process: p,
+        order,
+        named: 0,
+    };
+    station_machine::decide(lent, command, &value[..w], words)
 }

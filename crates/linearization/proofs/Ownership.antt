@@ -1,7 +1,6 @@
 -- Ownership: each of the 3N buffer numbers is found exactly once among the buffers that are kept and those that processes own.
 use mathlib.Core.Path.{◌≡◌, refl, sym, ap, ◌∙◌}
 use mathlib.Core.Bool.{Bool, true, false, cond}
-use mathlib.Core.List.{List}
 use Prim.Native.Nat.{ℕ, ◌+◌, ◌*◌, ◌-◌, ◌<◌}
 use native.Mathlib.Omega.{arith}
 use lib.Dec.{ltb, eqb}
@@ -11,10 +10,6 @@ use Rattle.linearization.proofs.GhostMachine.{Local, Shared, State}
 use Rattle.laws.proofs.Claimed.{on_get}
 use Rattle.linearization.proofs.Invariants.{ProcessClauses, Invariant, lines, above}
 use Rattle.linearization.proofs.Ranges.{InRanges}
-use Rattle.linearization.proofs.GhostRuns.{Cmd, setup}
-use Rattle.linearization.proofs.InvariantRuns.{number_after, execs}
-use Rattle.linearization.proofs.GhostSetUp.{run_inv}
-use Rattle.linearization.proofs.RangeRuns.{run_range}
 use Rattle.laws.proofs.Pigeonhole.{Injection, pigeonhole}
 
 -- Help[p]'s buffer at lines 2 to 10 while its flag is 0, else mybuf
@@ -81,7 +76,3 @@ module _ (N W n : ℕ) (s : State) (i : Invariant N W n s) where
     held_once b hb =
         let z = pigeonhole (3 * N) (held N s) held_injection b hb in
         (z.0, z.1, z.2, λ other ho e. held_injection.holders_differ other z.0 ho z.1 (e ∙ sym z.2))
-
--- so it is after every list of commands
-pub held_once_run : (N W : ℕ) → 0 < N → 0 < W → (v : ℕ → ℕ) (cs : List Cmd) (b : ℕ) → b < 3 * N → HeldOnce N (execs N W 1 cs (setup N W v)) b
-held_once_run N W h_n h_w v cs = held_once N W (number_after 1 cs) _ (run_inv N W h_n h_w v cs) (run_range N W h_n h_w v cs)

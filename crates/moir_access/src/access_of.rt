@@ -9,15 +9,18 @@ use llsc::ProcessNumber;
 use moir_lines::copies::CopyOf;
 use moir_lines::points;
 use moir_model::{Bench, Process};
+use moir_steps::before::Before;
 
-// What stands for no access: none is made, or none is shown.
-pub fn no_access() -> Access
+// What stands for no access: an idle process makes none.
+// Kept: a trace asks also at a start, and drops what it gets; an Option would be opened at each step, which has an access.
+fn no_access() -> Access
     ensures { result ≡ no_access }
 {
     on_header::read(0, moir_model::header_at_set_up())
 }
 
 // From the memory before the step. An idle process and a line that is none are never stepped.
+// Kept: each line by its own number, as Figure 6 has it; the arms differ in that number and in what they take.
 #[tactic(auto, unfolding(crate::specs::Accesses::access_of))]
 pub fn access_of(bench: Bench, p: ProcessNumber, process: Process, words: &[u64]) -> Access
     requires { Ready bench process p words.now }
@@ -25,20 +28,25 @@ pub fn access_of(bench: Bench, p: ProcessNumber, process: Process, words: &[u64]
 {
     let line = process.line;
     let header = bench.header;
+    let before = Before {
+        bench: &bench,
+        process,
+        words,
+    };
     match line {
         points::WLL_10 => on_header::read(10, header),
-        points::WLL_2 => on_segment::read(2, bench, process, words),
-        points::WLL_4 => on_array::read(CopyOf::Wll, bench, process, words),
-        points::WLL_5 => on_segment::cas(bench, process, words),
-        points::WLL_6 => on_segment::read(6, bench, process, words),
+        points::WLL_2 => on_segment::read(2, &before),
+        points::WLL_4 => on_array::read(CopyOf::Wll, &before),
+        points::WLL_5 => on_segment::cas(&before),
+        points::WLL_6 => on_segment::read(6, &before),
         points::WLL_7 => on_header::read(7, header),
         points::SC_14 => on_header::read(14, header),
-        points::SC_17 => on_array::write(p, bench, process, words),
+        points::SC_17 => on_array::write(p, &before),
         points::SC_19 => on_header::cas(header, process),
-        points::SC_2 => on_segment::read(2, bench, process, words),
-        points::SC_4 => on_array::read(CopyOf::Sc, bench, process, words),
-        points::SC_5 => on_segment::cas(bench, process, words),
-        points::SC_6 => on_segment::read(6, bench, process, words),
+        points::SC_2 => on_segment::read(2, &before),
+        points::SC_4 => on_array::read(CopyOf::Sc, &before),
+        points::SC_5 => on_segment::cas(&before),
+        points::SC_6 => on_segment::read(6, &before),
         points::SC_7 => on_header::read(7, header),
         points::VL_13 => on_header::read(13, header),
         _ => no_access(),

@@ -5,16 +5,9 @@ ghost use Rattle.moir_run.specs.Finished.{Carries};
 
 use crate::turns::Run;
 use crate::{entries, turns};
-use llsc::refusals::Refusal;
+use listing::Writer;
 use notation::entry_words;
-
-// The run after its list, its place in it, that of the entry that was refused, or the end; and why it was refused.
-#[derive(Clone, Copy)]
-pub struct Carried {
-    pub run: Run,
-    pub at: usize,
-    pub outcome: Result<(), Refusal>,
-}
+use text_runs::runs::Carried;
 
 // An entry that is refused stops the run; `!` stays at its place in the list until its call answers.
 pub fn carry_out(
@@ -22,17 +15,17 @@ pub fn carry_out(
     kept: &[u64],
     count: usize,
     words: &mut [u64],
-    list: &mut [u8],
-) -> Carried
-    requires { (count ≤ length kept.now) × (Sound (progress run 0 words.old list.old)) }
-    ensures { Carries kept.now count run words.old list.old result words.new list.new }
+    to: &mut Writer<'_>,
+) -> Carried<Run>
+    requires { (count ≤ length kept.now) × (Sound (progress run 0 words.old to.old)) }
+    ensures { Carries kept.now count run words.old to.old result words.new to.new }
 {
     let mut now = run;
     let mut at = 0;
     // Kept: a while, since `!` takes several turns at one place of the list.
     while at < count {
         let e = entry_words::entry_in(kept[at]);
-        match turns::turn(now, e, list, words) {
+        match turns::turn(now, e, to, words) {
             Ok(next) => now = next,
             Err(refusal) => {
                 return Carried {

@@ -3,33 +3,23 @@
 ghost use Rattle.std.specs.Prelude.{◌≡◌, ◌≤◌, length, replicate};
 ghost use Rattle.llsc.specs.Refusals.{refusal_number};
 ghost use Rattle.notation.specs.Grammar.{largest};
-ghost use Rattle.text_runs.specs.StopPlaces.{at_no_entry, StopInText};
+ghost use Rattle.text_runs.specs.StopPlaces.{StopInText};
 ghost use Rattle.text_runs.specs.KeptEntries.{entries_in, places_in, refused_with, started_with, report_with, says_after};
 ghost use Rattle.moir_semantics.specs.TextRun.{figure6};
 ghost use Rattle.moir_run.specs.TextRan.{at_start, seen, returned, TextRan};
-ghost use Rattle.moir_run.specs.Finished.{fresh_run, finished_of, closed, Closable, Headed, Roomy};
+ghost use Rattle.moir_run.specs.Finished.{fresh_run, Headed, Roomy};
 
 use crate::entry_loop;
 use crate::turns::Run;
-use llsc::refusals;
+use listing::Writer;
 use llsc::refusals::Refusal;
 use moir_machine::setting_up;
 use moir_model::{Bench, Process};
 use notation::items::Items;
 use notation::{First, items};
-use positions::StopReport;
-use text_runs::{last_lines, limits, lists, reports};
-
-// What a text run leaves of the records, and what it returns: its number, 0 at `end`, the entries done, the bytes written
-// of the listing or of the trace, and where it stopped.
-#[derive(Clone, Copy)]
-pub struct Finished {
-    pub all: [Process; 16],
-    pub number: u8,
-    pub entries: usize,
-    pub written: usize,
-    pub report: StopReport,
-}
+use positions::{Sizes, StopReport};
+use text_runs::runs::Finished;
+use text_runs::{limits, lists, reports, runs};
 
 // A run before its first entry, or one that a refusal keeps from it.
 fn fresh(bench: Bench, traced: bool) -> Run
@@ -38,44 +28,21 @@ fn fresh(bench: Bench, traced: bool) -> Run
     Run {
         bench,
         all: [moir_model::process_at_set_up(); 16],
-        written: 0,
         entries: 0,
         traced,
     }
 }
 
-// What a run returns that ends with a number and has written so many bytes.
-fn returned(run: Run, number: u8, report: StopReport, written: usize) -> Finished
-    ensures { result ≡ finished_of run number report written }
-{
-    let all = run.all;
-    Finished {
-        all,
-        number,
-        entries: run.entries,
-        written,
-        report,
-    }
-}
-
-// A run with its last line.
-fn ended(run: Run, number: u8, report: StopReport, list: &mut [u8]) -> Finished
-    requires { Closable run number list.old }
-    ensures { (result, list.new) ≡ closed run number report list.old }
-{
-    let next = last_lines::write(number, run.entries, list, run.written);
-    returned(run, number, report, next)
-}
-
-// A run that is refused before its set-up, in either style, at no entry.
-fn refused(refusal: Refusal, n: u64, w: u64, place: usize, list: &mut [u8]) -> Finished
+// A run that is refused before its set-up, in either style.
+// Kept: `Roomy` is one bound on the list that each of three functions is lent; a type for it would be that list again.
+fn refused(refusal: Refusal, report: StopReport, list: &mut [u8]) -> Finished<[Process; 16]>
     requires { (Roomy list.old) × (refusal_number refusal ≤ 15) }
     ensures { (returned result list.new ≡ seen (refused_with figure6 (refusal_number refusal) at_start list.old)) ×
-        (result.report ≡ at_no_entry n w place) }
+        (result.report ≡ report) }
 {
     let run = fresh(moir_model::empty_bench(), false);
-    let report = reports::at_no_entry(n, w, place);
-    ended(run, refusal.number(), report, list)
+    let mut to = Writer { list, written: 0 };
+    runs::ended(run.all, run.entries, Err(refusal), report, &mut to)
 }
 
 // The words of the largest N and W.
@@ -87,7 +54,7 @@ fn no_words() -> [u64; 3136]
 
 // "then 1, 2, 3, then the set-up, then the entries": those of the list, up to `count`. The records are at their set-up from
 // the start.
-fn started(traced: bool, first: First, kept: &[u64], count: usize, list: &mut [u8]) -> Finished
+fn started(traced: bool, first: First, kept: &[u64], count: usize, list: &mut [u8]) -> Finished<[Process; 16]>
     requires { (Roomy list.old) × (first.initial ≤ largest) × (count ≤ length kept.now) }
     ensures { (returned result list.new ≡ seen (started_with figure6 traced first.n first.w first.initial (entries_in count kept.now) at_start list.old)) ×
         (result.report ≡ report_with figure6 traced first.n first.w first.initial (entries_in count kept.now) (places_in count kept.now) at_start list.old) }
@@ -95,49 +62,64 @@ fn started(traced: bool, first: First, kept: &[u64], count: usize, list: &mut [u
     let n = first.n as usize;
     let w = first.w as usize;
     match setting_up::set_up_refusal(n, w, 16, 3136, w) {
-        Err(refusal) => refused(refusal, first.n, first.w, 0, list),
+        Err(refusal) => {
+            let sizes = Sizes {
+                n: first.n,
+                w: first.w,
+            };
+            refused(refusal, StopReport::AtNoItem(sizes), list)
+        }
         Ok(()) => {
             let mut words = no_words();
             let value = lists::repeated(first.initial);
             setting_up::words_at_set_up(&mut words, n, w, &value[..w]);
             let bench = setting_up::bench_at_set_up(moir_model::empty_bench(), n, w);
             let run = fresh(bench, traced);
-            let carried = entry_loop::carry_out(run, kept, count, &mut words, list);
-            let number = refusals::number_of(carried.outcome);
-            let report = reports::stop_report(first.n, first.w, number, kept, carried.at);
-            ended(carried.run, number, report, list)
+            let mut to = Writer { list, written: 0 };
+            let carried = entry_loop::carry_out(run, kept, count, &mut words, &mut to);
+            let outcome = carried.outcome;
+            let report = reports::stop_report(first.n, first.w, outcome, kept, carried.at);
+            let run = carried.run;
+            runs::ended(run.all, run.entries, outcome, report, &mut to)
         }
     }
 }
 
 // "then 10 and 11 over the whole text": its items are read once, into the list of its entries.
-fn checked(traced: bool, first: First, text: &[u8], list: &mut [u8]) -> Finished
+fn checked(traced: bool, first: First, text: &[u8], list: &mut [u8]) -> Finished<[Process; 16]>
     requires { (Roomy list.old) × (Headed text.now first) }
     ensures { (returned result list.new ≡ seen (says_after figure6 traced text.now first.n first.w first.initial first.items at_start list.old)) ×
         StopInText figure6 traced at_start text.now list.old result.report }
 {
     let mut kept = lists::empty_list();
     match items::read_items(text, first.items, limits::DEEPEST, &mut kept, 0) {
-        Err(fault) => refused(fault.cause, 0, 0, fault.place, list),
-        Ok(Items::Closed(next, _)) => refused(Refusal::TextBroken, 0, 0, next - 1, list),
+        Err(fault) => refused(fault.cause, StopReport::AtFault(fault.place), list),
+        Ok(Items::Closed(next, _)) => {
+            refused(Refusal::TextBroken, StopReport::AtFault(next - 1), list)
+        },
         Ok(Items::Ended(count)) => started(traced, first, &kept, count, list),
     }
 }
 
 // The whole run, with a listing or a trace.
-pub fn run_text(text: &[u8], traced: bool, list: &mut [u8]) -> Finished
+pub fn run_text(text: &[u8], traced: bool, list: &mut [u8]) -> Finished<[Process; 16]>
     ensures { TextRan traced text.now list.old result list.new }
 {
     if list.len() < limits::room_needed(traced) {
         let run = fresh(moir_model::empty_bench(), traced);
-        let report = reports::at_no_entry(0, 0, 0);
-        return returned(run, Refusal::NoRoom.number(), report, 0);
+        return Finished {
+            held: run.all,
+            outcome: Err(Refusal::NoRoom),
+            entries: 0,
+            written: 0,
+            report: StopReport::NotRead,
+        };
     }
     if limits::LONGEST_TEXT < text.len() {
-        return refused(Refusal::TooMuch, 0, 0, 0, list);
+        return refused(Refusal::TooMuch, StopReport::NotRead, list);
     }
     match notation::first_line(text) {
-        Err(place) => refused(Refusal::TextBroken, 0, 0, place, list),
+        Err(place) => refused(Refusal::TextBroken, StopReport::AtFault(place), list),
         Ok(first) => checked(traced, first, text, list),
     }
 }

@@ -32,7 +32,7 @@ use Rattle.moir_model.specs.Words.{announced_word, segment_word, return_word, of
 use Rattle.moir_model.specs.Lines.{same_header, same_segment, saves, do_line2, do_line5, do_line7, do_line7_copy, do_line14, do_line17, do_line19}
 use Rattle.moir_model.specs.Machine.{Memory, step_at, obey}
 use Rattle.moir_model.specs.Command.{command, refusal, obeyed}
-use Rattle.moir_model.specs.SetUp.{set_up, set_up_refusal, at_set_up, values_at_set_up, process_at_set_up}
+use Rattle.moir_model.specs.SetUp.{at_set_up, values_at_set_up, process_at_set_up}
 use Rattle.moir_semantics.proofs.AcceptedRows.{InOrder, in_order}
 
 -- a segment, or a private copy of one
@@ -164,19 +164,6 @@ module _ (m : Memory) (n w v : ℕ) (h : v ≤ largest) where
     records = λ j k. sets_filled SmallProcess no_process small_empty (replicate n process_at_set_up) m.records 0 j
         (same_hold SmallProcess no_process small_empty n) (λ z. absurd (not-suc-le-zero z)) (omega (arith, k, length-replicate n process_at_set_up));
   }
-
-  pub small_set_up : (set_up m n w (replicate w v)).0 ≡ 0 → Small (set_up m n w (replicate w v)).1
-  unfolding set_up
-  small_set_up e = simp (eq-eqb (set_up_refusal m n w value) 0 e) small_at_set_up
-
-  -- a refused one leaves the memory
-  pub small_set_up_kept : Small m → Small (set_up m n w (replicate w v)).1
-  unfolding set_up
-  small_set_up_kept s = by (eqb (set_up_refusal m n w value) 0)
-    where
-      by : (t : Bool) → Small (cond t (at_set_up m n w value) m)
-      by true = small_at_set_up
-      by false = s
 
 -- a reply that is no refusal: with the count k where it answers, and with process q where it names one
 pub data Plain (k : ℕ) (q : ProcessNumber) : Reply → Type 0 where

@@ -107,6 +107,7 @@ fn read_on(reader: &mut Reader, depth: usize, entries: &mut EntryList) -> Result
 }
 
 // The items of a text from a place on; their entries go into the list from a place of its own on.
+// Kept: both places, as the caller has them: a first line says where its items begin, and a reader is this crate's own.
 pub fn read_items(
     text: &[u8],
     at: usize,

@@ -2,6 +2,8 @@
 
 #![tactic(auto)]
 
+pub mod gathered;
+
 ghost use Rattle.std.specs.Prelude.{◌≡◌, ◌<◌, cond, eqb, get_or};
 ghost use Rattle.station.specs.Station.{no_tables, holding_at};
 ghost use Rattle.station.specs.Projection.{elsewhere, process_of, put_tables, put_process};
@@ -10,6 +12,7 @@ ghost use Rattle.station_records.specs.TakenOut.{bench_in, with_tables};
 use model::{Bench, Process};
 use station::{Holding, RecordNumber, Station, StationProcess, Tables};
 
+// Kept: j.0 < 8 is a clause, as a lent process record holds a `RecordNumber`, and may hold any number there.
 // The tables of record j.
 pub fn tables_at(station: Station, j: RecordNumber) -> Tables
     requires { j.0 < 8 }
@@ -63,7 +66,7 @@ pub fn holding_at(q: StationProcess, j: RecordNumber) -> Holding
 pub fn is_elsewhere(j: RecordNumber, q: StationProcess) -> bool
     ensures { result ≡ elsewhere j q }
 {
-    !q.is_at_rest() && q.called.0 != j.0
+    !q.is_at_rest() && q.called != j
 }
 
 // The process record as record j's bench has it.

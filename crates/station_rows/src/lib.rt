@@ -3,5 +3,7 @@
 #![tactic(auto)]
 
 pub mod causes;
+pub mod commands;
 pub mod ranges;
+pub mod sizes;
 pub mod table;

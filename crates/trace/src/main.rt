@@ -3,6 +3,8 @@
 
 #![tactic(auto)]
 
+use entry::state::Held;
+use llsc::refusals::number_of;
 use std::alloc::AllocError;
 use std::process::ExitCode;
 
@@ -13,21 +15,20 @@ fn main(rt: HostRuntime) -> Result<ExitCode, AllocError> {
     // room for the trace of 60,000 entries
     let mut list = vec![in rt.alloc(); 0; 3145728]?;
     let mut words = [0; 5120];
-    let bench = model::empty_bench();
-    let all = tables::records::records_of(tables::records::no_process());
-    let out = run::text_run::trace_by_value(bench, all, 16, &mut words, given, &mut list);
-    let mut errors = rt.stderr();
-    let told = messages::output(&mut rt.stdout(), &mut errors, list.get(..out.written)).and_then(
-        |()| {
-            messages::figure2::explain(
-                &mut errors,
-                out.number,
-                out.entries,
-                out.report,
-                out.all,
-                given,
-            )
-        },
+    let held = Held::empty();
+    let out = run::text_run::trace_by_value(held, 16, &mut words, given, &mut list);
+    let ended = messages::Ended {
+        number: number_of(out.outcome),
+        entries: out.entries,
+        report: out.report,
+        text: given,
+    };
+    let status = messages::conclude(
+        &mut rt.stdout(),
+        &mut rt.stderr(),
+        list.get(..out.written),
+        ended,
+        messages::figure2::left(out.held.all),
     );
-    Ok(console::status(told))
+    Ok(status)
 }

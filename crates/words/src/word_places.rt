@@ -7,6 +7,7 @@ use crate::layouts::{FirstRows, word_of_row};
 use llsc::ProcessNumber;
 use model::BufferNumber;
 
+// Kept: k < 64 is a clause, as a word place stands in a lent process record, which may hold any number.
 // Where word k of BUF[b] lies.
 pub fn buffer_word(w: usize, b: BufferNumber, k: usize) -> usize
     requires { (w ≤ 64) × (k < 64) }
@@ -20,7 +21,7 @@ pub fn return_word(n: usize, w: usize, p: ProcessNumber, k: usize) -> usize
     requires { (n ≤ 16) × ((w ≤ 64) × (k < 64)) }
     ensures { result ≡ return_word n w p k }
 {
-    FirstRows::one_record(n).return_in(w, p, k)
+    FirstRows::one_record(n, w).return_in(p, k)
 }
 
 // Where word k of p's offer area lies.
@@ -28,7 +29,7 @@ pub fn offer_word(n: usize, w: usize, p: ProcessNumber, k: usize) -> usize
     requires { (n ≤ 16) × ((w ≤ 64) × (k < 64)) }
     ensures { result ≡ offer_word n w p k }
 {
-    FirstRows::one_record(n).offer_in(w, p, k)
+    FirstRows::one_record(n, w).offer_in(p, k)
 }
 
 // How many values a half word has.

@@ -7,7 +7,7 @@ use Rattle.board_commands.proofs.running.run_by_value.Goals as goal
 pub returns-then-number-ne0 : goal.returns-then-number-ne0
 returns-then-number-ne0 c =
     let a = c.args in
-    refused_file a.file.now a.station a.all a.len a.words.now _ (c.number_of-number.ensures ∙ c.file_refusal.ensures) c.if-number-ne0.true _ c.left_with.ensures
+    refused_file a.file.now a.lent.station a.lent.all a.lent.len a.words.now _ (c.number_of-number.ensures ∙ c.file_refusal.ensures) c.if-number-ne0.true _ c.left_with.ensures
 
 pub records_of-from-requires : goal.records_of-from-requires
 records_of-from-requires c =
@@ -16,10 +16,10 @@ records_of-from-requires c =
 pub run_records-requires : goal.run_records-requires
 run_records-requires c =
     let a = c.args in
-    records_there a.file.now a.station a.all a.len a.words.now _ (c.number_of-number.ensures ∙ c.file_refusal.ensures) c.if-number-ne0.false _ c.records_of-from.ensures
+    records_there a.file.now a.lent.station a.lent.all a.lent.len a.words.now _ (c.number_of-number.ensures ∙ c.file_refusal.ensures) c.if-number-ne0.false _ c.records_of-from.ensures
 
 pub returns : goal.returns
 returns c =
     let a = c.args in
-    run_file_is a.file.now a.station a.all a.len a.words.now _ (c.number_of-number.ensures ∙ c.file_refusal.ensures) c.if-number-ne0.false
+    run_file_is a.file.now a.lent.station a.lent.all a.lent.len a.words.now _ (c.number_of-number.ensures ∙ c.file_refusal.ensures) c.if-number-ne0.false
     _ c.records_of-from.ensures _ _ c.run_records.ensures

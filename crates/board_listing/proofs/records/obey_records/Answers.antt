@@ -14,14 +14,14 @@ entry_of-e-requires c = omega (arith, c.loop-done.invariant.there, c.loop-done-t
 pub obey-next-requires : goal.obey-next-requires
 obey-next-requires c = (c.loop-done.invariant.between, c.entry_of-e.ensures.1)
 
-pub shape_of-words-then-next-ne0 : goal.shape_of-words-then-next-ne0
-shape_of-words-then-next-ne0 c = c.obey-next.ensures.kept.words ∙ c.loop-done.invariant.words
+pub shape_of-words-in-Err : goal.shape_of-words-in-Err
+shape_of-words-in-Err c = c.obey-next.ensures.kept.words ∙ c.loop-done.invariant.words
 
-pub shape_of-list-then-next-ne0 : goal.shape_of-list-then-next-ne0
-shape_of-list-then-next-ne0 c = c.obey-next.ensures.kept.listing ∙ c.loop-done.invariant.listing
+pub shape_of-list-in-Err : goal.shape_of-list-in-Err
+shape_of-list-in-Err c = c.obey-next.ensures.kept.listing ∙ c.loop-done.invariant.listing
 
-pub returns-then-next-ne0 : goal.returns-then-next-ne0
-returns-then-next-ne0 c =
+pub returns-in-Err : goal.returns-in-Err
+returns-in-Err c =
     refused c.loop-done.invariant (omega (arith, c.loop-done-test.true)) c.entry_of-e.ensures.0 c.entry_of-e.ensures.1 c.obey-next.ensures
     c.if-next-ne0.true _ c.with_entries.ensures
 
