@@ -1,10 +1,10 @@
 // A record of a trace file as a command on record 0 of a station.
-ghost use Rattle.std.specs.Prelude.{◌≡◌, ◌+◌, ◌≤◌, length};
-ghost use Rattle.boards.specs.Places.{record_at};
+ghost use Rattle.std.specs.Prelude.{◌≡◌};
+ghost use Rattle.boards.specs.Files.{record_of};
 ghost use Rattle.board_commands.specs.BoardRun.{order_of};
 ghost use Rattle.board_commands.specs.ByValue.{decided};
 
-use boards::numbers::number_at;
+use boards::records::{self, Record};
 use llsc::Order;
 use station::{Station, StationProcess};
 use station_machine::Outcome;
@@ -23,22 +23,20 @@ fn order_of(byte: u8) -> Order
     }
 }
 
-// The command of the record at a place.
-pub fn decide_at(
+// The command of a record.
+pub fn decide(
     station: Station,
     all: [StationProcess; 16],
     len: usize,
-    file: &[u8],
-    at: usize,
+    bytes: &Record,
     words: &mut [u64],
 ) -> Outcome
-    requires { at + 12 ≤ length file.now }
     ensures { (result, words.new)
-        ≡ decided station all len (record_at file.now at) words.old }
+        ≡ decided station all len (record_of bytes.now) words.old }
 {
-    let value = repeated(number_at(file, at + 4) as u64);
-    let p = file[at + 8] as usize;
-    let order = order_of(file[at + 9]);
+    let value = repeated(records::value(bytes) as u64);
+    let p = records::process(bytes) as usize;
+    let order = order_of(records::order(bytes));
     // Where W is over 64 a command is refused before its value's words are counted.
     let w = station.w.min(64);
     station_machine::decide(station, all, len, p, order, 0, &value[..w], words)

@@ -14,11 +14,11 @@ use Rattle.tables.specs.declared.records.Records.{Records}
 use Rattle.tables.specs.Gathered.{gathered}
 use Rattle.setup.specs.SetUpByValue.{set_up_number}
 use Rattle.notation.specs.Grammar.{largest}
-use Rattle.boards.specs.declared.Left.{Left}
+use Rattle.llsc.specs.Refusals.{refusal_number}
+use Rattle.llsc.specs.declared.refusals.Refusal.{Refusal}
 use Rattle.boards.specs.Files.{decode, good_trailer, good_records, file_number}
-use Rattle.boards.specs.Places.{left_of, There}
-use Rattle.boards.proofs.RefusalLaws.{its_records, as_left, they_are_there, they_are_few}
-use Rattle.board_rows.proofs.FileRows.{has_trailer}
+use Rattle.boards.specs.Places.{read, RightFile, WrongFile}
+use Rattle.boards.proofs.RefusalLaws.{positive}
 use Rattle.text_runs.specs.TextRun.{room_needed}
 use Rattle.semantics.specs.TextRun.{Progress, Ended, ended, begun}
 use Rattle.entry.specs.declared.state.Run.{Run}
@@ -39,43 +39,34 @@ closed_ends : {out : Run} {list' : List ℕ} (r : Run) (ws list : List ℕ) → 
     → end_of out ws list' ≡ ended (progress 16 (state_of r ws list))
 closed_ends r ws list e = ap (λ (x : Run × List ℕ). end_of x.0 ws x.1) e
 
-pub obeyed_closable : {rs : _} {h h' : RunState} → Obeys rs h h' → Closable h'.run h'.listing
-obeyed_closable o = record { entries = o.few; stop = omega (arith, o.stop); room = o.room }
-
 -- "25 and 26 also before a run"
-module _ (r : Run) (ws file list : List ℕ) {k : ℕ} (e : k ≡ file_number file) where
+module _ (r : Run) (ws file list : List ℕ) where
   abbrev m : Memory
   m = memory_of r.bench r.all 16 ws
 
   abbrev ran : Bool → Ended
   ran t = cond t (ended (obey_all (decode file) (begun false m list 0))) (ended (begun false m list (file_number file)))
 
-  pub file_refused : (k ≡ 0 → ⊥) → {out : Run} {list' : List ℕ} → ◌≡◌ {A = Run × List ℕ} (out, list') (closed (fresh_run r.bench r.all k false) list)
-      → RunsFile r ws file list out ws list'
+  pub file_refused : (refusal : Refusal) {k : ℕ} → WrongFile file refusal → k ≡ refusal_number refusal → {out : Run} {list' : List ℕ}
+      → ◌≡◌ {A = Run × List ℕ} (out, list') (closed (fresh_run r.bench r.all k false) list) → RunsFile r ws file list out ws list'
   unfolding run_listed
-  file_refused n c = record {
-    same = closed_ends (fresh_run r.bench r.all k false) ws list c ∙ ap (λ (j : ℕ). ended (begun false m list j)) e
-        ∙ sym (ap ran (ne_eqb (file_number file) 0 (λ z. n (e ∙ z))));
+  file_refused refusal {k} w e c = record {
+    same = closed_ends (fresh_run r.bench r.all k false) ws list c ∙ ap (λ (j : ℕ). ended (begun false m list j)) (e ∙ sym w)
+        ∙ sym (ap ran (ne_eqb (file_number file) 0 (λ z. positive refusal (sym w ∙ z))));
     words = refl;
   }
 
-  module _ (z : k ≡ 0) (l : Left) (f : l ≡ its_records file) where
-    pub records_there : There file l
-    records_there = they_are_there file l f (has_trailer file (sym e ∙ z))
-
-    pub records_few : l.count ≤ 9999999
-    records_few = omega (arith, they_are_few file l f (has_trailer file (sym e ∙ z)))
-
-    pub file_run_is : r ≡ fresh_run r.bench r.all 0 false → {done out : Run} {ws' list' last : List ℕ} → Obeys (left_of file l) (state_of r ws list) (state_of done ws' list')
-        → ◌≡◌ {A = Run × List ℕ} (out, last) (closed done list') → RunsFile r ws file list out ws' last
-    unfolding run_listed
-    file_run_is fresh {done} {ws' = ws'} {list' = list'} o c = record {
-      same = closed_ends done ws' list' c ∙ ap ended o.same
-          ∙ ap (λ (x : Run). ended (obey_all (left_of file l) (progress 16 (state_of x ws list)))) fresh
-          ∙ ap (λ rs. ended (obey_all rs (begun false m list 0))) (as_left file l f)
-          ∙ sym (ap ran (eq-eqb (file_number file) 0 (sym e ∙ z)));
-      words = o.words;
-    }
+  pub file_run_is : {bs : List (List ℕ)} → RightFile file bs → r ≡ fresh_run r.bench r.all 0 false → {done out : Run} {ws' list' last : List ℕ}
+      → Obeys (read bs) (state_of r ws list) (state_of done ws' list')
+      → ◌≡◌ {A = Run × List ℕ} (out, last) (closed done list') → RunsFile r ws file list out ws' last
+  unfolding run_listed
+  file_run_is {bs} f fresh {done} {ws' = ws'} {list' = list'} o c = record {
+    same = closed_ends done ws' list' c ∙ ap ended o.same
+        ∙ ap (λ (x : Run). ended (obey_all (read bs) (progress 16 (state_of x ws list)))) fresh
+        ∙ ap (λ rs. ended (obey_all rs (begun false m list 0))) f.reads
+        ∙ sym (ap ran (eq-eqb (file_number file) 0 f.number));
+    words = o.words;
+  }
 
 -- the set-up
 pub lent : {all : Records} (list : List ℕ) → all ≡ gathered (take 16 all.list) no_process 16 → room_needed false ≤ length list → Lending 16 all list

@@ -9,8 +9,7 @@ ghost use Rattle.board_listing.specs.BoardListing.{board_listed};
 ghost use Rattle.board_listing.specs.ListedRun.{Between, closed, end_of, RunsFile, SetsUp};
 
 use crate::{ending, records};
-use board_rows::file_refusal;
-use boards::trailers::records_of;
+use board_rows::right_records;
 use entry::state::Run;
 use llsc::refusals::{Refusal, number_of};
 use model::Bench;
@@ -32,13 +31,13 @@ fn run_file(run: Run, file: &[u8], words: &mut [u64], list: &mut [u8]) -> Run
     requires { (Between (state_of run words.old list.old)) × (run ≡ fresh_run run.bench run.all 0 false) × (room_needed false ≤ length list.old) }
     ensures { RunsFile run words.old file.now list.old result words.new list.new }
 {
-    let number = number_of(file_refusal(file));
-    if number != 0 {
-        return refused(run.bench, run.all, number, list);
+    match right_records(file) {
+        Ok(records) => {
+            let done = records::obey_records(run, records, words, list);
+            ending::close(done, list)
+        }
+        Err(refusal) => refused(run.bench, run.all, refusal.number(), list),
     }
-    let from = records_of(file);
-    let done = records::obey_records(run, file, from, words, list);
-    ending::close(done, list)
 }
 
 // The set-up, refused or done, and then the file.

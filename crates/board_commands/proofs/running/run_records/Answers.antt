@@ -1,32 +1,31 @@
 -- `board_commands::running::run_records` meets its contract.
-use Prim.Native.Nat.{◌+◌, ◌-◌, ◌*◌, ◌<◌}
-use mathlib.Core.Path.{◌≡◌}
+use mathlib.Core.Path.{◌≡◌, ap, ◌∙◌}
 use native.Mathlib.Omega.{arith}
+use lib.ListN.{length}
+use Rattle.board_commands.specs.ByValue.{left_with}
 use Rattle.board_commands.proofs.CommandLaws.{accepted_place}
 use Rattle.board_commands.proofs.RunLaws.{refused, goes_on, ended}
 use Rattle.board_commands.proofs.running.run_records.Goals as goal
 
 pub returns-then-number-ne0 : goal.returns-then-number-ne0
 returns-then-number-ne0 c =
-    refused c.loop-done.invariant (omega (arith, c.loop-done-test.true)) _ _ c.decide_at-out.ensures _ c.number_of-number.ensures c.if-number-ne0.true _ c.left_with.ensures
+    refused c.loop-done.invariant (omega (arith, c.loop-done-test.true)) _ _ c.decide-out.ensures _ c.number_of-number.ensures c.if-number-ne0.true _ c.left_with.ensures
 
 pub offset_bounds-all-out : goal.offset_bounds-all-out
 offset_bounds-all-out c =
-    let ok = accepted_place _ _ _ _ _ _ _ c.decide_at-out.ensures _ c.number_of-number.ensures c.if-number-ne0.false in
+    let ok = accepted_place _ _ _ _ _ _ _ c.decide-out.ensures _ c.number_of-number.ensures c.if-number-ne0.false in
     omega (arith, ok.place, ok.most)
 
 pub bounds-all-out : goal.bounds-all-out
 bounds-all-out c =
-    let ok = accepted_place _ _ _ _ _ _ _ c.decide_at-out.ensures _ c.number_of-number.ensures c.if-number-ne0.false in
+    let ok = accepted_place _ _ _ _ _ _ _ c.decide-out.ensures _ c.number_of-number.ensures c.if-number-ne0.false in
     omega (arith, ok.place, ok.most)
 
 pub loop-done-preserved : goal.loop-done-preserved
 loop-done-preserved c =
-    let from = c.args.from in let done = c.loop-done.done in
-    goes_on c.loop-done.invariant (omega (arith, c.loop-done-test.true)) _ _ c.decide_at-out.ensures _ c.number_of-number.ensures c.if-number-ne0.false c.decide_at-out.auto.words
-    (from.count - (done + 1)) (from.at + (done + 1) * 12) (omega arith) (omega arith)
+    goes_on c.loop-done.invariant (omega (arith, c.loop-done-test.true)) _ _ c.decide-out.ensures _ c.number_of-number.ensures c.if-number-ne0.false c.decide-out.auto.words
 
 pub returns : goal.returns
 returns c =
-    let all : c.loop-done.done ≡ c.args.from.count = omega (arith, c.loop-done-test.false, c.loop-done.auto.done-end) in
-    ended c.loop-done.invariant (omega (arith, all)) _ (rw all c.left_with-2.ensures)
+    let all : length c.args.records.now ≡ c.loop-done.done = omega (arith, c.loop-done-test.false, c.loop-done.auto.done-end) in
+    ended c.loop-done.invariant (omega (arith, all)) _ (c.left_with-2.ensures ∙ ap (left_with c.loop-done.station c.loop-done.all 0) all)
