@@ -14,6 +14,8 @@ use llsc::Order;
 use llsc::refusals::number_of;
 use model::Reply;
 use station::{Station, StationProcess};
+use station_records::gathered::{Gathered, gather};
+use station_rows::commands::Command;
 use station_setup::gathered::set_up_gathered;
 
 // Process `process`, any number, is given an order: a start names a record, any number, and brings the words of `value`
@@ -35,13 +37,21 @@ pub fn command(
         ≡ station_command (station_memory station.old processes.old words.old)
         (record { process = process; order = order; called = named; value = value.now }) }
 {
-    let len = processes.len();
-    let all = lent::gather(processes, station::empty_process());
-    let out = station_machine::decide(*station, all, len, process, order, named, value, words);
-    *station = out.station;
-    // A refusal names a place past the end, and there nothing is stored.
-    lent::store_at(processes, out.at, out.process);
-    out.reply
+    let gathered = gather(*station, processes);
+    let command = Command {
+        process,
+        order,
+        named,
+    };
+    match station_machine::decide(gathered, command, value, words) {
+        Ok(out) => {
+            *station = out.station;
+            lent::store_at(processes, out.at, out.process);
+            out.reply
+        }
+        // Kept: 01 promises its users a number.
+        Err(refusal) => Reply::Refused(refusal.number()),
+    }
 }
 
 // A set-up for N = n, W = w and R = r with the given value, whatever the lent memory held. It answers the number of its
@@ -62,10 +72,9 @@ pub fn set_up(
     ensures { (result, station_memory station.new processes.new words.new)
         ≡ station_set_up (station_memory station.old processes.old words.old) n w r value.now }
 {
-    let len = processes.len();
-    let all = lent::gather(processes, station::empty_process());
+    let gathered = gather(*station, processes);
     // Kept: 01 promises its users a number.
-    match set_up_gathered(*station, all, len, n, w, r, value, words) {
+    match set_up_gathered(gathered, n, w, r, value, words) {
         Ok(set) => {
             *station = set.station;
             lent::store_back(processes, &set.all, station::empty_process(), n);
@@ -104,9 +113,12 @@ pub fn run_text(
     }
         ≡ station_run_text (station_memory station.old processes.old words.old) text.now listing.old }
 {
-    let len = processes.len();
-    let all = lent::gather(processes, station::empty_process());
-    let out = station_run::run_by_value(*station, all, len, words, text, listing);
+    let Gathered {
+        station: s,
+        all,
+        len,
+    } = gather(*station, processes);
+    let out = station_run::run_by_value(s, all, len, words, text, listing);
     *station = out.station;
     lent::store_back(processes, &out.all, station::empty_process(), out.stored);
     TextRun {

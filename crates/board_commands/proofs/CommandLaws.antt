@@ -5,11 +5,11 @@ use mathlib.Core.Bool.{Bool, true, false, not, ◌&&◌, cond}
 use Prim.Native.Nat.{ℕ, zero, suc, ◌<◌, ◌≤◌}
 use native.Mathlib.Omega.{arith}
 use lib.Dec.{ltb}
+use Rattle.std.specs.Prelude.{Result, Ok, Err}
 use lib.ListN.{length, get_or, take, replicate}
 use borrow.Author.Tests.{ltb-true, ltb-false, le-leb, lt-leb, leb-false}
 use Rattle.llsc.specs.declared.Order.{Order}
 use Rattle.llsc.specs.Rows.{row1, row2}
-use Rattle.model.specs.Replies.{number_of}
 use Rattle.serving.proofs.RefusalFacts.{none_holds, inside, no_row, or_false}
 use Rattle.boards.specs.Files.{BoardRecord}
 use Rattle.entry.proofs.WordLaws.{take_replicate}
@@ -19,7 +19,7 @@ use Rattle.station.specs.Station.{station_memory, station_words, no_station_proc
 use Rattle.station.specs.StationRefusals.{station_in_range, station_rows_of}
 use Rattle.station_rows.specs.StationCommandRows.{station_number}
 use Rattle.station_machine.specs.declared.Outcome.{Outcome}
-use Rattle.station_machine.specs.StationDecision.{station_decided}
+use Rattle.station_machine.specs.StationDecision.{Decided, station_decided}
 use Rattle.station_machine.proofs.StationObeyLaws.{refused_law, obeyed_law}
 use Rattle.board_commands.specs.BoardRun.{order_of}
 use Rattle.board_commands.specs.ByValue.{at_most64, decided}
@@ -30,6 +30,19 @@ pub record Accepted (s : Station) (len : ℕ) (out : Outcome) : Type 0 where
   pub most : s.n ≤ 16
   pub lent : s.n ≤ len
   pub n_stays : out.station.n ≡ s.n
+
+-- where an outcome is stored, its N, and 1 for a refusal
+abbrev place_in : Result Outcome ℕ → ℕ
+place_in (Ok out) = out.at
+place_in (Err k) = 0
+
+abbrev n_in : Result Outcome ℕ → ℕ
+n_in (Ok out) = out.station.n
+n_in (Err k) = 0
+
+abbrev pub refused_in : Result Outcome ℕ → ℕ
+refused_in (Ok out) = 0
+refused_in (Err k) = 1
 
 -- the first two rows
 first_two : Bool → ℕ
@@ -74,9 +87,6 @@ module _ (s : Station) (list : List StationProcess) (len p : ℕ) (o : Order) (n
     abbrev number : ℕ
     number = station_number s list len p o named (length v) (length ws)
 
-    abbrev out : Outcome
-    out = (station_decided s list len p o named v ws).0
-
     below : number ≡ 0 → (p < s.n) × ((s.n ≤ 16) × (s.n ≤ len))
     unfolding station_number
     below e =
@@ -84,24 +94,24 @@ module _ (s : Station) (list : List StationProcess) (len p : ℕ) (o : Order) (n
         let none : (i : ℕ) → (get_or rows i no_row).holds ≡ false = none_holds rows refl e in
         (leb-false s.n p (none 5), ((inside 1 16 s.n (none 0)).1, ltb-false len s.n (or_false (ltb (length ws) (station_words s.n s.w s.r)) (ltb len s.n) (none 3)).1))
 
-    pub accepted : number_of out.reply ≡ 0 → Accepted s len out
-    accepted e = go number refl
+    pub accepted : (out : Outcome) (ws' : List ℕ) → ◌≡◌ {A = Decided} (Ok out, ws') (station_decided s list len p o named v ws) → Accepted s len out
+    accepted out ws' e = go number refl
       where
         go : (k : ℕ) → number ≡ k → Accepted s len out
         go zero z =
-            let b = below z in let o' = sym (ap (λ (x : Outcome × List ℕ). x.0) (obeyed_law s list len p o named v ws _ z refl)) in
+            let b = below z in let o' = e ∙ sym (obeyed_law s list len p o named v ws _ z refl) in
             record {
-              place = subst (λ (i : ℕ). i < s.n) (sym (ap (λ (x : Outcome). x.at) o')) b.0;
+              place = subst (λ (i : ℕ). i < s.n) (sym (ap (λ (x : Decided). place_in x.0) o')) b.0;
               most = b.1.0;
               lent = b.1.1;
-              n_stays = ap (λ (x : Outcome). x.station.n) o';
+              n_stays = ap (λ (x : Decided). n_in x.0) o';
             }
         go (suc k) z =
-            let r = ap (λ (x : Outcome × List ℕ). number_of x.0.reply) (refused_law s list len p o named v ws number refl (λ y. omega (arith, y, z))) in
-            absurd (omega (arith, r, e, z))
+            let r = ap (λ (x : Decided). refused_in x.0) (e ∙ sym (refused_law s list len p o named v ws number refl (λ y. omega (arith, y, z)))) in
+            absurd (omega (arith, r))
 
 -- what the code brings is the record's command
-pub record_decided : (s : Station) (all : List StationProcess) (len : ℕ) (r : BoardRecord) (ws : List ℕ) {k w : ℕ} {o : Order} {v : List ℕ} {out : Outcome × List ℕ}
+pub record_decided : (s : Station) (all : List StationProcess) (len : ℕ) (r : BoardRecord) (ws : List ℕ) {k w : ℕ} {o : Order} {v : List ℕ} {out : Decided}
     → k ≡ r.value → w ≡ at_most64 s.w → o ≡ order_of r.order → v ≡ take w (replicate 64 k) → w ≤ 64
     → out ≡ station_decided s all len r.process o 0 v ws → out ≡ decided s all len r ws
 unfolding decided
@@ -119,10 +129,7 @@ at_most w = go (ltb 64 w) refl
     go false e = omega (arith, ltb-false 64 w e)
 
 -- the place of an accepted command's process record
-pub accepted_place : (s : Station) (all : List StationProcess) (len : ℕ) (r : BoardRecord) (ws : List ℕ) (out : Outcome) (ws' : List ℕ) → (out, ws') ≡ decided s all len r ws
-    → (k : ℕ) → k ≡ number_of out.reply → k ≡ 0 → Accepted s len out
+pub accepted_place : (s : Station) (all : List StationProcess) (len : ℕ) (r : BoardRecord) (ws : List ℕ) (out : Outcome) (ws' : List ℕ)
+    → ◌≡◌ {A = Decided} (Ok out, ws') (decided s all len r ws) → Accepted s len out
 unfolding decided
-accepted_place s all len r ws out ws' e k n z =
-    let same : out ≡ (decided s all len r ws).0 = ap (λ (x : Outcome × List ℕ). x.0) e in
-    subst (Accepted s len) (sym same)
-    (accepted s all len r.process (order_of r.order) 0 (replicate s.w r.value) ws (ap (λ (x : Outcome). number_of x.reply) (sym same) ∙ sym n ∙ z))
+accepted_place s all len r ws out ws' e = accepted s all len r.process (order_of r.order) 0 (replicate s.w r.value) ws out ws' e

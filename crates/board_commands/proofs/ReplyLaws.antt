@@ -1,10 +1,11 @@
--- A reply has the number of the first row that holds: an order that is obeyed is not answered with a refusal.
+-- An order that is obeyed is not answered with a refusal, and a refusal has a number.
 use mathlib.Core.Path.{◌≡◌, refl, sym, ap, ◌∙◌}
 use mathlib.Core.Bool.{Bool, true, false, cond}
 use mathlib.Core.List.{List}
 use Prim.Native.Nat.{ℕ, zero, suc, ◌+◌}
 use native.Mathlib.Omega.{arith}
 use lib.Dec.{ltb}
+use Rattle.std.specs.Prelude.{Result, Ok, Err}
 use lib.ListN.{length}
 use Rattle.llsc.specs.declared.ProcessNumber.{ProcessNumber}
 use Rattle.llsc.specs.declared.Order.{Order}
@@ -22,8 +23,14 @@ use Rattle.station.specs.declared.Station.{Station}
 use Rattle.station.specs.declared.StationProcess.{StationProcess}
 use Rattle.station_rows.specs.StationCommandRows.{station_number}
 use Rattle.station_machine.specs.declared.Outcome.{Outcome}
-use Rattle.station_machine.specs.StationDecision.{refused_outcome, station_decided}
+use Rattle.station_machine.specs.StationDecision.{Decided, station_decided}
 use Rattle.station_machine.proofs.StationObeyLaws.{refused_law, obeyed_law}
+use Rattle.board_commands.proofs.CommandLaws.{refused_in}
+
+-- the number that is told
+abbrev told_in : Result Outcome ℕ → ℕ
+told_in (Ok out) = number_of out.reply
+told_in (Err k) = k
 
 module _ (l : Layout) (p : ProcessNumber) (b : Bench) (q : Process) (ws : List ℕ) where
   last_half : (t : Bool) → number_of (cond t Accepted (LlAnswered (q.count + 1))) ≡ 0
@@ -65,19 +72,26 @@ module _ (s : Station) (list : List StationProcess) (len p : ℕ) (o : Order) (n
   abbrev number : ℕ
   number = station_number s list len p o named (length value) (length words)
 
-  abbrev out : Outcome × List ℕ
-  out = station_decided s list len p o named value words
-
-  pub reply_number : number_of out.0.reply ≡ number
-  reply_number = go number refl
+  -- an order that is obeyed is answered with no refusal,
+  pub obeyed_number : (out : Outcome) (ws' : List ℕ) → ◌≡◌ {A = Decided} (Ok out, ws') (station_decided s list len p o named value words) → number_of out.reply ≡ 0
+  obeyed_number out ws' h = go number refl
     where
-      go : (k : ℕ) → number ≡ k → number_of out.0.reply ≡ number
+      go : (k : ℕ) → number ≡ k → number_of out.reply ≡ 0
       go zero e =
-          ap (λ (x : Outcome × List ℕ). number_of x.0.reply) (sym (obeyed_law s list len p o named value words _ e refl))
-          ∙ obeyed_replies _ _ _ _ words o value ∙ sym e
+          ap (λ (x : Decided). told_in x.0) (h ∙ sym (obeyed_law s list len p o named value words _ e refl))
+          ∙ obeyed_replies _ _ _ _ words o value
       go (suc k) e =
-          ap (λ (x : Outcome × List ℕ). number_of x.0.reply) (sym (refused_law s list len p o named value words number refl (λ z. omega (arith, z, e))))
+          let r = ap (λ (x : Decided). refused_in x.0) (h ∙ sym (refused_law s list len p o named value words number refl (λ z. omega (arith, z, e)))) in
+          absurd (omega (arith, r))
 
-  -- and a refusal changes nothing
-  pub refusal_stays : (number_of out.0.reply ≡ 0 → ⊥) → out ≡ (refused_outcome s len (number_of out.0.reply), words)
-  refusal_stays h = sym (refused_law s list len p o named value words (number_of out.0.reply) reply_number h)
+  -- and a refusal has a number
+  pub refused_number : (k : ℕ) (ws' : List ℕ) → ◌≡◌ {A = Decided} (Err k, ws') (station_decided s list len p o named value words) → k ≡ 0 → ⊥
+  refused_number k ws' h = go number refl
+    where
+      go : (i : ℕ) → number ≡ i → k ≡ 0 → ⊥
+      go zero e y =
+          let r = ap (λ (x : Decided). refused_in x.0) (h ∙ sym (obeyed_law s list len p o named value words _ e refl)) in
+          omega (arith, r)
+      go (suc i) e y =
+          let r = ap (λ (x : Decided). told_in x.0) (h ∙ sym (refused_law s list len p o named value words number refl (λ z. omega (arith, z, e)))) in
+          omega (arith, r, e, y)

@@ -7,9 +7,10 @@ use native.Mathlib.Decide.{dec_lt}
 use native.Mathlib.Nat.{not-suc-le-zero}
 use native.Mathlib.Omega.{arith}
 use lib.Dec.{eqb}
+use Rattle.std.specs.Prelude.{Ok, Err}
 use lib.ListN.{length, get_or, set, replicate, length-set}
-use lib.Seq.{set_out, get_or-set_same, get_or-set_other, ext_get_or}
-use borrow.Author.Tests.{eqb-true, eqb-false}
+use lib.Seq.{get_or-set_same, get_or-set_other, ext_get_or}
+use borrow.Author.Tests.{eqb-true, eqb-false, eq-eqb, ne_eqb}
 use Rattle.model.specs.declared.Reply.{Reply}
 use Rattle.model.specs.Replies.{number_of}
 use Rattle.boards.specs.Files.{BoardRecord, decode, file_number}
@@ -22,14 +23,14 @@ use Rattle.lent.specs.Gathered.{gathered, stored}
 use Rattle.station_records.specs.Gathered.{processes_stored}
 use Rattle.lent.proofs.GatheredLaws.{gathered_length, gathered_here}
 use Rattle.station_machine.specs.declared.Outcome.{Outcome}
-use Rattle.station_machine.specs.StationDecision.{stored_back}
+use Rattle.station_machine.specs.StationDecision.{Decided, stored_back}
 use Rattle.station_machine.proofs.StationDecisionLaws.{decision_law}
 use Rattle.board_commands.specs.declared.FileRun.{FileRun}
 use Rattle.board_commands.specs.declared.RunLeft.{RunLeft}
 use Rattle.board_commands.specs.BoardRun.{order_of, command_of, run_records, run_file}
-use Rattle.board_commands.specs.ByValue.{decided, left_with, processes_after, records_run, file_run, stored_run}
+use Rattle.board_commands.specs.ByValue.{decided, left_with, processes_after, after_one, records_run, file_run, stored_run}
 use Rattle.board_commands.proofs.CommandLaws.{Accepted, accepted_place}
-use Rattle.board_commands.proofs.ReplyLaws.{refusal_stays}
+use Rattle.board_commands.proofs.ReplyLaws.{obeyed_number, refused_number}
 
 abbrev e : StationProcess
 e = empty_process
@@ -106,42 +107,41 @@ module _ (lent : List StationProcess) (r : BoardRecord) (s : Station) (ps : List
   abbrev all : List StationProcess
   all = gathered ps e 16
 
-  abbrev out : Outcome × List ℕ
+  abbrev out : Decided
   out = decided s all (length ps) r ws
 
   abbrev made : Reply × StationMemory
   made = station_command (station_memory s ps ws) (command_of s.w r)
 
-  as_command : stored_back ps out ≡ made
+  as_command : (d : Decided) → d ≡ out → stored_back s ps d ≡ made
   unfolding decided
-  as_command = decision_law s ps ws r.process (order_of r.order) 0 (replicate s.w r.value)
+  as_command d h = ap (stored_back s ps) h ∙ decision_law s ps ws r.process (order_of r.order) 0 (replicate s.w r.value)
 
-  abbrev after : List StationProcess
-  after = set ps out.0.at out.0.process
+  replied : (o : Outcome) (ws' : List ℕ) → ◌≡◌ {A = Decided} (Ok o, ws') out → number_of o.reply ≡ 0
+  unfolding decided
+  replied o ws' h = obeyed_number s all (length ps) r.process (order_of r.order) 0 (replicate s.w r.value) ws o ws' h
 
-  module _ (z : number_of out.0.reply ≡ 0) where
-    ok : Accepted s (length ps) out.0
-    ok = accepted_place s all (length ps) r ws out.0 out.1 refl _ refl z
+  numbered_row : (k : ℕ) (ws' : List ℕ) → ◌≡◌ {A = Decided} (Err k, ws') out → k ≡ 0 → ⊥
+  unfolding decided
+  numbered_row k ws' h = refused_number s all (length ps) r.process (order_of r.order) 0 (replicate s.w r.value) ws k ws' h
 
-    gathered_after : processes_after all out.0 ≡ gathered after e 16
-    gathered_after = let a = ok in set_gathered ps out.0.at out.0.process (omega (arith, a.place, a.most)) (omega (arith, a.place, a.lent))
+  module _ (o : Outcome) (ws' : List ℕ) (h : ◌≡◌ {A = Decided} (Ok o, ws') out) where
+    abbrev after : List StationProcess
+    after = set ps o.at o.process
 
-    kept_after : (done : ℕ) → Kept s.n done lent ps → Kept out.0.station.n (suc done) lent after
+    ok : Accepted s (length ps) o
+    ok = accepted_place s all (length ps) r ws o ws' h
+
+    gathered_after : processes_after all o ≡ gathered after e 16
+    gathered_after = let a = ok in set_gathered ps o.at o.process (omega (arith, a.place, a.most)) (omega (arith, a.place, a.lent))
+
+    kept_after : (done : ℕ) → Kept s.n done lent ps → Kept o.station.n (suc done) lent after
     kept_after done k = let a = ok in record {
-      long = length-set ps out.0.at out.0.process ∙ k.long;
-      others = λ j h. get_or-set_other ps out.0.at j out.0.process e (λ i. omega (arith, i, h, a.place, a.n_stays)) ∙ k.others j (omega (arith, h, a.n_stays));
+      long = length-set ps o.at o.process ∙ k.long;
+      others = λ j h. get_or-set_other ps o.at j o.process e (λ i. omega (arith, i, h, a.place, a.n_stays)) ∙ k.others j (omega (arith, h, a.n_stays));
       none_done = λ i. absurd (omega (arith, i));
       some_done = λ i. omega (arith, a.most, a.n_stays);
     }
-
-  refused_as : (number_of out.0.reply ≡ 0 → ⊥) → (out.1 ≡ ws) × (made.1 ≡ station_memory s ps ws)
-  unfolding decided
-  refused_as h =
-      let same = refusal_stays s all (length ps) r.process (order_of r.order) 0 (replicate s.w r.value) ws h in
-      let stays : set ps (length ps) empty_process ≡ ps = set_out ps (length ps) empty_process (omega arith) in (
-        ap (λ (x : Outcome × List ℕ). x.1) same,
-        ap (λ (x : Reply × StationMemory). x.1) (sym as_command ∙ ap (stored_back ps) same) ∙ ap (λ (l : List StationProcess). station_memory s l ws) stays,
-      )
 
 -- a run that ends here
 end_stored : (lent : List StationProcess) (number done : ℕ) (s : Station) (ps : List StationProcess) (ws : List ℕ) → Kept s.n done lent ps
@@ -151,47 +151,37 @@ end_stored lent number done s ps ws k =
 
 -- a record, and the rest after it
 module _ (lent : List StationProcess) (r : BoardRecord) (rs : List BoardRecord) (done : ℕ) (s : Station) (ps : List StationProcess) (ws : List ℕ) where
-  abbrev o : Outcome × List ℕ
-  o = out lent r s ps ws
-
   abbrev m : Reply × StationMemory
   m = made lent r s ps ws
 
-  abbrev number : ℕ
-  number = number_of o.0.reply
+  abbrev by_value : Decided → RunLeft × List ℕ
+  by_value d =
+      after_one d (λ o ws'. records_run (suc done) rs o.station (processes_after (gathered ps e 16) o) (length ps) ws')
+      (λ k ws'. (left_with s (gathered ps e 16) k done, ws'))
 
-  abbrev by_value : Bool → RunLeft × List ℕ
-  by_value t =
-      cond t (records_run (suc done) rs o.0.station (processes_after (gathered ps e 16) o.0) (length ps) o.1)
-      (left_with s (gathered ps e 16) number done, o.1)
-
-  abbrev said : ℕ → Bool → FileRun × StationMemory
-  said k t = cond t (run_records (suc done) rs m.1) (record { number = k; done = done }, m.1)
+  abbrev said : Reply × StationMemory → FileRun × StationMemory
+  said x = cond (eqb (number_of x.0) 0) (run_records (suc done) rs x.1) (record { number = number_of x.0; done = done }, x.1)
 
   -- that the rest is run as it should be
-  abbrev Rest : Type 0
-  Rest =
-      let here = after lent r s ps ws in
-      Kept o.0.station.n (suc done) lent here
-      → stored_run lent (records_run (suc done) rs o.0.station (gathered here e 16) (length here) o.1) ≡ run_records (suc done) rs (station_memory o.0.station here o.1)
+  abbrev Rest : Outcome → List ℕ → Type 0
+  Rest o ws' =
+      let here = set ps o.at o.process in
+      Kept o.station.n (suc done) lent here
+      → stored_run lent (records_run (suc done) rs o.station (gathered here e 16) (length here) ws') ≡ run_records (suc done) rs (station_memory o.station here ws')
 
-  either_way : Kept s.n done lent ps → Rest → (t : Bool) → eqb number 0 ≡ t → stored_run lent (by_value t) ≡ said number t
-  either_way k rest true z =
-      let n = eqb-true number 0 z in
-      let as_long : length (after lent r s ps ws) ≡ length ps = length-set ps o.0.at o.0.process in
-      ap₂ (λ (x : List StationProcess) (i : ℕ). stored_run lent (records_run (suc done) rs o.0.station x i o.1)) (gathered_after lent r s ps ws n) (sym as_long)
-      ∙ rest (kept_after lent r s ps ws n done k)
-      ∙ ap (λ (x : Reply × StationMemory). run_records (suc done) rs x.1) (as_command lent r s ps ws)
-  either_way k rest false z =
-      let stays = refused_as lent r s ps ws (eqb-false number 0 z) in
-      ap (λ (l : List ℕ). stored_run lent (left_with s (gathered ps e 16) number done, l)) stays.0
-      ∙ end_stored lent number done s ps ws k
-      ∙ ap (λ (x : StationMemory). (record { number = number; done = done }, x)) (sym stays.1)
-
-  one_record_lem : Kept s.n done lent ps → Rest → stored_run lent (by_value (eqb number 0)) ≡ said (number_of m.0) (eqb (number_of m.0) 0)
-  one_record_lem k rest =
-      either_way k rest (eqb number 0) refl
-      ∙ ap (λ (x : Reply × StationMemory). said (number_of x.0) (eqb (number_of x.0) 0)) (as_command lent r s ps ws)
+  one_record_lem : Kept s.n done lent ps → ((o : Outcome) (ws' : List ℕ) → Rest o ws') → (d : Decided) → d ≡ out lent r s ps ws → stored_run lent (by_value d) ≡ said m
+  one_record_lem k rest (Ok o, ws') h =
+      let as_long : length (set ps o.at o.process) ≡ length ps = length-set ps o.at o.process in
+      let x : Reply × StationMemory = stored_back s ps (Ok o, ws') in
+      ap₂ (λ (l : List StationProcess) (i : ℕ). stored_run lent (records_run (suc done) rs o.station l i ws')) (gathered_after lent r s ps ws o ws' h) (sym as_long)
+      ∙ rest o ws' (kept_after lent r s ps ws o ws' h done k)
+      ∙ ap (λ (t : Bool). cond t (run_records (suc done) rs x.1) (record { number = number_of x.0; done = done }, x.1)) (sym (eq-eqb (number_of o.reply) 0 (replied lent r s ps ws o ws' h)))
+      ∙ ap said (as_command lent r s ps ws (Ok o, ws') h)
+  one_record_lem k rest (Err number, ws') h =
+      let x : Reply × StationMemory = stored_back s ps (Err number, ws') in
+      end_stored lent number done s ps ws' k
+      ∙ ap (λ (t : Bool). cond t (run_records (suc done) rs x.1) (record { number = number; done = done }, x.1)) (sym (ne_eqb number 0 (numbered_row lent r s ps ws number ws' h)))
+      ∙ ap said (as_command lent r s ps ws (Err number, ws') h)
 
 stored_records : (lent : List StationProcess) (rs : List BoardRecord) (done : ℕ) (s : Station) (ps : List StationProcess) (ws : List ℕ) → Kept s.n done lent ps
     → stored_run lent (records_run done rs s (gathered ps e 16) (length ps) ws) ≡ run_records done rs (station_memory s ps ws)
@@ -199,7 +189,8 @@ unfolding records_run run_records
 stored_records lent [] done s ps ws k = end_stored lent 0 done s ps ws k
 stored_records lent (r ∷ rs) done s ps ws k =
     one_record_lem lent r rs done s ps ws k
-    (stored_records lent rs (suc done) (o lent r rs done s ps ws).0.station (after lent r s ps ws) (o lent r rs done s ps ws).1)
+    (λ o ws'. stored_records lent rs (suc done) o.station (set ps o.at o.process) ws')
+    (out lent r s ps ws) refl
 
 pub stored_file : (file : List ℕ) (s : Station) (ps : List StationProcess) (ws : List ℕ)
     → stored_run ps (file_run file s (gathered ps empty_process 16) (length ps) ws) ≡ run_file file (station_memory s ps ws)

@@ -1,15 +1,14 @@
 -- The run by value: `all` holds the first sixteen lent process records, with a filler where there are fewer, `len` is how
 -- many were lent.
 -- Inner: `StoredRun` proves that this, stored back, is `run_file`.
-use Rattle.std.specs.Prelude.{ℕ, suc, List, [], ◌∷◌, cond, eqb, ltb, replicate, set}
-use Rattle.model.specs.Replies.{number_of}
+use Rattle.std.specs.Prelude.{ℕ, suc, List, [], ◌∷◌, Ok, Err, cond, eqb, ltb, replicate, set}
 use Rattle.boards.specs.Files.{BoardRecord, decode, file_number}
 use Rattle.station.specs.declared.Station.{Station}
 use Rattle.station.specs.declared.StationProcess.{StationProcess}
 use Rattle.station.specs.Station.{StationMemory, station_memory}
 use Rattle.station_records.specs.Gathered.{processes_stored}
 use Rattle.station_machine.specs.declared.Outcome.{Outcome}
-use Rattle.station_machine.specs.StationDecision.{station_decided}
+use Rattle.station_machine.specs.StationDecision.{Decided, station_decided}
 use Rattle.board_commands.specs.declared.FileRun.{FileRun}
 use Rattle.board_commands.specs.declared.RunLeft.{RunLeft}
 use Rattle.board_commands.specs.BoardRun.{order_of}
@@ -19,7 +18,7 @@ abbrev pub at_most64 : ℕ → ℕ
 at_most64 w = cond (ltb 64 w) 64 w
 
 -- what a record's command comes to
-unfoldable pub decided : Station → List StationProcess → ℕ → BoardRecord → List ℕ → Outcome × List ℕ
+unfoldable pub decided : Station → List StationProcess → ℕ → BoardRecord → List ℕ → Decided
 decided s all len r ws =
     station_decided s all len r.process (order_of r.order) 0 (replicate s.w r.value) ws
 
@@ -35,15 +34,18 @@ stored_of left = cond (eqb left.ran.done 0) 0 left.station.n
 abbrev pub processes_after : List StationProcess → Outcome → List StationProcess
 processes_after all out = set all out.at out.process
 
+-- what comes after a command: one thing where it was obeyed, another where it was refused
+abbrev pub after_one : {A : Type 0} → Decided → (Outcome → List ℕ → A) → (ℕ → List ℕ → A) → A
+after_one (Ok out, ws) obeyed refused = obeyed out ws
+after_one (Err number, ws) obeyed refused = refused number ws
+
 -- the records that are left, after so many commands done
 unfoldable pub records_run : ℕ → List BoardRecord → Station → List StationProcess → ℕ → List ℕ → RunLeft × List ℕ
 records_run done [] s all len ws = (left_with s all 0 done, ws)
 records_run done (r ∷ rs) s all len ws =
-    let out : Outcome × List ℕ = decided s all len r ws in
-    let number : ℕ = number_of out.0.reply in
-    cond (eqb number 0)
-    (records_run (suc done) rs out.0.station (processes_after all out.0) len out.1)
-    (left_with s all number done, out.1)
+    after_one (decided s all len r ws)
+    (λ out ws'. records_run (suc done) rs out.station (processes_after all out) len ws')
+    (λ number ws'. (left_with s all number done, ws'))
 
 unfoldable pub file_run : List ℕ → Station → List StationProcess → ℕ → List ℕ → RunLeft × List ℕ
 file_run file s all len ws =

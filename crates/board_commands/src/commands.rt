@@ -1,13 +1,16 @@
 // A record of a trace file as a command on record 0 of a station.
 ghost use Rattle.std.specs.Prelude.{◌≡◌};
 ghost use Rattle.boards.specs.Files.{record_of};
+ghost use Rattle.station_machine.specs.StationDecision.{numbered};
 ghost use Rattle.board_commands.specs.BoardRun.{order_of};
 ghost use Rattle.board_commands.specs.ByValue.{decided};
 
 use boards::records::{self, Record};
 use llsc::Order;
-use station::{Station, StationProcess};
+use llsc::refusals::Refusal;
 use station_machine::Outcome;
+use station_records::gathered::Gathered;
+use station_rows::commands::Command;
 use text_runs::lists::repeated;
 
 // CR 12: "order (1: 0 step, 1 LL, 2 SC, 3 VL)".
@@ -24,20 +27,19 @@ fn order_of(byte: u8) -> Order
 }
 
 // The command of a record.
-pub fn decide(
-    station: Station,
-    all: [StationProcess; 16],
-    len: usize,
-    bytes: &Record,
-    words: &mut [u64],
-) -> Outcome
-    ensures { (result, words.new)
-        ≡ decided station all len (record_of bytes.now) words.old }
+pub fn decide(lent: Gathered, bytes: &Record, words: &mut [u64]) -> Result<Outcome, Refusal>
+    ensures { (numbered result, words.new)
+        ≡ decided lent.station lent.all lent.len (record_of bytes.now) words.old }
 {
     let value = repeated(records::value(bytes) as u64);
     let p = records::process(bytes) as usize;
     let order = order_of(records::order(bytes));
     // Where W is over 64 a command is refused before its value's words are counted.
-    let w = station.w.min(64);
-    station_machine::decide(station, all, len, p, order, 0, &value[..w], words)
+    let w = lent.station.w.min(64);
+    let command = Command {
+        process: p,
+        order,
+        named: 0,
+    };
+    station_machine::decide(lent, command, &value[..w], words)
 }

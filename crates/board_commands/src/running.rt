@@ -8,6 +8,7 @@ use crate::{FileRun, RunLeft};
 use board_rows::right_records;
 use boards::records::Record;
 use station::{Station, StationProcess};
+use station_records::gathered::Gathered;
 
 // A run that ends here.
 fn left_with(station: Station, all: [StationProcess; 16], number: u8, done: usize) -> RunLeft
@@ -17,24 +18,28 @@ fn left_with(station: Station, all: [StationProcess; 16], number: u8, done: usiz
     RunLeft { station, all, ran }
 }
 
-fn run_records(
-    mut station: Station,
-    mut all: [StationProcess; 16],
-    len: usize,
-    records: &[Record],
-    words: &mut [u64],
-) -> RunLeft
+fn run_records(lent: Gathered, records: &[Record], words: &mut [u64]) -> RunLeft
     ensures { (result, words.new)
-        ≡ records_run 0 (read records.now) station all len words.old }
+        ≡ records_run 0 (read records.now) lent.station lent.all lent.len words.old }
 {
+    let Gathered {
+        mut station,
+        mut all,
+        ..
+    } = lent;
     for (done, bytes) in records.iter().enumerate() {
-        let out = decide(station, all, len, bytes, words);
-        let number = model::number_of(out.reply);
-        if number != 0 {
-            return left_with(station, all, number, done);
+        let here = Gathered {
+            station,
+            all,
+            ..lent
+        };
+        match decide(here, bytes, words) {
+            Ok(out) => {
+                station = out.station;
+                all[out.at] = out.process;
+            }
+            Err(refusal) => return left_with(station, all, refusal.number(), done),
         }
-        station = out.station;
-        all[out.at] = out.process;
     }
     left_with(station, all, 0, records.len())
 }
@@ -42,18 +47,12 @@ fn run_records(
 // The whole run: what it returns, the station and the process records after it, and the lent words are those of
 // `file_run`.
 // Ruled out: a refused command counted as done, the value in word 0 alone, a start on another record than 0.
-pub fn run_by_value(
-    station: Station,
-    all: [StationProcess; 16],
-    len: usize,
-    file: &[u8],
-    words: &mut [u64],
-) -> RunLeft
+pub fn run_by_value(lent: Gathered, file: &[u8], words: &mut [u64]) -> RunLeft
     ensures { (result, words.new)
-        ≡ file_run file.now station all len words.old }
+        ≡ file_run file.now lent.station lent.all lent.len words.old }
 {
     match right_records(file) {
-        Ok(records) => run_records(station, all, len, records, words),
-        Err(refusal) => left_with(station, all, refusal.number(), 0),
+        Ok(records) => run_records(lent, records, words),
+        Err(refusal) => left_with(lent.station, lent.all, refusal.number(), 0),
     }
 }

@@ -8,6 +8,7 @@ ghost use Rattle.board_commands.specs.BoardRun.{run_file};
 
 use board_commands::{FileRun, running};
 use station::{Station, StationProcess};
+use station_records::gathered::gather;
 
 // A file, any bytes, is run on record 0 of any lent memory, up to the first refusal. What it returns and all lent
 // memory after it are those of `run_file`.
@@ -23,9 +24,7 @@ pub fn run_file(
         ≡ run_file file.now
         (station_memory station.old processes.old words.old) }
 {
-    let len = processes.len();
-    let all = lent::gather(processes, station::empty_process());
-    let out = running::run_by_value(*station, all, len, file, words);
+    let out = running::run_by_value(gather(*station, processes), file, words);
     *station = out.station;
     lent::store_back(processes, &out.all, station::empty_process(), out.stored());
     out.ran

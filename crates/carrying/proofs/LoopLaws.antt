@@ -31,6 +31,7 @@ use Rattle.notation.specs.declared.Entry.TheVariants.{StartLl, StartVl, StartSc,
 use Rattle.notation.specs.Grammar.{largest}
 use Rattle.notation.specs.EntryWords.{entry_in, entry_of_kind, kind_in, process_in, number_in}
 use Rattle.entry.specs.declared.state.Run.{Run}
+use Rattle.listing.specs.declared.Writer.{Writer}
 use Rattle.entry.specs.declared.turn.Turn.{Turn}
 use Rattle.text_runs.specs.TextRun.{room_needed, process_of, order_of}
 use Rattle.semantics.specs.TextRun.{single}
@@ -99,6 +100,11 @@ pub record Head (count : ℕ) (entries : List ℕ) (len n w needed : ℕ) (h : R
 pub from_run : {len : ℕ} {r : Run} {ws list : List ℕ} {es : List Entry} {h : RunState} {at : ℕ} → r.stop ≡ 0
     → Carries len es (state_of (going_run r.bench r.all r.written r.entries r.traced) ws list) h at → Carries len es (state_of r ws list) h at
 from_run {len} {r} {ws} {list} {es} {h} {at} z x = subst (λ (k : ℕ). Carries len es (state_of (stopped_run r k) ws list) h at) (sym z) x
+
+-- the bytes after the loop are those that the writer had
+pub in_list : {len : ℕ} {r : Run} {ws l l' : List ℕ} {es : List Entry} {h : RunState} {at : ℕ} → l' ≡ l
+    → Carries len es h (state_of r ws l) at → Carries len es h (state_of r ws l') at
+in_list {len} {r} {ws} {es = es} {h = h} {at = at} e x = subst (λ (k : List ℕ). Carries len es h (state_of r ws k) at) (sym e) x
 
 pub first_head : {len count n w needed : ℕ} {entries : List ℕ} {r : Run} {ws list : List ℕ} → let h = state_of (going_run r.bench r.all r.written r.entries r.traced) ws list in
     count ≤ length entries → Sound len (state_of r ws list) → r.stop ≡ 0 → n ≡ r.bench.n → w ≡ r.bench.w
@@ -211,11 +217,15 @@ module _ {count : ℕ} {entries : List ℕ} {len n w needed at p : ℕ} {k : Pro
       loop_help = rw at_help (help_index_small ready (point_of own.line))
 
       module _ {places : Taken} (et : places ≡ taken_at b i j) where
-        pub loop_turnable : Turnable h₁.run.traced (h₁.run.entries + 1) e n w places q h₁.words h₁.listing h₁.run.written
-        loop_turnable = rw (is_own, x.head.n_is, x.head.w_is) (entry_turnable e small s c.goes x.head.needed_is free at_bank at_help et)
+        -- to is where the lines go
+        abbrev goes_to : Writer → Type 0
+        goes_to to = (to.list.now ≡ h₁.listing) × (to.written ≡ h₁.run.written)
 
-        module _ {r : Turn} {ws lst : List ℕ} (turn : Turns h₁.run.traced (h₁.run.entries + 1) e n w places q h₁.words h₁.listing h₁.run.written r ws lst) where
-          turn_own : Turns h₁.run.traced (h₁.run.entries + 1) e b.n b.w places own h₁.words h₁.listing h₁.run.written r ws lst
+        pub loop_turnable : {to : Writer} → goes_to to → Turnable h₁.run.traced (h₁.run.entries + 1) e n w places q h₁.words to
+        loop_turnable g = rw (is_own, x.head.n_is, x.head.w_is) (entry_turnable e small s c.goes x.head.needed_is free at_bank at_help et g.0 g.1)
+
+        module _ {to to' : Writer} (g : goes_to to) {r : Turn} {ws : List ℕ} (turn : Turns h₁.run.traced (h₁.run.entries + 1) e n w places q h₁.words to r ws to') where
+          turn_own : Turns h₁.run.traced (h₁.run.entries + 1) e b.n b.w places own h₁.words to r ws to'
           turn_own = rw (is_own, x.head.n_is, x.head.w_is) at turn
 
           -- the run with one entry more, its record stored at a place
@@ -223,17 +233,17 @@ module _ {count : ℕ} {entries : List ℕ} {len n w needed at p : ℕ} {k : Pro
           after_at m = state_of (record {
             bench = put_taken b i j r.taken;
             all = record { list = set list m r.process };
-            written = r.written;
+            written = to'.written;
             entries = h₁.run.entries + 1;
             stop = 0;
             traced = h₁.run.traced;
-          }) ws lst
+          }) ws to'.list.now
 
           stored : (P : RunState → Type 0) → P (after_at (process_of e)) → P (after_at k.0)
           stored P x = subst (λ (m : ℕ). P (after_at m)) (sym own_place) x
 
           made : Becomes len (single (get_or es at (entry_in 0))) h₁ (after_at (process_of e))
-          made = this (entry_made e small s c.goes x.head.needed_is free at_bank at_help et turn_own)
+          made = this (entry_made e small s c.goes x.head.needed_is free at_bank at_help et g.0 g.1 turn_own)
 
           here : process_of (get_or es at (entry_in 0)) ≡ process_of e
           here = ap process_of (entry_at count at entries x.more ∙ sym x.entry_is)
@@ -241,7 +251,7 @@ module _ {count : ℕ} {entries : List ℕ} {len n w needed at p : ℕ} {k : Pro
           line : (record_at (take len (set list (process_of e) r.process)) (record { 0 = process_of (get_or es at (entry_in 0)) })).line ≡ r.process.line
           line =
               ap (λ (m : ℕ). (record_at (take len (set list (process_of e) r.process)) (record { 0 = m })).line) here
-              ∙ own_line e small s c.goes x.head.needed_is free at_bank at_help et turn_own
+              ∙ own_line e small s c.goes x.head.needed_is free at_bank at_help et g.0 g.1 turn_own
 
           same_stay : stays_at (get_or es at (entry_in 0)) r.process.line ≡ stays_at e r.process.line
           same_stay = ap (λ (d : Entry). stays_at d r.process.line) (entry_at count at entries x.more ∙ sym x.entry_is)

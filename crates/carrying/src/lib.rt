@@ -9,6 +9,7 @@ ghost use Rattle.carrying.specs.Carried.{Carries};
 
 use entry::state::Run;
 use entry::{entries, refusals, turn};
+use listing::Writer;
 use notation::entry_words;
 use text_runs::{entries as text_entries, limits};
 
@@ -38,7 +39,12 @@ pub fn carry_out(
     let needed = limits::room_needed(traced);
     let mut bench = run.bench;
     let mut all = run.all;
-    let mut written = run.written;
+    // Kept: how many bytes are written stands in the run and not in a writer of its own, since a Run is a value that
+    // several functions make, keep and return, and a writer is a borrow of the list.
+    let mut to = Writer {
+        list,
+        written: run.written,
+    };
     let mut done = run.entries;
     let mut stop = 0;
     let mut at = 0;
@@ -49,7 +55,7 @@ pub fn carry_out(
         let k = entries::process_number(p);
         let process = all.list[k.record_place()];
         let order = text_entries::order_of(e);
-        let room = list.len() - written;
+        let room = to.list.len() - to.written;
         if let Err(refusal) = refusals::refusal(order, done, room, needed, n, p, process) {
             stop = refusal.number();
             break;
@@ -60,7 +66,7 @@ pub fn carry_out(
         let help = bench.help[tables::help_place(j)];
         let places = taken::places(bench.x, bank, help);
         done += 1;
-        let turn = turn::carry(traced, done, e, n, w, places, process, words, list, written);
+        let turn = turn::carry(traced, done, e, n, w, places, process, words, &mut to);
         let put = turn.taken;
         let x = put.x;
         let bank = put.bank;
@@ -70,7 +76,6 @@ pub fn carry_out(
         bench.bank[tables::bank_place(i)] = bank;
         bench.help[tables::help_place(j)] = help;
         all.list[k.record_place()] = next;
-        written = turn.written;
         if entries::stays(e, next.line) {
             continue;
         }
@@ -79,7 +84,7 @@ pub fn carry_out(
     let run = Run {
         bench,
         all,
-        written,
+        written: to.written,
         entries: done,
         stop,
         traced,

@@ -63,10 +63,6 @@ stands s z j h = record {
   words = z.words;
 }
 
--- the areas lie among the same rows
-areas_laid : (s : StationMemory) → Sized s → Laid s.n (rows s) (layout_of s any_record)
-areas_laid s z = laid s.n s.r any_record z.r_some
-
 -- an item that there is
 pub record Present (s : StationMemory) (i : StationItem) : Type 0 where
   pub number : i.number.0 < s.r

@@ -3,7 +3,8 @@
 
 #![tactic(auto)]
 
-ghost use Rattle.std.specs.Prelude.{◌≡◌, ◌↔◌, length, take, OnOk, IsTrue};
+ghost use Rattle.std.specs.Prelude.{◌≡◌, ◌≢◌, ◌⊎◌, ◌↔◌, length, take, OnOk, IfErr, IsTrue};
+ghost use Rattle.std.specs.Process.{exit_status};
 ghost use Rattle.std.specs.IoError.{error_kind};
 ghost use Rattle.std.specs.Io.KnownBytes.{Appends, Consumes};
 ghost use Rattle.console.specs.Counts.{IsPrefixLen};
@@ -54,7 +55,12 @@ pub fn is_cut(lost: &io::Error) -> bool
 
 // The status of a program after its last words. A cut pipe would have ended it, were the signal not held back. Other
 // words that are lost stay without a word: there is no place left to say so.
-pub fn status(told: io::Result<()>) -> ExitCode {
+pub fn status(told: io::Result<()>) -> ExitCode
+    ensures cut { IfErr told (λ lost. error_kind lost ≡ ErrorKind.BrokenPipe → exit_status result ≡ 141) }
+    ensures lost { IfErr told (λ lost. error_kind lost ≢ ErrorKind.BrokenPipe → exit_status result ≡ 0) }
+    ensures told { OnOk told (exit_status result ≡ 0) }
+    ensures either { (exit_status result ≡ 0) ⊎ (exit_status result ≡ 141) }
+{
     match told {
         Err(lost) if is_cut(&lost) => ExitCode::from(CUT),
         _ => ExitCode::SUCCESS,

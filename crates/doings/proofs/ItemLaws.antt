@@ -226,12 +226,3 @@ module _ {l : Layout} {rows : ℕ} {b : Bench} {ws : List ℕ} (z : Stands l row
         → item_in l j (put_in_bench i h b) (put_in_words l b.w i h ws) ≡ item_in l j b ws
     item_other i j ki kj ne =
         bench_other b h l (put_in_words l b.w i h ws) i j ne ∙ words_other b.w l ws h b refl i j l (room i ki) (clear i j ki kj ne)
-
-    pub put_stands : (i : Item) → Stands l rows (put_in_bench i h b) (put_in_words l b.w i h ws)
-    put_stands i = record {
-      laid = subst (λ (n : ℕ). Laid n rows l) (sym (bench_n b h i)) z.laid;
-      bank = bench_bank b h i ∙ z.bank;
-      help = bench_help b h i ∙ z.help;
-      most = omega (arith, bench_n b h i, z.most);
-      words = omega (arith, ap (λ (w : ℕ). rows * w) (bench_w b h i), words_length b.w l ws h i, z.words);
-    }

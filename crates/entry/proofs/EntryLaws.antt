@@ -33,7 +33,8 @@ use Rattle.machine.proofs.ObeyLaws.{obeyable, refused_law, obeyed_law}
 use Rattle.steps.proofs.TakenLaws.{whole_order}
 use Rattle.notation.specs.declared.Entry.{Entry}
 use Rattle.notation.specs.declared.Entry.TheVariants.{StartLl, StartVl, StartSc, Step, Finish}
-use Rattle.listing.proofs.WritingLaws.{same}
+use Rattle.listing.specs.declared.Writer.{Writer}
+use Rattle.listing.proofs.WritingLaws.{wrote, same}
 use Rattle.entry.specs.declared.turn.Turn.{Turn}
 use Rattle.text_runs.specs.TextRun.{most_entries, room_needed, process_of, order_of, value_of}
 use Rattle.semantics.specs.TextRun.{trace_line, single}
@@ -184,32 +185,37 @@ module _ {len : ℕ} {h : RunState} (e : Entry) (small : Small e) (s : Sound len
             ap (λ (x : List ℕ). x ++ answer)
             (shown_same s z e moved.reply entry_ready.lent.process (h.run.entries + 1) ei ej et h.run.traced)
 
-        pub entry_turnable : Turnable h.run.traced (h.run.entries + 1) e b.n b.w t q h.words h.listing h.run.written
-        entry_turnable = record {
-          ready = entry_ready;
-          lent = words_lent e (obeyed_outcome moved p) out.1 small s going decides unrefused;
-          fits = omega (arith, ap length lines_same, lines_fit e (obeyed_outcome moved p) out.1 small s going decides unrefused);
-        }
+        -- to is where its lines go, behind what is written of the listing
+        module _ {to : Writer} (el : to.list.now ≡ h.listing) (ew : to.written ≡ h.run.written) where
+          pub entry_turnable : Turnable h.run.traced (h.run.entries + 1) e b.n b.w t q h.words to
+          entry_turnable =
+              let fits = lines_fit e (obeyed_outcome moved p) out.1 small s going decides unrefused in
+              record {
+                ready = entry_ready;
+                lent = words_lent e (obeyed_outcome moved p) out.1 small s going decides unrefused;
+                fits = record { fits = omega (arith, ap length lines_same, ap length el, ew, fits) };
+              }
 
-        -- one entry more
-        module _ {r : Turn} {ws lst : List ℕ} (turn : Turns h.run.traced (h.run.entries + 1) e b.n b.w t q h.words h.listing h.run.written r ws lst) where
-          abbrev after : RunState
-          after = state_of (record {
-            bench = put_taken b i j r.taken;
-            all = record { list = set list p r.process };
-            written = r.written;
-            entries = h.run.entries + 1;
-            stop = 0;
-            traced = h.run.traced;
-          }) ws lst
+          -- one entry more
+          module _ {r : Turn} {ws : List ℕ} {to' : Writer} (turn : Turns h.run.traced (h.run.entries + 1) e b.n b.w t q h.words to r ws to') where
+            abbrev after : RunState
+            after = state_of (record {
+              bench = put_taken b i j r.taken;
+              all = record { list = set list p r.process };
+              written = to'.written;
+              entries = h.run.entries + 1;
+              stop = 0;
+              traced = h.run.traced;
+            }) ws to'.list.now
 
-          pub entry_made : Becomes len (single e) h after
-          entry_made =
-              let a = turn.taken in let c = turn.process in let d = turn.words in
-              rw (a, c, d) (single_commanded e s z free.entries free.room_left
-              (answered_becomes e (obeyed_outcome moved p) out.1 small s going decides unrefused lst r.written (same (sym lines_same) turn.wrote)))
+            pub entry_made : Becomes len (single e) h after
+            entry_made =
+                let a = turn.taken in let c = turn.process in let d = turn.words in
+                let w = rw (el, ew) at (wrote turn.wrote) in
+                rw (a, c, d) (single_commanded e s z free.entries free.room_left
+                (answered_becomes e (obeyed_outcome moved p) out.1 small s going decides unrefused to'.list.now to'.written (same (sym lines_same) w)))
 
-          pub own_line : (record_at (progress len after).memory.records (record { 0 = p })).line ≡ r.process.line
-          own_line = ap (λ (x : Process). x.line)
-              (get_or-take len (set list p r.process) p no_process (omega (arith, entry_ready.lent.process, enough s z)) ∙
-              get_or-set_same list p r.process no_process (omega (arith, process_small, s.filled.sixteen)))
+            pub own_line : (record_at (progress len after).memory.records (record { 0 = p })).line ≡ r.process.line
+            own_line = ap (λ (x : Process). x.line)
+                (get_or-take len (set list p r.process) p no_process (omega (arith, entry_ready.lent.process, enough s z)) ∙
+                get_or-set_same list p r.process no_process (omega (arith, process_small, s.filled.sixteen)))

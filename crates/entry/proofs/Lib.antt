@@ -8,4 +8,3 @@ pub mod OrderLaws
 pub mod TraceLaws
 pub mod TurnLaws
 pub mod EntryLaws
-pub mod AnswerLaws

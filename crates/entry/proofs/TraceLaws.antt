@@ -28,8 +28,6 @@ use Rattle.machine.proofs.ObeyLaws.{obeyable}
 use Rattle.notation.specs.declared.Entry.{Entry}
 use Rattle.notation.specs.declared.Entry.TheVariants.{StartLl, StartVl, StartSc, Step, Finish}
 use Rattle.listing.specs.Lines.{letter_l, letter_s, letter_v}
-use Rattle.listing.specs.Writing.{Wrote}
-use Rattle.listing.proofs.WritingLaws.{none, same}
 use Rattle.access.specs.declared.Access.{Access}
 use Rattle.access.specs.Accesses.{access_of}
 use Rattle.access.proofs.AccessLaws.{access_seen_is}
@@ -54,14 +52,6 @@ entry_fits k a (Finish p) r h s x = step_length k p a (answers r) h s x
 -- all sixteen records that a run holds
 abbrev pub state_memory : RunState → Memory
 state_memory h = record { bench = h.run.bench; records = h.run.all.list; words = h.words }
-
--- a run that is not traced shows nothing
-pub shown_none : {l : List ℕ} {at : ℕ} (t : Bool) (bs : List ℕ) → not t ≡ true → Wrote l at (cond t bs []) l at
-shown_none t bs e = same (simp (not-true t e)) (none _ _)
-
--- a traced run shows the line of its entry
-pub shown_is : (t : Bool) (k : ℕ) (a : Access) {e e' : Entry} (r : Reply) → not t ≡ false → e ≡ e' → shown_line t k a e r ≡ entry_line k a e' r
-shown_is t k a {e} r n q = let x : shown_line t k a e r ≡ entry_line k a e r = simp (not-false t n) in x ∙ ap (λ (y : Entry). entry_line k a y r) q
 
 module _ {len : ℕ} {h : RunState} (s : Sound len h) (z : h.run.stop ≡ 0) where
   abbrev m : Memory

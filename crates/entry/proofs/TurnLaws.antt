@@ -11,14 +11,15 @@ use Rattle.taken.specs.declared.Taken.{Taken}
 use Rattle.taken.specs.declared.Stepped.{Stepped}
 use Rattle.steps.specs.Steps.{offered, obey_on}
 use Rattle.notation.specs.declared.Entry.{Entry}
-use Rattle.listing.specs.Writing.{Room, Wrote}
-use Rattle.listing.proofs.WritingLaws.{then, same, room_same, room_first, room_then}
+use Rattle.listing.specs.declared.Writer.{Writer}
+use Rattle.listing.specs.Writing.{Fits, Writes}
+use Rattle.listing.proofs.WritingLaws.{writes_then, writes_same, fits_same, fits_first, fits_then}
 use Rattle.access.specs.declared.Access.{Access}
 use Rattle.text_runs.specs.TextRun.{process_of, order_of, value_of}
 use Rattle.entry.specs.RunState.{answer_line, Listable, shown_line}
 use Rattle.entry.specs.Turned.{number_of, turned, access_seen, Turnable, Turns}
 
-module _ {traced : Bool} {k n w at : ℕ} {e : Entry} {t : Taken} {q : Process} {ws list : List ℕ} (f : Turnable traced k e n w t q ws list at) where
+module _ {traced : Bool} {k n w : ℕ} {e : Entry} {t : Taken} {q : Process} {ws : List ℕ} {to : Writer} (f : Turnable traced k e n w t q ws to) where
   abbrev out : Stepped × List ℕ
   out = turned e n w t q ws
 
@@ -30,9 +31,6 @@ module _ {traced : Bool} {k n w at : ℕ} {e : Entry} {t : Taken} {q : Process} 
 
   abbrev answer : List ℕ
   answer = answer_line n w out.1 (process_of e) out.0.reply
-
-  room : Room list at (shown ++ answer)
-  room = record { fits = f.fits }
 
   -- what the code has: process, order, access, the words offered, the order obeyed
   module _ {p : ℕ} {o : Order} {a : Access} {ws₁ ws₂ : List ℕ} {st : Stepped} (ep : p ≡ process_of e) (eo : o ≡ order_of e) (ea : a ≡ access_seen traced (record { 0 = p }) n w t q ws)
@@ -55,14 +53,14 @@ module _ {traced : Bool} {k n w at : ℕ} {e : Entry} {t : Taken} {q : Process} 
     same_answer : answer_line n w ws₂ p st.reply ≡ answer
     same_answer = rw (same_words_lem, same_stepped, ep)
 
-    pub shown_room : Room list at (shown_line traced k a e st.reply)
-    shown_room = room_same (sym same_shown) (room_first shown answer room)
+    pub shown_room : Fits to (shown_line traced k a e st.reply)
+    shown_room = fits_same (sym same_shown) (fits_first shown answer f.fits)
 
-    module _ {list₁ : List ℕ} {next : ℕ} (w₁ : Wrote list at (shown_line traced k a e st.reply) list₁ next) where
-      wrote_shown : Wrote list at shown list₁ next
-      wrote_shown = same (sym same_shown) w₁
+    module _ {to₁ : Writer} (w₁ : Writes to (shown_line traced k a e st.reply) to₁) where
+      wrote_shown : Writes to shown to₁
+      wrote_shown = writes_same (sym same_shown) w₁
 
-      pub answer_listable : Listable st.reply p n w ws₂ list₁ next
+      pub answer_listable : Listable st.reply p n w ws₂ to₁
       answer_listable =
           let l = f.ready.lent in
           record {
@@ -70,14 +68,14 @@ module _ {traced : Bool} {k n w at : ℕ} {e : Entry} {t : Taken} {q : Process} 
             n_most = l.n_most;
             w_most = l.w_most;
             lent = omega (arith, l.words, ap length same_words_lem, f.lent);
-            room = room_same (sym same_answer) (room_then answer room wrote_shown);
+            room = fits_same (sym same_answer) (fits_then answer f.fits wrote_shown);
           }
 
-      pub turn_made : {list₂ : List ℕ} {written : ℕ} → Wrote list₁ next (answer_line n w ws₂ p st.reply) list₂ written
-          → Turns traced k e n w t q ws list at (record { taken = st.taken; process = st.process; written = written }) ws₂ list₂
+      pub turn_made : {to₂ : Writer} → Writes to₁ (answer_line n w ws₂ p st.reply) to₂
+          → Turns traced k e n w t q ws to (record { taken = st.taken; process = st.process }) ws₂ to₂
       turn_made w₂ = record {
         taken = ap (λ (x : Stepped). x.taken) same_stepped;
         process = ap (λ (x : Stepped). x.process) same_stepped;
         words = same_words_lem;
-        wrote = then wrote_shown (same (sym same_answer) w₂);
+        wrote = writes_then wrote_shown (writes_same (sym same_answer) w₂);
       }

@@ -12,7 +12,8 @@ use Rattle.notation.specs.declared.Entry.{Entry}
 use Rattle.notation.specs.Grammar.{largest}
 use Rattle.notation.specs.Stretches as S
 use Rattle.listing.specs.Lines.{letter_s, letter_v, ll_line, truth_line}
-use Rattle.listing.specs.Writing.{Room}
+use Rattle.listing.specs.declared.Writer.{Writer}
+use Rattle.listing.specs.Writing.{Fits}
 use Rattle.access.specs.declared.Access.{Access}
 use Rattle.entry.specs.declared.state.Run.{Run}
 use Rattle.text_runs.specs.TextRun.{most_entries, room_needed}
@@ -96,12 +97,12 @@ answer_line n w ws p (ScAnswered t k) = truth_line p letter_s k t
 answer_line n w ws p (VlAnswered t k) = truth_line p letter_v k t
 
 -- the line can be written: its process is one of N, its words are lent, and there is room
-pub record Listable (r : Reply) (p n w : ℕ) (ws list : List ℕ) (at : ℕ) : Type 0 where
+pub record Listable (r : Reply) (p n w : ℕ) (ws : List ℕ) (to : Writer) : Type 0 where
   pub process : p < n
   pub n_most : n ≤ 16
   pub w_most : w ≤ 64
   pub lent : lent_words n w ≤ length ws
-  pub room : Room list at (answer_line n w ws p r)
+  pub room : Fits to (answer_line n w ws p r)
 
 -- the trace's line of an accepted entry, none in a run that is not traced
 abbrev pub shown_line : Bool → ℕ → Access → Entry → Reply → List ℕ

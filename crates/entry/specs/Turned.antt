@@ -13,7 +13,8 @@ use Rattle.steps.specs.Steps.{offered, obey_on}
 use Rattle.taken.specs.Ranges.{Ready}
 use Rattle.notation.specs.declared.Entry.{Entry}
 use Rattle.notation.specs.declared.Entry.TheVariants.{StartLl, StartVl, StartSc, Step, Finish}
-use Rattle.listing.specs.Writing.{Wrote}
+use Rattle.listing.specs.declared.Writer.{Writer}
+use Rattle.listing.specs.Writing.{Fits, Writes}
 use Rattle.access.specs.declared.Access.{Access}
 use Rattle.access.specs.AccessOn.{no_access, access_on}
 use Rattle.entry.specs.declared.turn.Turn.{Turn}
@@ -48,16 +49,16 @@ turn_lines traced k e n w t q ws =
     shown_line traced k (access_seen traced (number_of e) n w t q ws) e (turned e n w t q ws).0.reply ++ answer_line n w (turned e n w t q ws).1 (process_of e) (turned e n w t q ws).0.reply
 
 -- it can be carried out: its process and the words are in range, and its lines fit
-pub record Turnable (traced : Bool) (k : ℕ) (e : Entry) (n w : ℕ) (t : Taken) (q : Process) (ws list : List ℕ) (at : ℕ) : Type 0 where
+pub record Turnable (traced : Bool) (k : ℕ) (e : Entry) (n w : ℕ) (t : Taken) (q : Process) (ws : List ℕ) (to : Writer) : Type 0 where
   pub ready : Ready n w q (number_of e) ws
   pub lent : length (turned e n w t q ws).1 ≡ length ws
-  pub fits : at + length (turn_lines traced k e n w t q ws) ≤ length list
+  pub fits : Fits to (turn_lines traced k e n w t q ws)
 
-pub record Turns (traced : Bool) (k : ℕ) (e : Entry) (n w : ℕ) (t : Taken) (q : Process) (ws list : List ℕ) (at : ℕ) (r : Turn) (ws' list' : List ℕ) : Type 0 where
+pub record Turns (traced : Bool) (k : ℕ) (e : Entry) (n w : ℕ) (t : Taken) (q : Process) (ws : List ℕ) (to : Writer) (r : Turn) (ws' : List ℕ) (to' : Writer) : Type 0 where
   pub taken : r.taken ≡ (turned e n w t q ws).0.taken
   pub process : r.process ≡ (turned e n w t q ws).0.process
   pub words : ws' ≡ (turned e n w t q ws).1
-  pub wrote : Wrote list at (turn_lines traced k e n w t q ws) list' r.written
+  pub wrote : Writes to (turn_lines traced k e n w t q ws) to'
 
 -- "`!` is steps until the call answers": whether the entry is not over with a step that leaves its process at this line
 abbrev pub stays_at : Entry → ℕ → Bool

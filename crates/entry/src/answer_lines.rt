@@ -1,32 +1,24 @@
 // The listing's line for an answer (01, "The listing has a line for each answer").
-ghost use Rattle.listing.specs.Writing.{Wrote};
+ghost use Rattle.listing.specs.Writing.{Writes};
 ghost use Rattle.entry.specs.RunState.{answer_line, Listable};
 
+use listing::Writer;
 use llsc::ProcessNumber;
 use model::Reply;
 use words::word_places;
 
-// The line of a reply to process p, from a place of the listing on; none where there is no answer. It gives the place
-// after it.
-pub fn answer_line(
-    reply: Reply,
-    p: u64,
-    n: usize,
-    w: usize,
-    words: &[u64],
-    list: &mut [u8],
-    at: usize,
-) -> usize
-    requires { Listable reply p n w words.now list.old at }
-    ensures { Wrote list.old at (answer_line n w words.now p reply) list.new result }
+// The line of a reply to process p; none where there is no answer.
+pub fn answer_line(reply: Reply, p: u64, n: usize, w: usize, words: &[u64], to: &mut Writer<'_>)
+    requires { Listable reply p n w words.now to.old }
+    ensures { Writes to.old (answer_line n w words.now p reply) to.new }
 {
     match reply {
-        Reply::Refused(_) | Reply::Accepted => at,
+        Reply::Refused(_) | Reply::Accepted => {}
         Reply::LlAnswered(count) => {
             let from = word_places::return_word(n, w, ProcessNumber(p as u8), 0);
-            listing::ll_line(list, at, p, count as u64, words, from, w)
+            to.ll_line(p, count as u64, &words[from..][..w]);
         }
-        Reply::ScAnswered(t, count) => listing::truth_line(list, at, p, b'S', count as u64, t),
-        Reply::VlAnswered(t, count) => listing::truth_line(list, at, p, b'V', count as u64, t),
+        Reply::ScAnswered(t, count) => to.truth_line(p, b'S', count as u64, t),
+        Reply::VlAnswered(t, count) => to.truth_line(p, b'V', count as u64, t),
     }
 }

@@ -1,13 +1,14 @@
 // The trace's line of a command: its access is seen in the memory before the command, and it is written once the
 // command is accepted.
 ghost use Rattle.std.specs.Prelude.{◌≡◌};
-ghost use Rattle.listing.specs.Writing.{Room, Wrote};
+ghost use Rattle.listing.specs.Writing.{Fits, Writes};
 ghost use Rattle.semantics.specs.TextRun.{answers};
 ghost use Rattle.taken.specs.Ranges.{Ready};
 ghost use Rattle.entry.specs.RunState.{shown_line};
 ghost use Rattle.entry.specs.Turned.{access_seen};
 
 use access::{Access, access_of, trace_lines};
+use listing::Writer;
 use llsc::ProcessNumber;
 use model::{Process, Reply};
 use notation::Entry;
@@ -40,30 +41,27 @@ fn answers(reply: Reply) -> bool
     !matches!(reply, Reply::Refused(_) | Reply::Accepted)
 }
 
-// The line of an accepted entry, from a place on; none in a run that is not traced. It gives the place after it.
+// The line of an accepted entry; none in a run that is not traced.
 pub fn trace_line(
     traced: bool,
     entry: usize,
     access: Access,
     e: Entry,
     reply: Reply,
-    list: &mut [u8],
-    at: usize,
-) -> usize
-    requires { Room list.old at (shown_line traced entry access e reply) }
-    ensures { Wrote list.old at (shown_line traced entry access e reply) list.new result }
+    to: &mut Writer<'_>,
+)
+    requires { Fits to.old (shown_line traced entry access e reply) }
+    ensures { Writes to.old (shown_line traced entry access e reply) to.new }
 {
     if !traced {
-        return at;
+        return;
     }
     let k = entry as u64;
     let answered = answers(reply);
     match e {
-        Entry::StartLl(p) => trace_parts::start_line(list, at, k, p, b'L', 0),
-        Entry::StartVl(p) => trace_parts::start_line(list, at, k, p, b'V', 0),
-        Entry::StartSc(p, value) => trace_parts::start_line(list, at, k, p, b'S', value),
-        Entry::Step(p) | Entry::Finish(p) => trace_lines::step_line(
-            list, at, k, p, access, answered,
-        ),
+        Entry::StartLl(p) => trace_parts::start_line(to, k, p, b'L', 0),
+        Entry::StartVl(p) => trace_parts::start_line(to, k, p, b'V', 0),
+        Entry::StartSc(p, value) => trace_parts::start_line(to, k, p, b'S', value),
+        Entry::Step(p) | Entry::Finish(p) => trace_lines::step_line(to, k, p, access, answered),
     }
 }

@@ -2,6 +2,7 @@
 ghost use Rattle.entry.specs.Turned.{Turnable, Turns};
 
 use crate::{answer_lines, entries, traces};
+use listing::Writer;
 use llsc::ProcessNumber;
 use model::Process;
 use notation::Entry;
@@ -9,12 +10,11 @@ use steps::orders;
 use taken::Taken;
 use text_runs::entries as text_entries;
 
-// The places and the process as the entry leaves them, and where its lines end.
+// The places and the process as the entry leaves them.
 #[derive(Clone, Copy)]
 pub struct Turn {
     pub taken: Taken,
     pub process: Process,
-    pub written: usize,
 }
 
 // The k-th entry of a run. What a trace shows is seen in the places before the step, and is the very step that is made.
@@ -27,11 +27,10 @@ pub fn carry(
     taken: Taken,
     process: Process,
     words: &mut [u64],
-    list: &mut [u8],
-    at: usize,
+    to: &mut Writer<'_>,
 ) -> Turn
-    requires { Turnable traced k e n w taken process words.old list.old at }
-    ensures { Turns traced k e n w taken process words.old list.old at result words.new list.new }
+    requires { Turnable traced k e n w taken process words.old to.old }
+    ensures { Turns traced k e n w taken process words.old to.old result words.new to.new }
 {
     let p = text_entries::process_of(e);
     let own = ProcessNumber(p as u8);
@@ -40,13 +39,12 @@ pub fn carry(
     entries::offer(e, n, w, own, words);
     let stepped = orders::obey_taken(order, n, w, own, process, taken, words);
     let reply = stepped.reply;
-    let shown = traces::trace_line(traced, k, access, e, reply, list, at);
-    let written = answer_lines::answer_line(reply, p, n, w, words, list, shown);
+    traces::trace_line(traced, k, access, e, reply, to);
+    answer_lines::answer_line(reply, p, n, w, words, to);
     let left = stepped.taken;
     let next = stepped.process;
     Turn {
         taken: left,
         process: next,
-        written,
     }
 }

@@ -1,4 +1,4 @@
--- The count of own steps, point by point, over every list of commands; and what it says at an answer and of an open call.
+-- The count of own steps, point by point, at every command; and what it says at an answer and of an open call.
 use mathlib.Core.Path.{◌≡◌, refl}
 use mathlib.Core.Logic.{◌⊎◌, inl, inr}
 use mathlib.Core.Bool.{Bool, true, false, not, cond}
@@ -186,16 +186,8 @@ module _ (N W : ℕ) (h_w : 0 < W) where
       by_command N W AllCounts n s i (λ p y w f hp e. alone s p n hp i _ _ (λ _ x. x) (first_count y w f))
       (λ p hp. count_step s p n hp i (s.loc p).point (m.each p hp) (i.each p hp)) c
 
-  -- the invariants and the counts after every list of commands, from any state that has both ..
-  pub execs_counts : (n : ℕ) (cs : List Cmd) (s : State) → Invariant N W n s → AllCounts s → Invariant N W (number_after n cs) (execs N W n cs s) × AllCounts (execs N W n cs s)
-  execs_counts n cs s m i = along N W (λ k t. Invariant N W k t × AllCounts t) (λ k t c x. (exec_inv N W h_w k t c x.0, exec_counts k t c x.0 x.1)) n cs s (m, i)
-
   pub setup_counts : (v : ℕ → ℕ) → AllCounts (setup N W v)
   setup_counts v = record { each = λ q hq. record { count = refl; eight = tt } }
-
-  -- .. and from the set-up
-  pub counts_run : 0 < N → (v : ℕ → ℕ) (cs : List Cmd) → AllCounts (execs N W 1 cs (setup N W v))
-  counts_run h_n v cs = (execs_counts 1 cs _ (setup_inv N W v h_n) (setup_counts v)).1
 
 -- the points of a call
 abbrev pub in_call : Kind → Point → Bool

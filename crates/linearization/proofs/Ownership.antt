@@ -81,7 +81,3 @@ module _ (N W n : ℕ) (s : State) (i : Invariant N W n s) where
     held_once b hb =
         let z = pigeonhole (3 * N) (held N s) held_injection b hb in
         (z.0, z.1, z.2, λ other ho e. held_injection.holders_differ other z.0 ho z.1 (e ∙ sym z.2))
-
--- so it is after every list of commands
-pub held_once_run : (N W : ℕ) → 0 < N → 0 < W → (v : ℕ → ℕ) (cs : List Cmd) (b : ℕ) → b < 3 * N → HeldOnce N (execs N W 1 cs (setup N W v)) b
-held_once_run N W h_n h_w v cs = held_once N W (number_after 1 cs) _ (run_inv N W h_n h_w v cs) (run_range N W h_n h_w v cs)

@@ -1,6 +1,9 @@
 // The lines of Figure 2 that touch a place of Help. p is the process that steps.
 ghost use Rattle.std.specs.Prelude.{◌≡◌, ◌<◌};
 ghost use Rattle.model.specs.Lines.{do_line1, do_line4, do_line8, do_line9, do_line10, do_line14, do_line15};
+ghost use Rattle.model.specs.Places.{ll_place};
+ghost use Rattle.model.specs.Records.{to_line};
+ghost use Rattle.model.specs.declared.Reply.TheVariants.{Accepted};
 ghost use Rattle.lines.specs.Ranges.{Stepping};
 
 use crate::{points, records};
@@ -23,18 +26,25 @@ pub fn do_line_1(help: HelpPlace, process: Process) -> LineStep<HelpPlace>
     LineStep::accepted(place, records::to(points::LINE_2, process))
 }
 
+// LL(Help), after which this line follows.
+fn linked(line: u8, p: ProcessNumber, help: HelpPlace, process: Process) -> LineStep<HelpPlace>
+    requires { Stepping p process }
+    ensures { result ≡ record { place = ll_place help p; process = to_line line process; reply = Accepted } }
+{
+    LineStep::accepted(places::ll(help, p), records::to(line, process))
+}
+
 // Line 4: if LL(Help[p]) = (0, b), help was given, and lines 5 to 7 follow.
+// Kept: beside lines 8 and 14, as each names its own flag, buffer and lines; what they share is `linked`.
 pub fn do_line_4(p: ProcessNumber, help: HelpPlace, process: Process) -> LineStep<HelpPlace>
     requires { Stepping p process }
     ensures { result ≡ do_line4 p help process }
 {
     let HelpContent { flag, buf } = help.content;
-    let process = if flag == GIVEN {
-        records::to(points::LINE_5, Process { b: buf, ..process })
-    } else {
-        records::to(points::LINE_8, process)
-    };
-    LineStep::accepted(places::ll(help, p), process)
+    if flag == GIVEN {
+        return linked(points::LINE_5, p, help, Process { b: buf, ..process });
+    }
+    linked(points::LINE_8, p, help, process)
 }
 
 // Line 8: if LL(Help[p]) = (1, c), no help came, and line 9 takes the question back.
@@ -43,12 +53,10 @@ pub fn do_line_8(p: ProcessNumber, help: HelpPlace, process: Process) -> LineSte
     ensures { result ≡ do_line8 p help process }
 {
     let HelpContent { flag, buf } = help.content;
-    let process = if flag == ASKED {
-        records::to(points::LINE_9, Process { c: buf, ..process })
-    } else {
-        records::to(points::LINE_10, process)
-    };
-    LineStep::accepted(places::ll(help, p), process)
+    if flag == ASKED {
+        return linked(points::LINE_9, p, help, Process { c: buf, ..process });
+    }
+    linked(points::LINE_10, p, help, process)
 }
 
 // Line 9: SC(Help[p], (0, c)). No plain write: it would wipe out help that came after line 8.
@@ -79,12 +87,15 @@ pub fn do_line_14(p: ProcessNumber, help: HelpPlace, process: Process) -> LineSt
     ensures { result ≡ do_line14 p help process }
 {
     let HelpContent { flag, buf } = help.content;
-    let process = if flag == ASKED {
-        records::to(points::LINE_14_VALID, Process { d: buf, ..process })
-    } else {
-        records::to(points::LINE_17, process)
-    };
-    LineStep::accepted(places::ll(help, p), process)
+    if flag == ASKED {
+        return linked(
+            points::LINE_14_VALID,
+            p,
+            help,
+            Process { d: buf, ..process },
+        );
+    }
+    linked(points::LINE_17, p, help, process)
 }
 
 // Lines 15 and 16: if SC(Help[x.seq mod N], (0, mybuf)) then mybuf = d, the buffer that is given in exchange.

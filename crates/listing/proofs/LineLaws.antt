@@ -7,8 +7,9 @@ use lib.ListN.{length, take, drop, get_or, take-append-drop}
 use lib.Seq.{take-suc, drop-cons}
 use Rattle.listing.specs.Decimal.{decimal}
 use Rattle.listing.specs.Lines.{space, words_of}
-use Rattle.listing.specs.Writing.{Room, Wrote}
-use Rattle.listing.proofs.WritingLaws.{room_same, room_first, room_then}
+use Rattle.listing.specs.declared.Writer.{Writer}
+use Rattle.listing.specs.Writing.{Fits, Writes}
+use Rattle.listing.proofs.WritingLaws.{fits_same, fits_then}
 
 -- the next of some bytes
 module _ (bs : List ℕ) (i : ℕ) (h : i < length bs) where
@@ -17,9 +18,6 @@ module _ (bs : List ℕ) (i : ℕ) (h : i < length bs) where
 
   split : bs ≡ take i bs ++ get_or bs i 0 ∷ drop (suc i) bs
   split = sym (take-append-drop i bs) ∙ ap (λ (x : List ℕ). take i bs ++ x) (drop-cons bs i 0 h)
-
-  pub byte_room : {l l' : List ℕ} {at next : ℕ} → Room l at bs → Wrote l at (take i bs) l' next → Room l' next (get_or bs i 0 ∷ [])
-  byte_room r w = room_first (get_or bs i 0 ∷ []) (drop (suc i) bs) (room_then (get_or bs i 0 ∷ drop (suc i) bs) (room_same split r) w)
 
 words_append : (a b : List ℕ) → words_of (a ++ b) ≡ words_of a ++ words_of b
 unfolding words_of
@@ -36,8 +34,8 @@ module _ (ws : List ℕ) (i : ℕ) (h : i < length ws) where
   word_more = ap words_of (take_more ws i h) ∙ words_append (take i ws) (get_or ws i 0 ∷ [])
       ∙ ap (λ (x : List ℕ). words_of (take i ws) ++ x) (words_one (get_or ws i 0))
 
-  pub word_room : {l l' : List ℕ} {at next : ℕ} → Room l at (words_of ws) → Wrote l at (words_of (take i ws)) l' next
-      → Room l' next ((space ∷ []) ++ (decimal (get_or ws i 0) ++ words_of (drop (suc i) ws)))
+  pub word_room : {u v : Writer} → Fits u (words_of ws) → Writes u (words_of (take i ws)) v
+      → Fits v ((space ∷ []) ++ (decimal (get_or ws i 0) ++ words_of (drop (suc i) ws)))
   unfolding words_of
-  word_room r q = room_then (words_of (get_or ws i 0 ∷ drop (suc i) ws))
-      (room_same (ap words_of (split ws i h) ∙ words_append (take i ws) (get_or ws i 0 ∷ drop (suc i) ws)) r) q
+  word_room f w = fits_then (words_of (get_or ws i 0 ∷ drop (suc i) ws))
+      (fits_same (ap words_of (split ws i h) ∙ words_append (take i ws) (get_or ws i 0 ∷ drop (suc i) ws)) f) w

@@ -7,7 +7,8 @@ use native.Mathlib.Nat.{add-zero, add-suc, suc-add, min-eq_left}
 use lib.ListN.{length, length-append, length-take, set, take, drop}
 use lib.Seq.{sets, length-sets, sets-eq, take_at, drop-drop}
 use borrow.Rule.Slice.PartMut.{put_mid}
-use Rattle.listing.specs.Writing.{Room, Wrote}
+use Rattle.listing.specs.declared.Writer.{Writer}
+use Rattle.listing.specs.Writing.{Room, Wrote, Fits, Writes}
 
 sets_append : (l : List ℕ) (i : ℕ) (a b : List ℕ) → sets (sets l i a) (i + length a) b ≡ sets l i (a ++ b)
 sets_append l i [] b = ap (λ (k : ℕ). sets l k b) (add-zero i)
@@ -53,5 +54,31 @@ room_first a b r = record { fits = omega (arith, r.fits, length-append a b) }
 pub room_then : {l l' : List ℕ} {i j : ℕ} {a : List ℕ} (b : List ℕ) → Room l i (a ++ b) → Wrote l i a l' j → Room l' j b
 room_then {a = a} b r w = record { fits = omega (arith, r.fits, length-append a b, w.place, kept w) }
 
--- what the room of a write asks of its parts
-pub ruleset writing = (room_first, room_then)
+-- the same of a writer: a write goes on in the same lent bytes
+room : {u : Writer} {bs : List ℕ} → Fits u bs → Room u.list.now u.written bs
+room f = record { fits = f.fits }
+
+pub wrote : {u v : Writer} {bs : List ℕ} → Writes u bs v → Wrote u.list.now u.written bs v.list.now v.written
+wrote w = record { place = w.place; list = w.list }
+
+-- what is written gives the rest
+pub written : {u v : Writer} {bs : List ℕ} → v.list.ghost_name ≡ u.list.ghost_name → Wrote u.list.now u.written bs v.list.now v.written → Writes u bs v
+written e w = record { same = e; long = kept w; place = w.place; list = w.list }
+
+pub writes_then : {u v w : Writer} {a b : List ℕ} → Writes u a v → Writes v b w → Writes u (a ++ b) w
+writes_then p q = written (q.same ∙ p.same) (then (wrote p) (wrote q))
+
+pub writes_none : (u : Writer) → Writes u [] u
+writes_none u = written refl (none u.list.now u.written)
+
+pub writes_same : {u v : Writer} {bs bs' : List ℕ} → bs' ≡ bs → Writes u bs v → Writes u bs' v
+writes_same {u} {v} e w = subst (λ (x : List ℕ). Writes u x v) (sym e) w
+
+pub fits_same : {u : Writer} {bs bs' : List ℕ} → bs ≡ bs' → Fits u bs → Fits u bs'
+fits_same {u} e f = subst (λ (x : List ℕ). Fits u x) e f
+
+pub fits_first : {u : Writer} (a b : List ℕ) → Fits u (a ++ b) → Fits u a
+fits_first a b f = record { fits = (room_first a b (room f)).fits }
+
+pub fits_then : {u v : Writer} {a : List ℕ} (b : List ℕ) → Fits u (a ++ b) → Writes u a v → Fits v b
+fits_then b f w = record { fits = (room_then b (room f) (wrote w)).fits }

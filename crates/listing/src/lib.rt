@@ -3,138 +3,132 @@
 
 #![tactic(auto)]
 
-ghost use Rattle.std.specs.Prelude.{◌≡◌, [], ◌∷◌, Bool, ◌+◌, ◌≤◌, length, take, drop};
+ghost use Rattle.std.specs.Prelude.{◌≡◌, [], ◌∷◌};
 ghost use Rattle.listing.specs.Decimal.{decimal};
 ghost use Rattle.listing.specs.Lines.{answer_head, words_of, ll_line, truth_line, end_line, refused_line};
-ghost use Rattle.listing.specs.Writing.{Room, Wrote};
+ghost use Rattle.listing.specs.Writing.{Fits, Writes};
 
 // The largest number of 64 bits has so many digits.
 const MOST_DIGITS: usize = 20;
 
-// One byte.
-pub fn put(list: &mut [u8], at: usize, b: u8) -> usize
-    requires { Room list.old at (b ∷ []) }
-    ensures { Wrote list.old at (b ∷ []) list.new result }
-{
-    list[at] = b;
-    at + 1
+// Lent bytes that are written from the front on, and how many of them are written: the place of the next.
+#[derive(Drop)]
+pub struct Writer<'a> {
+    pub list: &'a mut [u8],
+    pub written: usize,
 }
 
-// Bytes as they stand.
-pub fn plain(list: &mut [u8], at: usize, bytes: &[u8]) -> usize
-    requires { Room list.old at bytes.now }
-    ensures { Wrote list.old at bytes.now list.new result }
-{
-    let next = at + bytes.len();
-    list[at..next].copy_from_slice(bytes);
-    next
-}
+impl<'a> Writer<'a> {
+    // One byte.
+    pub fn put(&mut self, b: u8)
+        requires { Fits self.old (b ∷ []) }
+        ensures { Writes self.old (b ∷ []) self.new }
+    {
+        self.list[self.written] = b;
+        self.written += 1;
+    }
 
-// A number in decimal: one division for each digit, the last digit first, and then the digits copied.
-// Kept: 02, CR 6 asks for one division for each digit; crate itoa divides otherwise.
-pub fn number(list: &mut [u8], at: usize, n: u64) -> usize
-    requires { Room list.old at (decimal n) }
-    ensures { Wrote list.old at (decimal n) list.new result }
-{
-    let mut places = [b'0'; MOST_DIGITS];
-    let mut rest = n;
-    let mut divisions = 0;
-    loop {
-        let tenth = rest / 10;
-        divisions += 1;
-        places[MOST_DIGITS - divisions] = b'0' + (rest - tenth * 10) as u8;
-        rest = tenth;
-        if rest == 0 {
-            break;
+    // Bytes as they stand.
+    pub fn plain(&mut self, bytes: &[u8])
+        requires { Fits self.old bytes.now }
+        ensures { Writes self.old bytes.now self.new }
+    {
+        let next = self.written + bytes.len();
+        self.list[self.written..next].copy_from_slice(bytes);
+        self.written = next;
+    }
+
+    // A number in decimal: one division for each digit, the last digit first, and then the digits copied.
+    // Kept: 02, CR 6 asks for one division for each digit; crate itoa divides otherwise.
+    pub fn number(&mut self, n: u64)
+        requires { Fits self.old (decimal n) }
+        ensures { Writes self.old (decimal n) self.new }
+    {
+        let mut places = [b'0'; MOST_DIGITS];
+        let mut rest = n;
+        let mut divisions = 0;
+        loop {
+            let tenth = rest / 10;
+            divisions += 1;
+            places[MOST_DIGITS - divisions] = b'0' + (rest - tenth * 10) as u8;
+            rest = tenth;
+            if rest == 0 {
+                break;
+            }
+        }
+        self.plain(&places[MOST_DIGITS - divisions..]);
+    }
+
+    // A space and a number for each word.
+    pub fn words(&mut self, ws: &[u64])
+        requires { Fits self.old (words_of ws.now) }
+        ensures { Writes self.old (words_of ws.now) self.new }
+    {
+        for word in ws {
+            self.put(b' ');
+            self.number(*word);
         }
     }
-    let from = MOST_DIGITS - divisions;
-    plain(list, at, &places[from..])
-}
 
-// A space and a number for each of w words.
-pub fn words(list: &mut [u8], at: usize, ws: &[u64], from: usize, w: usize) -> usize
-    requires { (from + w ≤ length ws.now) × (Room list.old at (words_of (take w (drop from ws.now)))) }
-    ensures { Wrote list.old at (words_of (take w (drop from ws.now))) list.new result }
-{
-    let said = &ws[from..from + w];
-    let mut next = at;
-    for word in said {
-        next = put(list, next, b' ');
-        next = number(list, next, *word);
+    // The part of an answer line that all kinds share: process, letter and count.
+    #[tactic(auto, unfolding(crate::specs::Lines::answer_head))]
+    pub fn answer_head(&mut self, process: u64, letter: u8, count: u64)
+        requires { Fits self.old (answer_head process letter count) }
+        ensures { Writes self.old (answer_head process letter count) self.new }
+    {
+        self.number(process);
+        self.put(b' ');
+        self.put(letter);
+        self.put(b' ');
+        self.number(count);
     }
-    next
-}
 
-// The part of an answer line that all kinds share: process, letter and count.
-#[tactic(auto, unfolding(crate::specs::Lines::answer_head), using(crate::proofs::WritingLaws::writing))]
-pub fn answer_head(list: &mut [u8], at: usize, process: u64, letter: u8, count: u64) -> usize
-    requires { Room list.old at (answer_head process letter count) }
-    ensures { Wrote list.old at (answer_head process letter count) list.new result }
-{
-    let a = number(list, at, process);
-    let b = put(list, a, b' ');
-    let c = put(list, b, letter);
-    let d = put(list, c, b' ');
-    number(list, d, count)
-}
+    // The line of an LL's answer.
+    #[tactic(auto, unfolding(crate::specs::Lines::ll_line), using(crate::proofs::WritingLaws::writes_then))]
+    pub fn ll_line(&mut self, process: u64, count: u64, ws: &[u64])
+        requires { Fits self.old (ll_line process count ws.now) }
+        ensures { Writes self.old (ll_line process count ws.now) self.new }
+    {
+        self.answer_head(process, b'L', count);
+        self.words(ws);
+        self.put(b'\n');
+    }
 
-// The line of an LL's answer, whose w words stand in `ws` from a place on.
-#[tactic(auto, unfolding(crate::specs::Lines::ll_line), using(crate::proofs::WritingLaws::writing))]
-pub fn ll_line(
-    list: &mut [u8],
-    at: usize,
-    process: u64,
-    count: u64,
-    ws: &[u64],
-    from: usize,
-    w: usize,
-) -> usize
-    requires { (from + w ≤ length ws.now) × (Room list.old at (ll_line process count (take w (drop from ws.now)))) }
-    ensures { Wrote list.old at (ll_line process count (take w (drop from ws.now))) list.new result }
-{
-    let a = answer_head(list, at, process, b'L', count);
-    let b = words(list, a, ws, from, w);
-    put(list, b, b'\n')
-}
+    // The line of an SC's or a VL's answer, with the letter of its kind.
+    #[tactic(auto, unfolding(crate::specs::Lines::truth_line), using(crate::proofs::WritingLaws::writes_then))]
+    pub fn truth_line(&mut self, process: u64, letter: u8, count: u64, answer: bool)
+        requires { Fits self.old (truth_line process letter count answer) }
+        ensures { Writes self.old (truth_line process letter count answer) self.new }
+    {
+        self.answer_head(process, letter, count);
+        if answer {
+            self.plain(b" 1\n");
+        } else {
+            self.plain(b" 0\n");
+        }
+    }
 
-// The line of an SC's or a VL's answer, with the letter of its kind.
-#[tactic(auto, unfolding(crate::specs::Lines::truth_line), using(crate::proofs::WritingLaws::writing))]
-pub fn truth_line(
-    list: &mut [u8],
-    at: usize,
-    process: u64,
-    letter: u8,
-    count: u64,
-    answer: bool,
-) -> usize
-    requires { Room list.old at (truth_line process letter count answer) }
-    ensures { Wrote list.old at (truth_line process letter count answer) list.new result }
-{
-    let a = answer_head(list, at, process, letter, count);
-    plain(list, a, if answer { b" 1\n" } else { b" 0\n" })
-}
+    // The last line of a run that met no refusal.
+    #[tactic(auto, unfolding(crate::specs::Lines::end_line), using(crate::proofs::WritingLaws::writes_then))]
+    pub fn end_line(&mut self, entries: u64)
+        requires { Fits self.old (end_line entries) }
+        ensures { Writes self.old (end_line entries) self.new }
+    {
+        self.plain(b"end ");
+        self.number(entries);
+        self.put(b'\n');
+    }
 
-// The last line of a run that met no refusal.
-#[tactic(auto, unfolding(crate::specs::Lines::end_line), using(crate::proofs::WritingLaws::writing))]
-pub fn end_line(list: &mut [u8], at: usize, entries: u64) -> usize
-    requires { Room list.old at (end_line entries) }
-    ensures { Wrote list.old at (end_line entries) list.new result }
-{
-    let a = plain(list, at, b"end ");
-    let b = number(list, a, entries);
-    put(list, b, b'\n')
-}
-
-// The last line of a refused run.
-#[tactic(auto, unfolding(crate::specs::Lines::refused_line), using(crate::proofs::WritingLaws::writing))]
-pub fn refused_line(list: &mut [u8], at: usize, refusal: u64, entries: u64) -> usize
-    requires { Room list.old at (refused_line refusal entries) }
-    ensures { Wrote list.old at (refused_line refusal entries) list.new result }
-{
-    let a = plain(list, at, b"refused ");
-    let b = number(list, a, refusal);
-    let c = put(list, b, b' ');
-    let d = number(list, c, entries);
-    put(list, d, b'\n')
+    // The last line of a refused run.
+    #[tactic(auto, unfolding(crate::specs::Lines::refused_line))]
+    pub fn refused_line(&mut self, refusal: u64, entries: u64)
+        requires { Fits self.old (refused_line refusal entries) }
+        ensures { Writes self.old (refused_line refusal entries) self.new }
+    {
+        self.plain(b"refused ");
+        self.number(refusal);
+        self.put(b' ');
+        self.number(entries);
+        self.put(b'\n');
+    }
 }

@@ -1,7 +1,7 @@
--- The call that `open_calls::call_at` finds among those of a bench's records is that of `OpenCalls`.
-use Rattle.std.proofs.Common.{◌≡◌, ℕ, ◌<◌, List, length, map, get_or, arith}
+-- The calls that are made of a bench's records: each of its record, as `OpenCalls` finds it.
+use Rattle.std.proofs.Common.{◌≡◌, ℕ, ◌<◌, List, length, map, get_or, arith, sym, ◌∙◌}
+use Rattle.std.proofs.lemmas.List.{ext_get_or, get_or-map, length-map}
 use Rattle.std.specs.Prelude.{None}
-use Rattle.std.proofs.lemmas.List.{get_or-map}
 use Rattle.model.specs.declared.Process.{Process}
 use Rattle.model.specs.Records.{no_process}
 use Rattle.messages.specs.OpenCalls.{place_of}
@@ -11,3 +11,10 @@ pub told_at : (p : ℕ) (records : List Process) → length records ≡ 16 → g
 told_at p records n =
     let lt : place_of p < length records = grind arith in
     get_or-map call_of records (place_of p) no_process None lt
+
+-- a list of sixteen whose elements are made one by one is made whole
+pub made_whole : {A B : Type 0} (f : A → B) (d : A) (e : B) (xs : List A) (ys : List B) → length xs ≡ 16 → length ys ≡ 16
+    → ((j : ℕ) → j < 16 → get_or ys j e ≡ f (get_or xs j d)) → ys ≡ map f xs
+made_whole f d e xs ys n m one =
+    ext_get_or e ys (map f xs) (m ∙ sym n ∙ sym (length-map xs f))
+    (λ j h. one j (omega (arith, h, m)) ∙ sym (get_or-map f xs j d e (omega (arith, h, m, n))))

@@ -1,5 +1,5 @@
 -- The words that tell an open call.
-use Rattle.std.specs.Prelude.{ℕ, ◌/◌, ◌%◌, ◌+◌, ◌++◌, List, [], ◌∷◌, cond, eqb, codes, Option, None, Some}
+use Rattle.std.specs.Prelude.{ℕ, ◌/◌, ◌%◌, ◌+◌, ◌++◌, min, take, List, [], ◌∷◌, cond, eqb, codes, Option, None, Some}
 use Rattle.std.specs.Fmt.{decimal}
 use Rattle.messages.specs.declared.calls.Call.{Call}
 use Rattle.messages.specs.declared.calls.Figure.{Figure}
@@ -11,6 +11,11 @@ use Rattle.messages.specs.declared.calls.Moves.{Moves}
 use Rattle.messages.specs.declared.calls.Moves.TheVariants.{Whole, Halves}
 use Rattle.messages.specs.declared.calls.Told.{Told}
 use Rattle.messages.specs.declared.calls.Word.{Word}
+use Rattle.messages.specs.declared.Left.{Left}
+use Rattle.positions.specs.declared.Item.{Item}
+use Rattle.positions.specs.declared.Sizes.{Sizes}
+use Rattle.positions.specs.declared.StopReport.{StopReport}
+use Rattle.positions.specs.declared.StopReport.TheVariants.{NotRead, AtFault, AtNoItem, AtItem}
 
 abbrev pub kind_text : Kind → List ℕ
 kind_text Ll = codes "LL"
@@ -53,3 +58,14 @@ open_line m p (Some c) = codes "open: process " ++ decimal p ++ codes ", " ++ to
 unfoldable pub open_lines : Method → ℕ → List (Option Call) → List ℕ
 open_lines m p [] = []
 open_lines m p (c ∷ cs) = open_line m p c ++ open_lines m (p + 1) cs
+
+-- those of the processes below N
+abbrev pub open_below : Left → Sizes → List ℕ
+open_below left s = open_lines (record { figure = left.figure; w = s.w }) 0 (take (min s.n 16) left.calls)
+
+-- those that a run leaves, of whose stop this is reported: no call is open where N and W are not read
+abbrev pub still_open : Left → StopReport → List ℕ
+still_open left NotRead = []
+still_open left (AtFault place) = []
+still_open left (AtNoItem s) = open_below left s
+still_open left (AtItem s item) = open_below left s

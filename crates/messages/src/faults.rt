@@ -2,6 +2,7 @@
 ghost use Rattle.std.specs.Prelude.{◌≡◌};
 ghost use Rattle.messages.specs.Shown.{is_order_mark};
 
+use llsc::refusals::Refusal;
 use positions::Seen;
 use saying::{Named, Place};
 use std::io;
@@ -10,19 +11,27 @@ use std::io::Write;
 // The bytes with which some editors begin a text.
 const ORDER_MARK: [u8; 3] = [0xEF, 0xBB, 0xBF];
 
-// A group that is nested too deep begins at the place.
-pub(crate) fn too_deep(to: &mut impl Write, text: &[u8], place: usize) -> io::Result<()> {
+// The fault at a place of the text, and where that is.
+// Kept: the place beside its text, which is where the run reports that it stopped; it is cut there once.
+pub(crate) fn at(
+    to: &mut impl Write,
+    refusal: Refusal,
+    text: &[u8],
+    place: usize,
+) -> io::Result<()> {
     saying::position(to, text, place)?;
-    write!(
-        to,
-        ": groups nest at most eight deep, and this ( would open a ninth"
-    )
+    if refusal == Refusal::TooDeep {
+        return write!(
+            to,
+            ": groups nest at most eight deep, and this ( would open a ninth"
+        );
+    }
+    let (before, rest) = text.split_at(saying::within(place, text));
+    broken(to, before, rest)
 }
 
-// The text breaks the notation at the place.
-pub(crate) fn broken(to: &mut impl Write, text: &[u8], place: usize) -> io::Result<()> {
-    saying::position(to, text, place)?;
-    let (before, rest) = text.split_at(saying::within(place, text));
+// The text breaks the notation between these bytes and the rest.
+fn broken(to: &mut impl Write, before: &[u8], rest: &[u8]) -> io::Result<()> {
     if is_order_mark(rest) {
         return write!(
             to,
@@ -56,21 +65,22 @@ fn is_order_mark(rest: &[u8]) -> bool
 }
 
 // What is expected after what was seen. Nothing is here where the text ends.
+// Kept: the arms say no value but which words are sought next, so a table of closures would hide the patterns.
 fn expected(s: Seen, here: Option<u8>) -> &'static str {
     match (s.last, here) {
-        (b'0'..=b'9', Some(b'0'..=b'9')) => stray_digit(s),
-        _ if s.feeds == 0 => in_first_line(s.spaces, s.last.is_ascii_digit()),
+        (Some(b'0'..=b'9'), Some(b'0'..=b'9')) => stray_digit(s),
+        _ if s.feeds == 0 => in_first_line(s.spaces, s.last.is_some_and(|b| b.is_ascii_digit())),
         // the number is the value of an `s`, or the first of its item
-        (b'0'..=b'9', _) if s.mark != b's' => after_number(here),
-        (b's', _) => "after s comes a number",
-        (b'\n' | b' ' | b'(', _) => before_item(s.solid, here),
+        (Some(b'0'..=b'9'), _) if s.mark != Some(b's') => after_number(here),
+        (Some(b's'), _) => "after s comes a number",
+        (Some(b'\n' | b' ' | b'('), _) => before_item(s.solid, here),
         _ => after_item(here),
     }
 }
 
 // A digit after a digit is wrong only after a leading zero, or where it makes the number too large.
 fn stray_digit(s: Seen) -> &'static str {
-    if s.last == b'0' && !s.earlier.is_ascii_digit() {
+    if s.last == Some(b'0') && !s.earlier.is_some_and(|b| b.is_ascii_digit()) {
         "a number has no leading zero"
     } else {
         "a number is at most 4,294,967,295"
@@ -96,10 +106,10 @@ fn after_number(here: Option<u8>) -> &'static str {
     }
 }
 
-fn before_item(solid: u8, here: Option<u8>) -> &'static str {
+fn before_item(solid: Option<u8>, here: Option<u8>) -> &'static str {
     match here {
         None => "an open group ends with )",
-        Some(b')') if solid == b'(' => "a group has at least one item",
+        Some(b')') if solid == Some(b'(') => "a group has at least one item",
         Some(b')') => "no group is open",
         Some(_) => "an item begins with a process number, or with the count of a group",
     }

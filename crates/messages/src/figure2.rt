@@ -1,31 +1,23 @@
 // The calls of Figure 2's bench, as messages tell them.
-ghost use Rattle.std.specs.Prelude.{◌≡◌, map, min, take, OnOk};
-ghost use Rattle.std.specs.Io.KnownBytes.{Appends};
-ghost use Rattle.messages.specs.OpenLines.{open_lines};
+ghost use Rattle.std.specs.Prelude.{◌≡◌, map};
 ghost use Rattle.messages.specs.OpenCalls.{kind_of, figure_line, moves_of, call_of};
 
+use crate::Left;
 use crate::calls::{Call, Figure, Kind, Moves};
 use lines::points;
 use model::Process;
-use positions::StopReport;
-use std::io;
-use std::io::Write;
 use tables::records::Records;
 
-// The message of a run on this bench.
-pub fn explain<W: Write>(
-    to: &mut W,
-    number: u8,
-    entries: usize,
-    report: StopReport,
-    all: Records,
-    text: &[u8],
-) -> io::Result<()>
-    ensures { number ≡ 0 → OnOk result (Appends (W.contents to.old) (W.contents to.new)
-        (open_lines (record { figure = Figure.Two; w = report.w }) 0 (take (min report.n 16) (map call_of all.list)))) }
+// The calls of the processes with these records.
+pub fn left(all: Records) -> Left
+    ensures figure { result.figure ≡ Figure.Two }
+    ensures calls { result.calls ≡ map call_of all.list }
 {
     let calls = all.list.map(|process| call_of(process));
-    crate::explain(to, Figure::Two, number, entries, report, &calls, text)
+    Left {
+        figure: Figure::Two,
+        calls,
+    }
 }
 
 fn call_of(process: Process) -> Option<Call>

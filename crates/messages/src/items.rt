@@ -1,24 +1,32 @@
 // A refusal while the entries are carried out: the entry, its item and place, and the state of its process.
-use crate::calls::Told;
-use crate::{Refused, shown};
+use crate::calls::{Method, Told};
+use crate::{Ended, Left, open_calls, shown};
 use llsc::refusals::Refusal;
-use positions::StopReport;
+use positions::Sizes;
 use saying::Place;
 use std::io;
 use std::io::Write;
 
-pub(crate) fn refused(to: &mut impl Write, run: Refused) -> io::Result<()> {
-    let (before, rest) = run
-        .text
-        .split_at(saying::within(run.report.place, run.text));
-    let place = Place::after(positions::look(before));
+// The entry, and its item, which stands at the place.
+pub(crate) fn entry(to: &mut impl Write, run: Ended, place: usize) -> io::Result<()> {
+    let (before, rest) = run.text.split_at(saying::within(place, run.text));
     let entry = run.entries.saturating_add(1);
     write!(to, "entry {entry}, item ")?;
     to.write_all(&rest[..saying::within(shown::item(rest), rest)])?;
-    write!(to, " at {place}: ")?;
-    write!(to, "{}", limit(run.refusal))?;
-    state(to, run.report, run.call)?;
-    if run.refusal == Refusal::NeverLinked {
+    write!(to, " at {}: ", Place::after(positions::look(before)))
+}
+
+// Why the entry of this process is refused.
+pub(crate) fn cause(
+    to: &mut impl Write,
+    refusal: Refusal,
+    process: u64,
+    sizes: Sizes,
+    left: &Left,
+) -> io::Result<()> {
+    write!(to, "{}", limit(refusal))?;
+    state(to, process, sizes, left)?;
+    if refusal == Refusal::NeverLinked {
         write!(to, ", and no LL of it was ever answered")?;
     }
     Ok(())
@@ -34,8 +42,8 @@ fn limit(refusal: Refusal) -> &'static str {
 }
 
 // The state of the process that the entry named. A number above 15 is reported as 16; the item shows it.
-fn state(to: &mut impl Write, report: StopReport, call: Option<Told>) -> io::Result<()> {
-    let StopReport { n, process, .. } = report;
+fn state(to: &mut impl Write, process: u64, sizes: Sizes, left: &Left) -> io::Result<()> {
+    let Sizes { n, w } = sizes;
     if process > 15 {
         return write!(
             to,
@@ -45,8 +53,12 @@ fn state(to: &mut impl Write, report: StopReport, call: Option<Told>) -> io::Res
     if process >= n {
         return write!(to, "process {process} is not below N, which is {n}");
     }
-    match call {
+    match open_calls::call_at(process, &left.calls) {
         None => write!(to, "process {process} is idle"),
-        Some(call) => write!(to, "process {process} is busy: {call}"),
+        Some(call) => {
+            let figure = left.figure;
+            let method = Method { figure, w };
+            write!(to, "process {process} is busy: {}", Told { call, method })
+        }
     }
 }

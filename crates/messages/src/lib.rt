@@ -3,10 +3,11 @@
 
 #![tactic(auto)]
 
-ghost use Rattle.std.specs.Prelude.{◌≡◌, min, take, OnOk, IfErr, codes};
+ghost use Rattle.std.specs.Prelude.{◌≡◌, ◌⊎◌, OnOk, IfErr, codes};
+ghost use Rattle.std.specs.Process.{exit_status};
 ghost use Rattle.std.specs.IoError.{error_kind};
 ghost use Rattle.std.specs.Io.KnownBytes.{Appends};
-ghost use Rattle.messages.specs.OpenLines.{open_lines};
+ghost use Rattle.messages.specs.OpenLines.{still_open};
 
 pub mod calls;
 mod faults;
@@ -14,13 +15,31 @@ pub mod figure2;
 mod items;
 mod numbers;
 mod open_calls;
+mod refusals;
 mod shown;
 
-use crate::calls::{Call, Figure, Method, Told};
+use crate::calls::{Call, Figure};
 use llsc::refusals::Refusal;
 use positions::StopReport;
 use std::io;
 use std::io::{ErrorKind, Write};
+use std::process::ExitCode;
+
+// A run of a text that has ended: its number (0: not refused), the entries done, and where in the text it stopped.
+#[derive(Clone, Copy)]
+pub struct Ended<'a> {
+    pub number: u8,
+    pub entries: usize,
+    pub report: StopReport,
+    pub text: &'a [u8],
+}
+
+// The calls of the processes that a run leaves, and the figure of their lines.
+#[derive(Clone, Copy)]
+pub struct Left {
+    pub figure: Figure,
+    pub calls: [Option<Call>; 16],
+}
 
 // What was to be written to standard output is lost. The first word tells a script so.
 pub fn not_written<W: Write>(to: &mut W) -> io::Result<()>
@@ -44,62 +63,27 @@ pub fn output(to: &mut impl Write, errors: &mut impl Write, made: Option<&[u8]>)
     }
 }
 
-// The message of a run: of its number (0: not refused), the entries done, what it reports of its stop, and the calls of
-// the processes that it left. Nothing where it was not refused and no call is open.
-pub fn explain<W: Write>(
-    to: &mut W,
-    figure: Figure,
-    number: u8,
-    entries: usize,
-    report: StopReport,
-    calls: &[Option<Call>; 16],
-    text: &[u8],
-) -> io::Result<()>
-    ensures { number ≡ 0 → OnOk result (Appends (W.contents to.old) (W.contents to.new)
-        (open_lines (record { figure = figure; w = report.w }) 0 (take (min report.n 16) calls.now))) }
+// The message of a run. Nothing where it was not refused and no call is open.
+pub fn explain<W: Write>(to: &mut W, run: Ended, left: Left) -> io::Result<()>
+    ensures { run.entry.number ≡ 0 → OnOk result (Appends (W.contents to.old) (W.contents to.new)
+        (still_open left run.entry.report)) }
 {
-    let method = Method {
-        figure,
-        w: report.w,
-    };
-    if let Ok(refusal) = Refusal::try_from(number) {
-        let call = open_calls::call_at(report.process, calls);
-        let refused = Refused {
-            refusal,
-            entries,
-            report,
-            call: call.map(|call| Told { call, method }),
-            text,
-        };
-        refused.tell(to)?;
+    if let Ok(refusal) = Refusal::try_from(run.number) {
+        refusals::tell(to, refusal, run, &left)?;
     }
-    open_calls::still_open(to, report.n, method, calls)
+    open_calls::still_open(to, run.report, &left)
 }
 
-// A run of the text that was refused, and the call of the process that it reports.
-#[derive(Clone, Copy)]
-pub(crate) struct Refused<'a> {
-    refusal: Refusal,
-    entries: usize,
-    report: StopReport,
-    call: Option<Told>,
-    text: &'a [u8],
-}
-
-impl Refused<'_> {
-    // The line of a refusal. Its first word tells a script that the run was refused.
-    fn tell(self, to: &mut impl Write) -> io::Result<()> {
-        let StopReport { place, .. } = self.report;
-        write!(to, "refused {}: ", self.refusal.number())?;
-        match self.refusal {
-            Refusal::NOutOfRange => numbers::processes(to, self.report),
-            Refusal::WOutOfRange => numbers::words(to, self.report),
-            Refusal::TextBroken => faults::broken(to, self.text, place),
-            Refusal::TooDeep => faults::too_deep(to, self.text, place),
-            // a text that is too long has no entry
-            _ if place == 0 => write!(to, "the text has more than 16,384 bytes"),
-            _ => items::refused(to, self),
-        }?;
-        writeln!(to)
-    }
+// The end of a program that ran a text: the run's output, its message, and the status.
+pub fn conclude(
+    to: &mut impl Write,
+    errors: &mut impl Write,
+    made: Option<&[u8]>,
+    run: Ended,
+    left: Left,
+) -> ExitCode
+    ensures { (exit_status result ≡ 0) ⊎ (exit_status result ≡ 141) }
+{
+    let told = output(to, errors, made).and_then(|()| explain(errors, run, left));
+    console::status(told)
 }

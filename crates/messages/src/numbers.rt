@@ -2,21 +2,19 @@
 ghost use Rattle.std.specs.Prelude.{◌≡◌, ◌+◌, length};
 ghost use Rattle.listing.specs.Decimal.{decimal};
 
-use positions::StopReport;
+use listing::Writer;
+use llsc::refusals::Refusal;
+use positions::Sizes;
 use std::io;
 use std::io::Write;
 
-pub(crate) fn processes(to: &mut impl Write, report: StopReport) -> io::Result<()> {
-    write!(to, "line 1, column 1: N is {}; it is 1 to 16", report.n)
-}
-
-pub(crate) fn words(to: &mut impl Write, report: StopReport) -> io::Result<()> {
-    let column = column_after(report.n);
-    write!(
-        to,
-        "line 1, column {column}: W is {}; it is 1 to 64",
-        report.w
-    )
+pub(crate) fn out_of_range(to: &mut impl Write, refusal: Refusal, sizes: Sizes) -> io::Result<()> {
+    let Sizes { n, w } = sizes;
+    if refusal == Refusal::NOutOfRange {
+        return write!(to, "line 1, column 1: N is {n}; it is 1 to 16");
+    }
+    let column = column_after(n);
+    write!(to, "line 1, column {column}: W is {w}; it is 1 to 64")
 }
 
 // The column after a number at the beginning of a text and one space. Numbers are written one way only.
@@ -24,5 +22,10 @@ fn column_after(n: u64) -> usize
     ensures { result ≡ length (decimal n) + 2 }
 {
     let mut digits = [0; 20];
-    listing::number(&mut digits, 0, n) + 2
+    let mut to = Writer {
+        list: &mut digits,
+        written: 0,
+    };
+    to.number(n);
+    to.written + 2
 }

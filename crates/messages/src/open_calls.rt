@@ -1,11 +1,12 @@
 // The calls of sixteen processes, where they are open.
-ghost use Rattle.std.specs.Prelude.{◌≡◌, min, take, None, get_or, OnOk};
+ghost use Rattle.std.specs.Prelude.{◌≡◌, None, get_or, OnOk};
 ghost use Rattle.std.specs.Io.KnownBytes.{Appends};
 ghost use Rattle.messages.specs.OpenCalls.{place_of};
-ghost use Rattle.messages.specs.OpenLines.{open_line, open_lines};
+ghost use Rattle.messages.specs.OpenLines.{open_line, open_below, still_open};
 
-use crate::calls;
 use crate::calls::{Call, Method, Told};
+use crate::{Left, calls};
+use positions::{Sizes, StopReport};
 use std::io;
 use std::io::Write;
 
@@ -16,17 +17,28 @@ pub(crate) fn call_at(p: u64, calls: &[Option<Call>; 16]) -> Option<Call>
     calls[calls::process_number(p).0 as usize]
 }
 
-// A line for each process below N that has an open call.
-pub(crate) fn still_open<W: Write>(
-    to: &mut W,
-    n: u64,
-    method: Method,
-    calls: &[Option<Call>; 16],
-) -> io::Result<()>
+// The calls that a run leaves open, where its text gave N and W.
+pub(crate) fn still_open<W: Write>(to: &mut W, report: StopReport, left: &Left) -> io::Result<()>
     ensures { OnOk result (Appends (W.contents to.old) (W.contents to.new)
-        (open_lines method 0 (take (min n 16) calls.now))) }
+        (still_open left.now report)) }
 {
-    for (p, call) in calls[..n.min(16) as usize].iter().enumerate() {
+    match report {
+        StopReport::NotRead | StopReport::AtFault(_) => Ok(()),
+        StopReport::AtNoItem(sizes) | StopReport::AtItem(sizes, _) => open_below(to, sizes, left),
+    }
+}
+
+// A line for each process below N that has an open call.
+fn open_below<W: Write>(to: &mut W, sizes: Sizes, left: &Left) -> io::Result<()>
+    ensures { OnOk result (Appends (W.contents to.old) (W.contents to.new)
+        (open_below left.now sizes)) }
+{
+    let method = Method {
+        figure: left.figure,
+        w: sizes.w,
+    };
+    let calls = &left.calls[..sizes.n.min(16) as usize];
+    for (p, call) in calls.iter().enumerate() {
         line(to, p, method, *call)?;
     }
     Ok(())

@@ -11,18 +11,17 @@ fn main(rt: HostRuntime) -> ExitCode {
     let given = &text[..got];
     let mut list = console::large_buffer();
     let out = moir_run::texts::run_text(given, false, &mut list);
-    let mut errors = rt.stderr();
-    let told = messages::output(&mut rt.stdout(), &mut errors, list.get(..out.written)).and_then(
-        |()| {
-            moir_messages::explain(
-                &mut errors,
-                out.number,
-                out.entries,
-                out.report,
-                out.all,
-                given,
-            )
-        },
-    );
-    console::status(told)
+    let ended = messages::Ended {
+        number: out.number,
+        entries: out.entries,
+        report: out.report,
+        text: given,
+    };
+    messages::conclude(
+        &mut rt.stdout(),
+        &mut rt.stderr(),
+        list.get(..out.written),
+        ended,
+        moir_messages::left(out.all),
+    )
 }

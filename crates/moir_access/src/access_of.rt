@@ -9,6 +9,7 @@ use llsc::ProcessNumber;
 use moir_lines::copies::CopyOf;
 use moir_lines::points;
 use moir_model::{Bench, Process};
+use moir_steps::before::Before;
 
 // What stands for no access: none is made, or none is shown.
 pub fn no_access() -> Access
@@ -25,20 +26,25 @@ pub fn access_of(bench: Bench, p: ProcessNumber, process: Process, words: &[u64]
 {
     let line = process.line;
     let header = bench.header;
+    let before = Before {
+        bench: &bench,
+        process,
+        words,
+    };
     match line {
         points::WLL_10 => on_header::read(10, header),
-        points::WLL_2 => on_segment::read(2, bench, process, words),
-        points::WLL_4 => on_array::read(CopyOf::Wll, bench, process, words),
-        points::WLL_5 => on_segment::cas(bench, process, words),
-        points::WLL_6 => on_segment::read(6, bench, process, words),
+        points::WLL_2 => on_segment::read(2, &before),
+        points::WLL_4 => on_array::read(CopyOf::Wll, &before),
+        points::WLL_5 => on_segment::cas(&before),
+        points::WLL_6 => on_segment::read(6, &before),
         points::WLL_7 => on_header::read(7, header),
         points::SC_14 => on_header::read(14, header),
-        points::SC_17 => on_array::write(p, bench, process, words),
+        points::SC_17 => on_array::write(p, &before),
         points::SC_19 => on_header::cas(header, process),
-        points::SC_2 => on_segment::read(2, bench, process, words),
-        points::SC_4 => on_array::read(CopyOf::Sc, bench, process, words),
-        points::SC_5 => on_segment::cas(bench, process, words),
-        points::SC_6 => on_segment::read(6, bench, process, words),
+        points::SC_2 => on_segment::read(2, &before),
+        points::SC_4 => on_array::read(CopyOf::Sc, &before),
+        points::SC_5 => on_segment::cas(&before),
+        points::SC_6 => on_segment::read(6, &before),
         points::SC_7 => on_header::read(7, header),
         points::VL_13 => on_header::read(13, header),
         _ => no_access(),

@@ -1,31 +1,28 @@
 // The accesses to a segment.
 ghost use Rattle.std.specs.Prelude.{◌≡◌};
-ghost use Rattle.moir_steps.specs.Ranges.{Standing};
 ghost use Rattle.moir_access.specs.Accesses.{segment_read, segment_cas};
 
 use crate::{Access, Act, Content, Item};
-use moir_model::{Bench, Process};
-use moir_steps::items;
+use moir_steps::before::Before;
 
 // Lines 2 and 6.
-pub fn read(line: u8, bench: Bench, process: Process, words: &[u64]) -> Access
-    requires { Standing bench process words.now }
-    ensures { result ≡ segment_read line bench process words.now }
+pub fn read(line: u8, before: &Before<'_>) -> Access
+    ensures { result ≡ segment_read line before.now.bench.now before.now.process before.now.words.now }
 {
-    let held = items::segment_of(bench, process, words);
+    let held = before.segment();
     Access {
         line,
-        item: Item::Data(process.word),
+        item: Item::Data(before.process.word),
         act: Act::Read(Content::from(held)),
     }
 }
 
 // Line 5: CAS(addr->data[i], y, z).
-pub fn cas(bench: Bench, process: Process, words: &[u64]) -> Access
-    requires { Standing bench process words.now }
-    ensures { result ≡ segment_cas bench process words.now }
+pub fn cas(before: &Before<'_>) -> Access
+    ensures { result ≡ segment_cas before.now.bench.now before.now.process before.now.words.now }
 {
-    let held = items::segment_of(bench, process, words);
+    let held = before.segment();
+    let process = before.process;
     let expected = Content::from(process.y);
     let new = Content::from(process.z);
     Access {

@@ -1,63 +1,64 @@
 // The parts of what is shown, each with the space before it.
-ghost use Rattle.listing.specs.Writing.{Room, Wrote};
+ghost use Rattle.listing.specs.Writing.{Fits, Writes};
 ghost use Rattle.moir_access.specs.TraceParts.{item_text, values_text, act_text};
 
 use crate::{Act, Content, Item};
+use listing::Writer;
 
-#[tactic(auto, unfolding(crate::specs::TraceParts::item_text))]
-pub fn item(list: &mut [u8], at: usize, item: Item) -> usize
-    requires { Room list.old at (item_text item) }
-    ensures { Wrote list.old at (item_text item) list.new result }
+#[tactic(auto, unfolding(crate::specs::TraceParts::item_text), using(listing::proofs::WritingLaws::writes_then))]
+pub fn item(to: &mut Writer<'_>, item: Item)
+    requires { Fits to.old (item_text item) }
+    ensures { Writes to.old (item_text item) to.new }
 {
     match item {
-        Item::Hdr => listing::plain(list, at, b" hdr"),
+        Item::Hdr => to.plain(b" hdr"),
         Item::Data(k) => {
-            let a = listing::plain(list, at, b" data");
-            trace_parts::bracketed(list, a, k as u64)
+            to.plain(b" data");
+            trace_parts::bracketed(to, k as u64);
         }
         Item::Announced(q, k) => {
-            let a = listing::plain(list, at, b" A");
-            let b = trace_parts::bracketed(list, a, q.0 as u64);
-            trace_parts::bracketed(list, b, k as u64)
+            to.plain(b" A");
+            trace_parts::bracketed(to, q.0 as u64);
+            trace_parts::bracketed(to, k as u64);
         }
     }
 }
 
 // The values: a tag and what it stands with, or a word alone.
-#[tactic(auto, unfolding(crate::specs::TraceParts::values_text))]
-fn values(list: &mut [u8], at: usize, v: Content) -> usize
-    requires { Room list.old at (values_text v) }
-    ensures { Wrote list.old at (values_text v) list.new result }
+#[tactic(auto, unfolding(crate::specs::TraceParts::values_text), using(listing::proofs::WritingLaws::writes_then))]
+fn values(to: &mut Writer<'_>, v: Content)
+    requires { Fits to.old (values_text v) }
+    ensures { Writes to.old (values_text v) to.new }
 {
     match v {
         Content::Tagged(tag, with) => {
-            let a = trace_parts::spaced(list, at, tag);
-            trace_parts::spaced(list, a, with)
+            trace_parts::spaced(to, tag);
+            trace_parts::spaced(to, with);
         }
-        Content::Word(word) => trace_parts::spaced(list, at, word),
+        Content::Word(word) => trace_parts::spaced(to, word),
     }
 }
 
 // The act, with the values that it names.
-#[tactic(auto, unfolding(crate::specs::TraceParts::act_text))]
-pub fn act(list: &mut [u8], at: usize, act: Act) -> usize
-    requires { Room list.old at (act_text act) }
-    ensures { Wrote list.old at (act_text act) list.new result }
+#[tactic(auto, unfolding(crate::specs::TraceParts::act_text), using(listing::proofs::WritingLaws::writes_then))]
+pub fn act(to: &mut Writer<'_>, act: Act)
+    requires { Fits to.old (act_text act) }
+    ensures { Writes to.old (act_text act) to.new }
 {
     match act {
         Act::Read(v) => {
-            let a = listing::plain(list, at, b" read");
-            values(list, a, v)
+            to.plain(b" read");
+            values(to, v);
         }
         Act::Write(v) => {
-            let a = listing::plain(list, at, b" write");
-            values(list, a, v)
+            to.plain(b" write");
+            values(to, v);
         }
         Act::Cas(v, u, t) => {
-            let a = listing::plain(list, at, b" CAS");
-            let b = values(list, a, v);
-            let c = values(list, b, u);
-            trace_parts::truth(list, c, t)
+            to.plain(b" CAS");
+            values(to, v);
+            values(to, u);
+            trace_parts::truth(to, t);
         }
     }
 }

@@ -1,15 +1,16 @@
 // What a trace shows of an access, written into lent bytes from a place on.
-ghost use Rattle.listing.specs.Writing.{Room, Wrote};
+ghost use Rattle.listing.specs.Writing.{Fits, Writes};
 ghost use Rattle.moir_access.specs.TraceParts.{shown};
 
 use crate::{Access, texts};
+use listing::Writer;
 
-#[tactic(auto, unfolding(crate::specs::TraceParts::shown))]
-pub fn write_access(list: &mut [u8], at: usize, access: Access) -> usize
-    requires { Room list.old at (shown access) }
-    ensures { Wrote list.old at (shown access) list.new result }
+#[tactic(auto, unfolding(crate::specs::TraceParts::shown), using(listing::proofs::WritingLaws::writes_then))]
+pub fn write_access(to: &mut Writer<'_>, access: Access)
+    requires { Fits to.old (shown access) }
+    ensures { Writes to.old (shown access) to.new }
 {
-    let a = trace_parts::spaced(list, at, access.line as u64);
-    let b = texts::item(list, a, access.item);
-    texts::act(list, b, access.act)
+    trace_parts::spaced(to, access.line as u64);
+    texts::item(to, access.item);
+    texts::act(to, access.act);
 }

@@ -16,6 +16,7 @@ use moir_model::{Bench, Process, Reply};
 // The reply and all lent memory after it are those of the model.
 // Wrong programs that this rules out: one that takes `y := z` for line 6 and so answers words never written;
 // one that copies to a segment whose CAS failed; one that steps the process and stores its record at another place.
+#[tactic(auto, using(moir_machine::proofs::ObeyLaws::process_lent, moir_machine::proofs::DecisionLaws::decision_law))]
 pub fn command(
     bench: &mut Bench,
     records: &mut [Process],
@@ -42,6 +43,7 @@ pub fn command(
 // The answer and all lent memory after it are those of the model.
 // Wrong programs that this rules out: one that leaves the segments or A[0] as they were;
 // one that sets up every record that is lent, and not the first N alone.
+#[tactic(auto, using(crate::proofs::SetUpLaws::setting_up))]
 pub fn set_up(
     bench: &mut Bench,
     records: &mut [Process],

@@ -13,6 +13,7 @@ pub enum CopyOf {
 
 impl CopyOf {
     // The number that stands for a line of its Copy.
+    // Kept: a number, as the line of a lent record is one (`points`).
     pub fn line(self, line: u8) -> u8
         requires { line ≤ 7 }
         ensures { result ≡ copy_line self line }

@@ -2,6 +2,7 @@
 
 #![tactic(auto)]
 
+mod compare_and_swap;
 pub mod copies;
 pub mod on_array;
 pub mod on_header;

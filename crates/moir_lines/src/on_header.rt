@@ -5,6 +5,7 @@ ghost use Rattle.moir_lines.specs.Answers.{answered_by};
 ghost use Rattle.moir_lines.specs.Copies.{copy_line7};
 ghost use Rattle.moir_lines.specs.Ranges.{Moving};
 
+use crate::compare_and_swap::cas;
 use crate::copies::CopyOf;
 use crate::{points, records};
 use moir_model::{Header, LineStep, Process, Reply};
@@ -115,11 +116,7 @@ pub fn do_line_14(header: Header, process: Process) -> LineStep
 pub fn cas_header(header: Header, process: Process) -> Header
     ensures { result ≡ cas_header header process }
 {
-    if header == process.oldhdr {
-        process.newhdr
-    } else {
-        header
-    }
+    cas(header, process.oldhdr, process.newhdr)
 }
 
 // Line 19: the CAS is done, and line 20's Copy follows; or the SC answers false.

@@ -3,6 +3,7 @@ ghost use Rattle.std.specs.Prelude.{◌≡◌, ◌<◌};
 ghost use Rattle.moir_model.specs.Lines.{do_line2, do_line5, do_line6};
 ghost use Rattle.moir_lines.specs.Copies.{copy_line, copy_header};
 
+use crate::compare_and_swap::cas;
 use crate::copies::CopyOf;
 use crate::records;
 use moir_model::{Process, Segment};
@@ -28,11 +29,7 @@ pub fn do_line_2(copy: CopyOf, segment: Segment, process: Process) -> Process
 pub fn do_line_5(segment: Segment, process: Process) -> Segment
     ensures { result ≡ do_line5 segment process }
 {
-    if segment == process.y {
-        process.z
-    } else {
-        segment
-    }
+    cas(segment, process.y, process.z)
 }
 
 // Line 6: the segment is read again.

@@ -11,6 +11,7 @@ use moir_rows::table;
 use words::word_runs;
 
 // The refusal by the lengths of what is lent: rows 1, 2, 3, 8.
+// Kept: beside `setup`'s own, whose rows 1 to 3 are the first bench's; what is alike is row 8's line.
 #[tactic(auto, unfolding(crate::specs::SetUpByValue::set_up_number, moir_rows::specs::CommandRows::lent_number))]
 pub fn set_up_refusal(
     n: usize,
@@ -49,6 +50,7 @@ pub fn bench_at_set_up(mut bench: Bench, n: usize, w: usize) -> Bench
 }
 
 // A[0] and the segments hold the value, every other word is 0.
+#[tactic(auto, using(crate::proofs::SetUpLaws::four_runs))]
 pub fn words_at_set_up(words: &mut [u64], n: usize, w: usize, value: &[u64])
     requires { Accepted n w (length words.old) (length value.now) }
     ensures { words.new ≡ words_at_set_up words.old n w value.now }
@@ -61,6 +63,8 @@ pub fn words_at_set_up(words: &mut [u64], n: usize, w: usize, value: &[u64])
 }
 
 // The whole set-up but for the records, of which `len` are lent: the bench after it, or why it is refused.
+// Kept: len, n and w one by one, as `set_up_number` takes them; a struct of what is given would be taken apart at once.
+#[tactic(auto, using(crate::proofs::SetUpLaws::preparing))]
 pub fn prepare(
     bench: Bench,
     len: usize,

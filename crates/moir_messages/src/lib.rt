@@ -3,32 +3,24 @@
 
 #![tactic(auto)]
 
-ghost use Rattle.std.specs.Prelude.{◌≡◌, map, min, take, OnOk};
-ghost use Rattle.std.specs.Io.KnownBytes.{Appends};
-ghost use Rattle.messages.specs.OpenLines.{open_lines};
+ghost use Rattle.std.specs.Prelude.{◌≡◌, map};
 ghost use Rattle.moir_messages.specs.MoirCalls.{kind_of, figure_line, moves_of, call_of};
 
+use messages::Left;
 use messages::calls::{Call, Figure, Kind, Moves};
 use moir_lines::points;
 use moir_model::Process;
-use positions::StopReport;
-use std::io;
-use std::io::Write;
 
-// The message of a run on this bench.
-pub fn explain<W: Write>(
-    to: &mut W,
-    number: u8,
-    entries: usize,
-    report: StopReport,
-    all: [Process; 16],
-    text: &[u8],
-) -> io::Result<()>
-    ensures { number ≡ 0 → OnOk result (Appends (W.contents to.old) (W.contents to.new)
-        (open_lines (record { figure = Figure.Six; w = report.w }) 0 (take (min report.n 16) (map call_of all)))) }
+// The calls of the processes with these records.
+pub fn left(all: [Process; 16]) -> Left
+    ensures figure { result.figure ≡ Figure.Six }
+    ensures calls { result.calls ≡ map call_of all }
 {
     let calls = all.map(|process| call_of(process));
-    messages::explain(to, Figure::Six, number, entries, report, &calls, text)
+    Left {
+        figure: Figure::Six,
+        calls,
+    }
 }
 
 fn call_of(process: Process) -> Option<Call>

@@ -5,7 +5,6 @@
 
 ghost use Rattle.std.specs.Prelude.{◌≡◌};
 ghost use Rattle.moir_model.specs.SetUp.{header_at_set_up, process_at_set_up, empty_bench};
-ghost use Rattle.moir_model.specs.Replies.{number_of};
 
 use llsc::ProcessNumber;
 
@@ -53,6 +52,7 @@ pub struct Process {
 
 // What a command answers: refused with its number; accepted, with no answer yet; or a call's answer with its count of
 // own steps. A WLL answers words, which stand in the process's return area, or names a process.
+// Kept: `Refused` with a number and no `Refusal`, as 01's table promises its users a number.
 #[derive(Clone, Copy)]
 pub enum Reply {
     Refused(u8),
@@ -117,15 +117,5 @@ pub fn process_at_set_up() -> Process
         h: header,
         y: Segment { tag: 0, val: 0 },
         z: Segment { tag: 0, val: 0 },
-    }
-}
-
-// The number of a refusal, 0 for none.
-pub fn number_of(reply: Reply) -> u8
-    ensures { result ≡ number_of reply }
-{
-    match reply {
-        Reply::Refused(number) => number,
-        _ => 0,
     }
 }

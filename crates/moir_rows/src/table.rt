@@ -10,6 +10,7 @@ use moir_model::{Bench, Process, sizes};
 use rows::causes;
 
 // Rows 1, 2, 3, with which a command and a set-up begin: the first that holds.
+// Kept: beside `rows`' own, as the words that are needed are Moir's, and `lent_words` asks that rows 1 and 2 don't hold.
 #[tactic(auto, unfolding(crate::specs::CommandRows::lent_number))]
 pub fn lent_refusal(n: usize, w: usize, records: usize, words: usize) -> Result<(), Refusal>
     ensures { number_told result ≡ lent_number n w records words }

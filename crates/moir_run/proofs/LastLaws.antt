@@ -6,7 +6,8 @@ use native.Mathlib.Omega.{arith}
 use lib.Dec.{eqb}
 use lib.ListN.{length}
 use Rattle.listing.specs.Lines.{end_line, refused_line}
-use Rattle.listing.specs.Writing.{Room}
+use Rattle.listing.specs.declared.Writer.{Writer}
+use Rattle.listing.specs.Writing.{Fits}
 use Rattle.listing.proofs.Lengths.{end_length, refused_length}
 use Rattle.text_runs.specs.Parts.{last_text}
 use Rattle.moir_run.specs.declared.turns.Run.{Run}
@@ -20,7 +21,7 @@ last_room_lem k entries most e f = pick (eqb k 0)
     pick true = e
     pick false = f
 
-pub closable_room : {r : Run} {k : ℕ} {l : List ℕ} → Closable r k l → Room l r.written (last_text k r.entries)
+pub closable_room : {r : Run} {k : ℕ} {to : Writer} → Closable r k to → Fits to (last_text k r.entries)
 closable_room {r} {k} x =
     let short = last_room_lem k r.entries 17 (omega (arith, end_length r.entries x.entries)) (refused_length k r.entries x.stop x.entries) in
     record { fits = omega (arith, x.room, short) }

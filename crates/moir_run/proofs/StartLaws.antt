@@ -10,8 +10,9 @@ use lib.Seq.{sets}
 use Rattle.notation.specs.declared.Entry.{Entry}
 use Rattle.notation.specs.Grammar.{largest}
 use Rattle.positions.specs.declared.StopReport.{StopReport}
+use Rattle.positions.specs.declared.StopReport.TheVariants.{NotRead}
 use Rattle.text_runs.specs.TextRun.{room_needed, carry_all, begun, ended}
-use Rattle.text_runs.specs.StopPlaces.{at_no_item, at_place, item_report, StopsAt}
+use Rattle.text_runs.specs.StopPlaces.{at_no_item, item_report, StopsAt}
 use Rattle.text_runs.specs.KeptEntries.{entries_in, refused_with, started_with, report_with}
 use Rattle.text_runs.proofs.MiddleLaws.{Over}
 use Rattle.text_runs.proofs.TextLaws.{not_begun, is_begun, run_14}
@@ -27,6 +28,7 @@ use Rattle.moir_machine.specs.SetUpByValue.{set_up_number, set_up_number_lem, Ac
 use Rattle.moir_machine.proofs.SetUpLaws.{set_up_fits}
 use Rattle.moir_semantics.specs.TextRun.{figure6, Progress}
 use Rattle.moir_semantics.proofs.SmallWords.{Small, small_at_set_up}
+use Rattle.listing.specs.declared.Writer.{Writer}
 use Rattle.moir_run.specs.declared.turns.Run.{Run}
 use Rattle.moir_run.specs.declared.entry_loop.Carried.{Carried}
 use Rattle.moir_run.specs.declared.texts.Finished.{Finished}
@@ -37,17 +39,17 @@ use Rattle.moir_run.proofs.EntryLaws.{first_words}
 use Rattle.moir_run.proofs.TurnLaws.{first_small}
 
 -- a sound run has room for its last line
-pub sound_closable : {r : Run} {k : ℕ} {ws list : List ℕ} → Sound (progress r k ws list) → Closable r k list
+pub sound_closable : {r : Run} {k : ℕ} {ws : List ℕ} {to : Writer} → Sound (progress r k ws to) → Closable r k to
 sound_closable s = record { entries = s.entries; stop = s.stop; room = s.room }
 
 -- with its last line a run is ended
-pub closed_seen : {report : StopReport} {list' : List ℕ} {out : Finished} (r : Run) (k : ℕ) (ws list : List ℕ)
-    → ◌≡◌ {A = Finished × List ℕ} (out, list') (closed r k report list) → returned out list' ≡ seen (ended figure6 (progress r k ws list))
-closed_seen r k ws list e = ap (λ (x : Finished × List ℕ). returned x.0 x.1) e
+pub closed_seen : {report : StopReport} {list' : List ℕ} {out : Finished} (r : Run) (k : ℕ) (ws : List ℕ) (to : Writer)
+    → ◌≡◌ {A = Finished × List ℕ} (out, list') (closed r k report to) → returned out list' ≡ seen (ended figure6 (progress r k ws to))
+closed_seen r k ws to e = ap (λ (x : Finished × List ℕ). returned x.0 x.1) e
 
-pub closed_report : {report : StopReport} {list' : List ℕ} {out : Finished} (r : Run) (k : ℕ) (list : List ℕ)
-    → ◌≡◌ {A = Finished × List ℕ} (out, list') (closed r k report list) → out.report ≡ report
-closed_report r k list e = ap (λ (x : Finished × List ℕ). x.0.report) e
+pub closed_report : {report : StopReport} {l l' : List ℕ} {out : Finished} {at : ℕ} (r : Run) (k : ℕ)
+    → ◌≡◌ {A = Finished × List ℕ} (out, l') (finished_of r k report at, l) → out.report ≡ report
+closed_report r k e = ap (λ (x : Finished × List ℕ). x.0.report) e
 
 pub number_few : (n w : ℕ) {k : ℕ} → k ≡ set_up_number n w 16 3136 w → k ≤ 15
 unfolding set_up_number
@@ -71,11 +73,11 @@ pub room_left : (t : Bool) (list : List ℕ) {k : ℕ} → k ≡ room_needed t �
 room_left t list e l = omega (arith, e, l)
 
 -- "A refusal 14 at the start writes nothing."
-pub no_room : {r : Finished} {run : Run} {b : Bench} {report : StopReport} (t : Bool) (text list : List ℕ) → r ≡ finished_of run 14 report 0 → report ≡ at_place 0 → run ≡ fresh_run b t
+pub no_room : {r : Finished} {run : Run} {b : Bench} (t : Bool) (text list : List ℕ) → r ≡ finished_of run 14 NotRead 0 → run ≡ fresh_run b t
     → length list < room_needed t → TextRan t text list r list
-no_room {r} {report = report} t text list er ep eu l = record {
-  same = ap (λ (x : Finished). returned x list) er ∙ ap (λ (x : Run). returned (finished_of x 14 report 0) list) eu ∙ ap seen (run_14 figure6 t at_start text list l);
-  stops = subst (StopsAt figure6 t at_start text list) (sym (ap (λ (x : Finished). x.report) er ∙ ep)) (stops_14 figure6 l);
+no_room {r} t text list er eu l = record {
+  same = ap (λ (x : Finished). returned x list) er ∙ ap (λ (x : Run). returned (finished_of x 14 NotRead 0) list) eu ∙ ap seen (run_14 figure6 t at_start text list l);
+  stops = subst (StopsAt figure6 t at_start text list) (sym (ap (λ (x : Finished). x.report) er)) (stops_14 figure6 l);
 }
 
 -- the records are at their set-up from the start
@@ -99,7 +101,14 @@ set_up_same n w k =
 module _ (t : Bool) (n w v : ℕ) (list : List ℕ) where
   -- what the code holds before the first entry
   abbrev pub first_state : Progress
-  first_state = progress (fresh_run (bench_at_set_up empty_bench n w) t) 0 (words_at_set_up at_start.words n w (replicate w v)) list
+  first_state = record {
+    memory = record { bench = bench_at_set_up empty_bench n w; records = replicate 16 no_process; words = words_at_set_up at_start.words n w (replicate w v) };
+    listing = list;
+    written = 0;
+    entries = 0;
+    stop = 0;
+    traced = t;
+  }
 
   begun_same : first_state ≡ begun figure6 t (at_set_up at_start n w (replicate w v)) list 0
   begun_same =
@@ -118,11 +127,18 @@ module _ (t : Bool) (n w v : ℕ) (list : List ℕ) where
   pub accepted : set_up_number n w 16 3136 w ≡ 0 → Accepted n w 3136 w
   accepted z = set_up_fits n w 16 3136 w z
 
-  pub first_state_is : {r : Run} {b₀ b : Bench} {ws₀ ws value : List ℕ} → w ≤ 64 → r ≡ fresh_run b t → b ≡ bench_at_set_up b₀ n w → b₀ ≡ empty_bench
-      → ws ≡ words_at_set_up ws₀ n w (take w value) → ws₀ ≡ replicate 3136 0 → value ≡ replicate 64 v → progress r 0 ws list ≡ first_state
-  first_state_is {value = value} few er eb e₀ ew ez ev =
+  pub first_state_is : {r : Run} {b₀ b : Bench} {ws₀ ws value l : List ℕ} {at : ℕ} → l ≡ list → at ≡ 0 → w ≤ 64 → r ≡ fresh_run b t → b ≡ bench_at_set_up b₀ n w → b₀ ≡ empty_bench
+      → ws ≡ words_at_set_up ws₀ n w (take w value) → ws₀ ≡ replicate 3136 0 → value ≡ replicate 64 v → record {
+        memory = record { bench = r.bench; records = r.all; words = ws };
+        listing = l;
+        written = at;
+        entries = r.entries;
+        stop = 0;
+        traced = r.traced;
+      } ≡ first_state
+  first_state_is {value = value} el en few er eb e₀ ew ez ev =
       let is : take w value ≡ replicate w v = ap (take w) ev ∙ first_words w v few in
-      rw (er, eb, e₀, ew, ez, is)
+      rw (el, en, er, eb, e₀, ew, ez, is)
 
   -- "then 1, 2, 3, then the set-up, then the entries"
   module _ (es : List Entry) (ps : List ℕ) {k : ℕ} (e : k ≡ set_up_number n w 16 3136 w) where
@@ -160,10 +176,10 @@ module _ (t : Bool) (n w v : ℕ) (list : List ℕ) where
 
 -- the entries carried out, with the last line
 pub carried_closed : (t : Bool) (n w v : ℕ) (list ps : List ℕ) → 0 ≡ set_up_number n w 16 3136 w
-    → {kept ws l ws' l' l'' : List ℕ} {count j : ℕ} {run : Run} {out : Carried} {report : StopReport} {fin : Finished}
-    → Carries kept count run ws l out ws' l' → progress run 0 ws l ≡ first_state t n w v list → j ≡ number_told out.outcome
-    → ◌≡◌ {A = Finished × List ℕ} (fin, l'') (closed out.run j report l')
-    → returned fin l'' ≡ seen (started_with figure6 t n w v (entries_in count kept) at_start list)
-carried_closed t n w v list ps e {kept = kept} {ws' = ws'} {l' = l'} {count = count} {j = j} {out = out} x q m c =
-    closed_seen out.run j ws' l' c ∙ ap (λ (i : ℕ). seen (ended figure6 (progress out.run i ws' l'))) m
+    → {kept ws ws' l l' : List ℕ} {to to' : Writer} {count j : ℕ} {run : Run} {out : Carried} {report : StopReport} {fin : Finished}
+    → Carries kept count run ws to out ws' to' → progress run 0 ws to ≡ first_state t n w v list → j ≡ number_told out.outcome
+    → ◌≡◌ {A = Finished × List ℕ} (fin, l) (closed out.run j report to') → l' ≡ l
+    → returned fin l' ≡ seen (started_with figure6 t n w v (entries_in count kept) at_start list)
+carried_closed t n w v list ps e {kept = kept} {ws' = ws'} {to' = to'} {count = count} {j = j} {out = out} {fin = fin} x q m c el =
+    ap (returned fin) el ∙ closed_seen out.run j ws' to' c ∙ ap (λ (i : ℕ). seen (ended figure6 (progress out.run i ws' to'))) m
     ∙ carried_start t n w v list (entries_in count kept) ps e refl q x.over

@@ -19,8 +19,9 @@ use Rattle.llsc.specs.Refusals.{number_told}
 use Rattle.laws.proofs.AndLaws.{left, right}
 use Rattle.notation.specs.declared.Entry.{Entry}
 use Rattle.notation.specs.Stretches as S
-use Rattle.listing.specs.Writing.{Room, Wrote}
-use Rattle.listing.proofs.WritingLaws.{then, room_first, room_then}
+use Rattle.listing.specs.declared.Writer.{Writer}
+use Rattle.listing.specs.Writing.{Wrote, Fits, Writes}
+use Rattle.listing.proofs.WritingLaws.{wrote, writes_then, fits_first, fits_then}
 use Rattle.text_runs.specs.TextRun.{most_entries, room_needed, process_of, order_of, value_of}
 use Rattle.text_runs.specs.TextRun as T
 use Rattle.text_runs.specs.Parts.{before_entry}
@@ -298,6 +299,11 @@ module _ (e : Entry) (s : Progress) where
 pub own_at : (all : List Process) {i p : ℕ} → i ≡ p → record_at all (record { 0 = i }) ≡ record_at all (record { 0 = p })
 own_at all e = ap (λ (i : ℕ). record_at all (record { 0 = i })) e
 
+-- a writer that goes on behind what is written of a run's listing
+pub record Behind (s : Progress) (to : Writer) : Type 0 where
+  pub list : to.list.now ≡ s.listing
+  pub place : to.written ≡ s.written
+
 -- an entry that nothing refuses
 module _ {e : Entry} {s : Progress} (f : Free e s) where
   abbrev m₁ : Memory
@@ -353,15 +359,14 @@ module _ {e : Entry} {s : Progress} (f : Free e s) where
       ∙ ap (λ (a : List ℕ). cond s.traced (T.trace_line figure6 (s.entries + 1) m₁ e made.0.reply) [] ++ a) (line_same (out_by made).1 (process_of e) made.0.reply)
       ∙ sym (ap (T.lines_of figure6 s e) out_is)
 
-  module _ {x : Moved × List ℕ} (d : x ≡ made) where
-    pub lines_room : Room s.listing s.written (lines_by x)
-    lines_room = subst (λ (y : Moved × List ℕ). Room s.listing s.written (lines_by y)) (sym d) (record { fits = omega (arith, f.fits, ap length lines_are) })
+  module _ {x : Moved × List ℕ} (d : x ≡ made) {to : Writer} (g : Behind s to) where
+    pub lines_room : Fits to (lines_by x)
+    lines_room = subst (λ (y : Moved × List ℕ). Fits to (lines_by y)) (sym d) (record { fits = omega (arith, f.fits, ap length lines_are, ap length g.list, g.place) })
 
     kept : Kept m₁.bench m₁.words x
     kept = subst (Kept m₁.bench m₁.words) (sym d) (obey_kept own m₁.bench q₁ m₁.words (order_of e) v₁)
 
-    pub listable : {l : List ℕ} {at : ℕ} → Wrote s.listing s.written (shown_line (s.entries + 1) seen e x.0.reply) l at
-        → Listable x.0.reply (process_of e) x.0.bench x.1 l at
+    pub listable : {to₁ : Writer} → Writes to (shown_line (s.entries + 1) seen e x.0.reply) to₁ → Listable x.0.reply (process_of e) x.0.bench x.1 to₁
     listable w =
         let r = entry_obeyable.ready in
         let k = kept in
@@ -370,15 +375,17 @@ module _ {e : Entry} {s : Progress} (f : Free e s) where
           n_most = omega (arith, r.standing.n_most, k.n);
           w_most = omega (arith, r.standing.w_most, k.w);
           lent = rw (k.n, k.w) (omega (arith, r.standing.words, k.words));
-          room = room_then _ lines_room w;
+          room = fits_then _ lines_room w;
         }
 
-    pub carried : {l₁ l : List ℕ} {at₁ at : ℕ} → Wrote s.listing s.written (shown_line (s.entries + 1) seen e x.0.reply) l₁ at₁
-        → Wrote l₁ at₁ (answer_line x.0.bench x.1 (process_of e) x.0.reply) l at
-        → record { memory = (out_by x).1; listing = l; written = at; entries = s.entries + 1; stop = 0; traced = s.traced } ≡ T.commanded figure6 e s
-    carried {l = l} {at = at} a b =
+    pub carried : {to₁ to₂ : Writer} → Writes to (shown_line (s.entries + 1) seen e x.0.reply) to₁
+        → Writes to₁ (answer_line x.0.bench x.1 (process_of e) x.0.reply) to₂
+        → record { memory = (out_by x).1; listing = to₂.list.now; written = to₂.written; entries = s.entries + 1; stop = 0; traced = s.traced } ≡ T.commanded figure6 e s
+    carried {to₂ = to₂} a b =
+        let l = to₂.list.now in
+        let at = to₂.written in
         let w : Wrote s.listing s.written (T.lines_of figure6 s e (outcome figure6 e s)) l at =
-        subst (λ (y : List ℕ). Wrote s.listing s.written y l at) (ap lines_by d ∙ lines_are) (then a b) in
+        subst (λ (y : List ℕ). Wrote s.listing s.written y l at) (ap lines_by d ∙ lines_are) (rw (g.list, g.place) at (wrote (writes_then a b))) in
         ap (λ (y : Memory). record { memory = y; listing = l; written = at; entries = s.entries + 1; stop = 0; traced = s.traced })
         (ap (λ (y : Moved × List ℕ). (out_by y).1) d ∙ sym (ap (λ (y : Reply × Memory). y.1) out_is))
         ∙ ap (λ (y : List ℕ). record { memory = (outcome figure6 e s).1; listing = y; written = at; entries = s.entries + 1; stop = 0; traced = s.traced }) w.list
@@ -422,28 +429,34 @@ module _ {e : Entry} {s : Progress} (f : Free e s) where
           is_seen : a ≡ seen
           is_seen = ea ∙ rw (own_record, ep)
 
-          pub shown_room : Room s.listing s.written (shown_line (s.entries + 1) a e moved.reply)
-          shown_room = rw is_seen (room_first _ _ (lines_room is_made))
+          pub shown_room : {to : Writer} → Behind s to → Fits to (shown_line (s.entries + 1) a e moved.reply)
+          shown_room g = rw is_seen (fits_first _ _ (lines_room is_made g))
 
-          module _ {l₁ : List ℕ} {at₁ : ℕ} (w : Wrote s.listing s.written (shown_line (s.entries + 1) a e moved.reply) l₁ at₁) where
-            shown_seen : Wrote s.listing s.written (shown_line (s.entries + 1) seen e moved.reply) l₁ at₁
-            shown_seen = subst (λ (y : Option Access). Wrote s.listing s.written (shown_line (s.entries + 1) y e moved.reply) l₁ at₁) is_seen w
+          module _ {to to₁ : Writer} (g : Behind s to) (w : Writes to (shown_line (s.entries + 1) a e moved.reply) to₁) where
+            shown_seen : Writes to (shown_line (s.entries + 1) seen e moved.reply) to₁
+            shown_seen = subst (λ (y : Option Access). Writes to (shown_line (s.entries + 1) y e moved.reply) to₁) is_seen w
 
-            pub listable_as : Listable moved.reply p moved.bench ws l₁ at₁
-            listable_as = rw ep (listable is_made shown_seen)
+            pub listable_as : Listable moved.reply p moved.bench ws to₁
+            listable_as = rw ep (listable is_made g shown_seen)
 
-            pub carried_as : {l : List ℕ} {at : ℕ} {next : List Process} → Wrote l₁ at₁ (answer_line moved.bench ws p moved.reply) l at
+            pub carried_as : {to₂ : Writer} {next : List Process} → Writes to₁ (answer_line moved.bench ws p moved.reply) to₂
                 → next ≡ set m₁.records p moved.process
-                → record { memory = record { bench = moved.bench; records = next; words = ws }; listing = l; written = at; entries = s.entries + 1; stop = 0; traced = s.traced }
-                ≡ T.commanded figure6 e s
-            carried_as {l} {at} y n =
+                → record {
+                  memory = record { bench = moved.bench; records = next; words = ws };
+                  listing = to₂.list.now;
+                  written = to₂.written;
+                  entries = s.entries + 1;
+                  stop = 0;
+                  traced = s.traced;
+                } ≡ T.commanded figure6 e s
+            carried_as {to₂} y n =
                 let records_are = n ∙ ap (λ (i : ℕ). set m₁.records i moved.process) ep in
                 ap (λ (x : List Process). record {
                   memory = record { bench = moved.bench; records = x; words = ws };
-                  listing = l;
-                  written = at;
+                  listing = to₂.list.now;
+                  written = to₂.written;
                   entries = s.entries + 1;
                   stop = 0;
                   traced = s.traced;
                 }) records_are
-                ∙ carried is_made shown_seen (subst (λ (i : ℕ). Wrote l₁ at₁ (answer_line moved.bench ws i moved.reply) l at) ep y)
+                ∙ carried is_made g shown_seen (subst (λ (i : ℕ). Writes to₁ (answer_line moved.bench ws i moved.reply) to₂) ep y)

@@ -8,23 +8,24 @@ use Rattle.text_runs.specs.TextRun.{most_entries, lines_of}
 use Rattle.text_runs.proofs.SingleEntries.{outcome}
 use Rattle.moir_semantics.specs.TextRun.{figure6, Progress}
 use Rattle.moir_semantics.proofs.SmallWords.{Small}
+use Rattle.listing.specs.declared.Writer.{Writer}
 use Rattle.moir_run.specs.declared.turns.Run.{Run}
 
--- the run, with the number that it stops with, 0 while it goes on, the lent words and the listing
-abbrev pub progress : Run → ℕ → List ℕ → List ℕ → Progress
-progress r k words listing = record {
+-- the run, with the number that it stops with, 0 while it goes on, the lent words and where its listing goes
+abbrev pub progress : Run → ℕ → List ℕ → Writer → Progress
+progress r k words to = record {
   memory = record { bench = r.bench; records = r.all; words = words };
-  listing = listing;
-  written = r.written;
+  listing = to.list.now;
+  written = to.written;
   entries = r.entries;
   stop = k;
   traced = r.traced;
 }
 
 -- after an entry: the run goes on, or it is refused where it stands
-abbrev pub turned : Run → Result Run Refusal → List ℕ → List ℕ → Progress
-turned r (Ok next) words listing = progress next 0 words listing
-turned r (Err f) words listing = progress r (refusal_number f) words listing
+abbrev pub turned : Run → Result Run Refusal → List ℕ → Writer → Progress
+turned r (Ok next) words to = progress next 0 words to
+turned r (Err f) words to = progress r (refusal_number f) words to
 
 -- the longest last line has 17 bytes
 abbrev pub last_room : ℕ

@@ -4,7 +4,8 @@ use Rattle.std.specs.Prelude.{ℕ, ◌≤◌, ◌<◌, List, [], Bool, false, no
 use Rattle.llsc.specs.declared.ProcessNumber.{ProcessNumber}
 use Rattle.notation.specs.declared.Entry.{Entry}
 use Rattle.notation.specs.declared.Entry.TheVariants.{StartLl, StartVl, StartSc, Step, Finish}
-use Rattle.listing.specs.Writing.{Room}
+use Rattle.listing.specs.declared.Writer.{Writer}
+use Rattle.listing.specs.Writing.{Fits}
 use Rattle.text_runs.specs.TextRun as T
 use Rattle.moir_model.specs.declared.Bench.{Bench}
 use Rattle.moir_model.specs.declared.Process.{Process}
@@ -45,12 +46,12 @@ abbrev pub answer_line : Bench → List ℕ → ℕ → Reply → List ℕ
 answer_line b ws p r = line_of (record { bench = b; records = []; words = ws }) p r
 
 -- the line can be written: its process is one of N, its words are lent, and there is room
-pub record Listable (r : Reply) (p : ℕ) (b : Bench) (ws list : List ℕ) (at : ℕ) : Type 0 where
+pub record Listable (r : Reply) (p : ℕ) (b : Bench) (ws : List ℕ) (to : Writer) : Type 0 where
   pub process : p < b.n
   pub n_most : b.n ≤ 16
   pub w_most : b.w ≤ 64
   pub lent : lent_words b.n b.w ≤ length ws
-  pub room : Room list at (answer_line b ws p r)
+  pub room : Fits to (answer_line b ws p r)
 
 -- the access that a trace shows of an entry; a listing shows none
 abbrev pub access_seen : Bool → ProcessNumber → Bench → Process → List ℕ → Option Access

@@ -5,6 +5,7 @@ ghost use Rattle.moir_run.specs.Finished.{Carries};
 
 use crate::turns::Run;
 use crate::{entries, turns};
+use listing::Writer;
 use llsc::refusals::Refusal;
 use notation::entry_words;
 
@@ -22,17 +23,17 @@ pub fn carry_out(
     kept: &[u64],
     count: usize,
     words: &mut [u64],
-    list: &mut [u8],
+    to: &mut Writer<'_>,
 ) -> Carried
-    requires { (count ≤ length kept.now) × (Sound (progress run 0 words.old list.old)) }
-    ensures { Carries kept.now count run words.old list.old result words.new list.new }
+    requires { (count ≤ length kept.now) × (Sound (progress run 0 words.old to.old)) }
+    ensures { Carries kept.now count run words.old to.old result words.new to.new }
 {
     let mut now = run;
     let mut at = 0;
     // Kept: a while, since `!` takes several turns at one place of the list.
     while at < count {
         let e = entry_words::entry_in(kept[at]);
-        match turns::turn(now, e, list, words) {
+        match turns::turn(now, e, to, words) {
             Ok(next) => now = next,
             Err(refusal) => {
                 return Carried {

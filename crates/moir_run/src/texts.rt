@@ -3,7 +3,7 @@
 ghost use Rattle.std.specs.Prelude.{◌≡◌, ◌≤◌, length, replicate};
 ghost use Rattle.llsc.specs.Refusals.{refusal_number};
 ghost use Rattle.notation.specs.Grammar.{largest};
-ghost use Rattle.text_runs.specs.StopPlaces.{at_no_entry, StopInText};
+ghost use Rattle.text_runs.specs.StopPlaces.{StopInText};
 ghost use Rattle.text_runs.specs.KeptEntries.{entries_in, places_in, refused_with, started_with, report_with, says_after};
 ghost use Rattle.moir_semantics.specs.TextRun.{figure6};
 ghost use Rattle.moir_run.specs.TextRan.{at_start, seen, returned, TextRan};
@@ -11,13 +11,14 @@ ghost use Rattle.moir_run.specs.Finished.{fresh_run, finished_of, closed, Closab
 
 use crate::entry_loop;
 use crate::turns::Run;
+use listing::Writer;
 use llsc::refusals;
 use llsc::refusals::Refusal;
 use moir_machine::setting_up;
 use moir_model::{Bench, Process};
 use notation::items::Items;
 use notation::{First, items};
-use positions::StopReport;
+use positions::{Sizes, StopReport};
 use text_runs::{last_lines, limits, lists, reports};
 
 // What a text run leaves of the records, and what it returns: its number, 0 at `end`, the entries done, the bytes written
@@ -38,7 +39,6 @@ fn fresh(bench: Bench, traced: bool) -> Run
     Run {
         bench,
         all: [moir_model::process_at_set_up(); 16],
-        written: 0,
         entries: 0,
         traced,
     }
@@ -59,23 +59,24 @@ fn returned(run: Run, number: u8, report: StopReport, written: usize) -> Finishe
 }
 
 // A run with its last line.
-fn ended(run: Run, number: u8, report: StopReport, list: &mut [u8]) -> Finished
-    requires { Closable run number list.old }
-    ensures { (result, list.new) ≡ closed run number report list.old }
+fn ended(run: Run, number: u8, report: StopReport, to: &mut Writer<'_>) -> Finished
+    requires { Closable run number to.old }
+    ensures is { (result, to.new.list.now) ≡ closed run number report to.old }
+    ensures same_list { to.new.list.ghost_name ≡ to.old.list.ghost_name }
 {
-    let next = last_lines::write(number, run.entries, list, run.written);
-    returned(run, number, report, next)
+    last_lines::write(number, run.entries, to);
+    returned(run, number, report, to.written)
 }
 
-// A run that is refused before its set-up, in either style, at no entry.
-fn refused(refusal: Refusal, n: u64, w: u64, place: usize, list: &mut [u8]) -> Finished
+// A run that is refused before its set-up, in either style.
+fn refused(refusal: Refusal, report: StopReport, list: &mut [u8]) -> Finished
     requires { (Roomy list.old) × (refusal_number refusal ≤ 15) }
     ensures { (returned result list.new ≡ seen (refused_with figure6 (refusal_number refusal) at_start list.old)) ×
-        (result.report ≡ at_no_entry n w place) }
+        (result.report ≡ report) }
 {
     let run = fresh(moir_model::empty_bench(), false);
-    let report = reports::at_no_entry(n, w, place);
-    ended(run, refusal.number(), report, list)
+    let mut to = Writer { list, written: 0 };
+    ended(run, refusal.number(), report, &mut to)
 }
 
 // The words of the largest N and W.
@@ -95,17 +96,24 @@ fn started(traced: bool, first: First, kept: &[u64], count: usize, list: &mut [u
     let n = first.n as usize;
     let w = first.w as usize;
     match setting_up::set_up_refusal(n, w, 16, 3136, w) {
-        Err(refusal) => refused(refusal, first.n, first.w, 0, list),
+        Err(refusal) => {
+            let sizes = Sizes {
+                n: first.n,
+                w: first.w,
+            };
+            refused(refusal, StopReport::AtNoItem(sizes), list)
+        }
         Ok(()) => {
             let mut words = no_words();
             let value = lists::repeated(first.initial);
             setting_up::words_at_set_up(&mut words, n, w, &value[..w]);
             let bench = setting_up::bench_at_set_up(moir_model::empty_bench(), n, w);
             let run = fresh(bench, traced);
-            let carried = entry_loop::carry_out(run, kept, count, &mut words, list);
+            let mut to = Writer { list, written: 0 };
+            let carried = entry_loop::carry_out(run, kept, count, &mut words, &mut to);
             let number = refusals::number_of(carried.outcome);
             let report = reports::stop_report(first.n, first.w, number, kept, carried.at);
-            ended(carried.run, number, report, list)
+            ended(carried.run, number, report, &mut to)
         }
     }
 }
@@ -118,8 +126,10 @@ fn checked(traced: bool, first: First, text: &[u8], list: &mut [u8]) -> Finished
 {
     let mut kept = lists::empty_list();
     match items::read_items(text, first.items, limits::DEEPEST, &mut kept, 0) {
-        Err(fault) => refused(fault.cause, 0, 0, fault.place, list),
-        Ok(Items::Closed(next, _)) => refused(Refusal::TextBroken, 0, 0, next - 1, list),
+        Err(fault) => refused(fault.cause, StopReport::AtFault(fault.place), list),
+        Ok(Items::Closed(next, _)) => {
+            refused(Refusal::TextBroken, StopReport::AtFault(next - 1), list)
+        },
         Ok(Items::Ended(count)) => started(traced, first, &kept, count, list),
     }
 }
@@ -130,14 +140,13 @@ pub fn run_text(text: &[u8], traced: bool, list: &mut [u8]) -> Finished
 {
     if list.len() < limits::room_needed(traced) {
         let run = fresh(moir_model::empty_bench(), traced);
-        let report = reports::at_no_entry(0, 0, 0);
-        return returned(run, Refusal::NoRoom.number(), report, 0);
+        return returned(run, Refusal::NoRoom.number(), StopReport::NotRead, 0);
     }
     if limits::LONGEST_TEXT < text.len() {
-        return refused(Refusal::TooMuch, 0, 0, 0, list);
+        return refused(Refusal::TooMuch, StopReport::NotRead, list);
     }
     match notation::first_line(text) {
-        Err(place) => refused(Refusal::TextBroken, 0, 0, place, list),
+        Err(place) => refused(Refusal::TextBroken, StopReport::AtFault(place), list),
         Ok(first) => checked(traced, first, text, list),
     }
 }

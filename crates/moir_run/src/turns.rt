@@ -6,6 +6,7 @@ ghost use Rattle.moir_semantics.specs.TextRun.{figure6};
 ghost use Rattle.moir_run.specs.RunState.{progress, turned, Sound, Free};
 
 use crate::{entries, written_lines};
+use listing::Writer;
 use llsc::ProcessNumber;
 use llsc::refusals::Refusal;
 use moir_model::{Bench, Process};
@@ -15,21 +16,20 @@ use notation::Entry;
 use text_runs::entries::{order_of, process_of};
 use text_runs::limits;
 
-// A run in progress: bench and records, the bytes of the listing or of the trace that are written, the entries done, and
-// whether it is traced.
+// A run in progress: bench and records, the entries done, and whether it is traced. Its listing or trace goes to a writer.
 #[derive(Clone, Copy)]
 pub struct Run {
     pub bench: Bench,
     pub all: [Process; 16],
-    pub written: usize,
     pub entries: usize,
     pub traced: bool,
 }
 
 // An entry that nothing refuses. What a trace shows is seen in the memory before the command.
-fn accepted(run: Run, e: Entry, list: &mut [u8], words: &mut [u64]) -> Run
-    requires { Free e (progress run 0 words.old list.old) }
-    ensures { progress result 0 words.new list.new ≡ commanded figure6 e (progress run 0 words.old list.old) }
+fn accepted(run: Run, e: Entry, to: &mut Writer<'_>, words: &mut [u64]) -> Run
+    requires { Free e (progress run 0 words.old to.old) }
+    ensures is { progress result 0 words.new to.new ≡ commanded figure6 e (progress run 0 words.old to.old) }
+    ensures same_list { to.new.list.ghost_name ≡ to.old.list.ghost_name }
 {
     let bench = run.bench;
     let mut all = run.all;
@@ -43,13 +43,12 @@ fn accepted(run: Run, e: Entry, list: &mut [u8], words: &mut [u64]) -> Run
     let order = order_of(e);
     let moved = orders::obey(order, own, &value[..count], bench, process, words);
     let k = run.entries + 1;
-    let shown = written_lines::trace_line(access, k, e, moved.reply, list, run.written);
-    let written = written_lines::answer_line(moved.reply, p, moved.bench, words, list, shown);
+    written_lines::trace_line(access, k, e, moved.reply, to);
+    written_lines::answer_line(moved.reply, p, moved.bench, words, to);
     all[place] = moved.process;
     Run {
         bench: moved.bench,
         all,
-        written,
         entries: k,
         ..run
     }
@@ -57,15 +56,16 @@ fn accepted(run: Run, e: Entry, list: &mut [u8], words: &mut [u64]) -> Run
 
 // "before each entry 12, then 14", then the rows of its command; or it is carried out. "After a refused entry nothing more
 // runs."
-pub fn turn(run: Run, e: Entry, list: &mut [u8], words: &mut [u64]) -> Result<Run, Refusal>
-    requires { (Sound (progress run 0 words.old list.old)) × (Small e) }
-    ensures { turned run result words.new list.new ≡ single figure6 e (progress run 0 words.old list.old) }
+pub fn turn(run: Run, e: Entry, to: &mut Writer<'_>, words: &mut [u64]) -> Result<Run, Refusal>
+    requires { (Sound (progress run 0 words.old to.old)) × (Small e) }
+    ensures is { turned run result words.new to.new ≡ single figure6 e (progress run 0 words.old to.old) }
+    ensures same_list { to.new.list.ghost_name ≡ to.old.list.ghost_name }
 {
     let needed = limits::room_needed(run.traced);
-    limits::before_entry(run.entries, list.len() - run.written, needed)?;
+    limits::before_entry(run.entries, to.list.len() - to.written, needed)?;
     let p = process_of(e) as usize;
     let order = order_of(e);
     let count = entries::words_of(e, run.bench.w);
     table::refusal(run.bench, run.all, 16, p, order, count, words.len())?;
-    Ok(accepted(run, e, list, words))
+    Ok(accepted(run, e, to, words))
 }

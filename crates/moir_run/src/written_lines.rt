@@ -1,11 +1,12 @@
 // The lines of an accepted entry: in a trace its own, and in both styles the line of its answer.
 ghost use Rattle.std.specs.Prelude.{◌≡◌};
-ghost use Rattle.listing.specs.Writing.{Room, Wrote};
+ghost use Rattle.listing.specs.Writing.{Fits, Writes};
 ghost use Rattle.moir_steps.specs.Ranges.{Ready};
 ghost use Rattle.text_runs.specs.TextRun.{entry_line};
 ghost use Rattle.moir_semantics.specs.TextRun.{figure6, answers, named_line, step_line};
 ghost use Rattle.moir_run.specs.Turned.{answer_line, Listable, access_seen, shown_line};
 
+use listing::Writer;
 use llsc::ProcessNumber;
 use moir_access::{Access, access_of, write_access};
 use moir_model::{Bench, Process, Reply};
@@ -13,38 +14,30 @@ use moir_steps::word_places::Row;
 use notation::Entry;
 
 // The line of a WLL that names a process.
-#[tactic(auto, unfolding(moir_semantics::specs::TextRun::named_line))]
-fn named_line(list: &mut [u8], at: usize, p: u64, count: u64, named: u64) -> usize
-    requires { Room list.old at (named_line p count named) }
-    ensures { Wrote list.old at (named_line p count named) list.new result }
+#[tactic(auto, unfolding(moir_semantics::specs::TextRun::named_line), using(listing::proofs::WritingLaws::writes_then))]
+fn named_line(to: &mut Writer<'_>, p: u64, count: u64, named: u64)
+    requires { Fits to.old (named_line p count named) }
+    ensures { Writes to.old (named_line p count named) to.new }
 {
-    let a = listing::answer_head(list, at, p, b'N', count);
-    let b = trace_parts::spaced(list, a, named);
-    listing::put(list, b, b'\n')
+    to.answer_head(p, b'N', count);
+    trace_parts::spaced(to, named);
+    to.put(b'\n');
 }
 
-// The line of a reply to process p, from a place of the listing on; none where there is no answer. It gives the place
-// after it.
-pub fn answer_line(
-    reply: Reply,
-    p: u64,
-    bench: Bench,
-    words: &[u64],
-    list: &mut [u8],
-    at: usize,
-) -> usize
-    requires { Listable reply p bench words.now list.old at }
-    ensures { Wrote list.old at (answer_line bench words.now p reply) list.new result }
+// The line of a reply to process p; none where there is no answer.
+pub fn answer_line(reply: Reply, p: u64, bench: Bench, words: &[u64], to: &mut Writer<'_>)
+    requires { Listable reply p bench words.now to.old }
+    ensures { Writes to.old (answer_line bench words.now p reply) to.new }
 {
     match reply {
-        Reply::Refused(_) | Reply::Accepted => at,
+        Reply::Refused(_) | Reply::Accepted => {}
         Reply::WllAnswered(count) => {
             let from = Row::Returned(ProcessNumber(p as u8)).word(bench.n, bench.w, 0);
-            listing::ll_line(list, at, p, count as u64, words, from, bench.w)
+            to.ll_line(p, count as u64, &words[from..][..bench.w]);
         }
-        Reply::WllNamed(q, count) => named_line(list, at, p, count as u64, q.0 as u64),
-        Reply::ScAnswered(t, count) => listing::truth_line(list, at, p, b'S', count as u64, t),
-        Reply::VlAnswered(t, count) => listing::truth_line(list, at, p, b'V', count as u64, t),
+        Reply::WllNamed(q, count) => named_line(to, p, count as u64, q.0 as u64),
+        Reply::ScAnswered(t, count) => to.truth_line(p, b'S', count as u64, t),
+        Reply::VlAnswered(t, count) => to.truth_line(p, b'V', count as u64, t),
     }
 }
 
@@ -74,51 +67,36 @@ fn answered(reply: Reply) -> bool
 }
 
 // The trace's line of a step.
-#[tactic(auto, unfolding(moir_semantics::specs::TextRun::step_line))]
-fn step_line(list: &mut [u8], at: usize, k: u64, p: u64, access: Access, ends: bool) -> usize
-    requires { Room list.old at (step_line k p access ends) }
-    ensures { Wrote list.old at (step_line k p access ends) list.new result }
+#[tactic(auto, unfolding(moir_semantics::specs::TextRun::step_line), using(listing::proofs::WritingLaws::writes_then))]
+fn step_line(to: &mut Writer<'_>, k: u64, p: u64, access: Access, ends: bool)
+    requires { Fits to.old (step_line k p access ends) }
+    ensures { Writes to.old (step_line k p access ends) to.new }
 {
-    let a = trace_parts::head(list, at, k, p);
-    let b = write_access::write_access(list, a, access);
-    trace_parts::end(list, b, ends)
+    trace_parts::head(to, k, p);
+    write_access::write_access(to, access);
+    trace_parts::end(to, ends);
 }
 
-// The trace's line of an accepted entry, from a place on. It gives the place after it.
-fn entry_line(
-    entry: usize,
-    access: Access,
-    e: Entry,
-    reply: Reply,
-    list: &mut [u8],
-    at: usize,
-) -> usize
-    requires { Room list.old at (entry_line figure6 entry access e reply) }
-    ensures { Wrote list.old at (entry_line figure6 entry access e reply) list.new result }
+// The trace's line of an accepted entry.
+fn entry_line(entry: usize, access: Access, e: Entry, reply: Reply, to: &mut Writer<'_>)
+    requires { Fits to.old (entry_line figure6 entry access e reply) }
+    ensures { Writes to.old (entry_line figure6 entry access e reply) to.new }
 {
     let k = entry as u64;
     match e {
-        Entry::StartLl(p) => trace_parts::start_line(list, at, k, p, b'L', 0),
-        Entry::StartVl(p) => trace_parts::start_line(list, at, k, p, b'V', 0),
-        Entry::StartSc(p, value) => trace_parts::start_line(list, at, k, p, b'S', value),
-        Entry::Step(p) | Entry::Finish(p) => { step_line(list, at, k, p, access, answered(reply)) }
+        Entry::StartLl(p) => trace_parts::start_line(to, k, p, b'L', 0),
+        Entry::StartVl(p) => trace_parts::start_line(to, k, p, b'V', 0),
+        Entry::StartSc(p, value) => trace_parts::start_line(to, k, p, b'S', value),
+        Entry::Step(p) | Entry::Finish(p) => step_line(to, k, p, access, answered(reply)),
     }
 }
 
 // The same in a run of either style: none in one that shows no access.
-pub fn trace_line(
-    access: Option<Access>,
-    entry: usize,
-    e: Entry,
-    reply: Reply,
-    list: &mut [u8],
-    at: usize,
-) -> usize
-    requires { Room list.old at (shown_line entry access e reply) }
-    ensures { Wrote list.old at (shown_line entry access e reply) list.new result }
+pub fn trace_line(access: Option<Access>, entry: usize, e: Entry, reply: Reply, to: &mut Writer<'_>)
+    requires { Fits to.old (shown_line entry access e reply) }
+    ensures { Writes to.old (shown_line entry access e reply) to.new }
 {
-    match access {
-        None => at,
-        Some(access) => entry_line(entry, access, e, reply, list, at),
+    if let Some(access) = access {
+        entry_line(entry, access, e, reply, to);
     }
 }

@@ -165,19 +165,6 @@ module _ (m : Memory) (n w v : ℕ) (h : v ≤ largest) where
         (same_hold SmallProcess no_process small_empty n) (λ z. absurd (not-suc-le-zero z)) (omega (arith, k, length-replicate n process_at_set_up));
   }
 
-  pub small_set_up : (set_up m n w (replicate w v)).0 ≡ 0 → Small (set_up m n w (replicate w v)).1
-  unfolding set_up
-  small_set_up e = simp (eq-eqb (set_up_refusal m n w value) 0 e) small_at_set_up
-
-  -- a refused one leaves the memory
-  pub small_set_up_kept : Small m → Small (set_up m n w (replicate w v)).1
-  unfolding set_up
-  small_set_up_kept s = by (eqb (set_up_refusal m n w value) 0)
-    where
-      by : (t : Bool) → Small (cond t (at_set_up m n w value) m)
-      by true = small_at_set_up
-      by false = s
-
 -- a reply that is no refusal: with the count k where it answers, and with process q where it names one
 pub data Plain (k : ℕ) (q : ProcessNumber) : Reply → Type 0 where
   accepted : Plain k q Accepted

@@ -1,11 +1,10 @@
 // The steps that touch a segment or a word of A, and those that read or write an area of their process.
-ghost use Rattle.std.specs.Prelude.{◌≡◌, cond, ◌<◌, set};
-ghost use Rattle.moir_model.specs.Words.{return_word};
-ghost use Rattle.moir_model.specs.Lines.{saves};
+ghost use Rattle.std.specs.Prelude.{◌≡◌, ◌<◌};
 ghost use Rattle.moir_model.specs.Machine.{step2, step4, step5, step6, step7, step17};
 ghost use Rattle.moir_lines.specs.Copies.{copy_line, copy_header};
 ghost use Rattle.moir_steps.specs.Ranges.{Standing};
 
+use crate::before::Before;
 use crate::items;
 use crate::word_places::Row;
 use llsc::ProcessNumber;
@@ -14,62 +13,59 @@ use moir_lines::{on_array, on_header, on_segment, records};
 use moir_model::{Bench, Moved, Process};
 
 // Lines 2 and 3.
-pub fn step_2(copy: CopyOf, bench: Bench, process: Process, words: &[u64]) -> Moved
-    requires { Standing bench process words.now }
-    ensures { (result, words.now) ≡ step2 (copy_line copy 4) (copy_line copy 7) (copy_header copy process) bench process words.now }
+// Kept: beside `step_6`, for one function over both would take the line as a closure, and a clause for what it computes.
+pub fn step_2(copy: CopyOf, before: &Before<'_>) -> Moved
+    ensures { (result, before.now.words.now) ≡ step2 (copy_line copy 4) (copy_line copy 7) (copy_header copy before.now.process) before.now.bench.now before.now.process before.now.words.now }
 {
-    let segment = items::segment_of(bench, process, words);
-    items::moved_on(bench, on_segment::do_line_2(copy, segment, process))
+    let next = on_segment::do_line_2(copy, before.segment(), before.process);
+    items::moved_on(*before.bench, next)
 }
 
 // Line 4.
-pub fn step_4(copy: CopyOf, bench: Bench, process: Process, words: &[u64]) -> Moved
-    requires { Standing bench process words.now × ((copy_header copy process).pid.0 < bench.n) }
-    ensures { (result, words.now) ≡ step4 (copy_line copy 5) (copy_header copy process) bench process words.now }
+pub fn step_4(copy: CopyOf, before: &Before<'_>) -> Moved
+    requires { (copy_header copy before.now.process).pid.0 < before.now.bench.now.n }
+    ensures { (result, before.now.words.now) ≡ step4 (copy_line copy 5) (copy_header copy before.now.process) before.now.bench.now before.now.process before.now.words.now }
 {
-    let row = Row::Announced(copy.header(process).pid);
-    let word = words[row.word(bench.n, bench.w, process.word)];
-    items::moved_on(bench, on_array::do_line_4(copy, word, process))
+    let word = before.word(Row::Announced(copy.header(before.process).pid));
+    let next = on_array::do_line_4(copy, word, before.process);
+    items::moved_on(*before.bench, next)
 }
 
 // Line 5: the segment is what the CAS leaves there.
-pub fn step_5(copy: CopyOf, bench: Bench, process: Process, words: &mut [u64]) -> Moved
+// Kept: bench, process and words one by one where a step writes: with a `&mut` in a struct each contract would say too
+// that it still is the caller's.
+pub fn step_5(copy: CopyOf, mut bench: Bench, process: Process, words: &mut [u64]) -> Moved
     requires { Standing bench process words.old }
     ensures { (result, words.new) ≡ step5 (copy_line copy 6) bench process words.old }
 {
     let k = process.word;
-    let segment = items::segment_of(bench, process, words);
-    let left = on_segment::do_line_5(segment, process);
+    let before = Before {
+        bench: &bench,
+        process,
+        words,
+    };
+    let left = on_segment::do_line_5(before.segment(), process);
     words[Row::Segments.word(bench.n, bench.w, k)] = left.val;
-    let next = records::to(copy.line(6), process);
-    items::moved_on(items::put_tag(bench, k, left.tag), next)
+    bench.tags[k] = left.tag;
+    items::moved_on(bench, records::to(copy.line(6), process))
 }
 
 // Line 6.
-pub fn step_6(copy: CopyOf, bench: Bench, process: Process, words: &[u64]) -> Moved
-    requires { Standing bench process words.now }
-    ensures { (result, words.now) ≡ step6 (copy_line copy 7) bench process words.now }
+pub fn step_6(copy: CopyOf, before: &Before<'_>) -> Moved
+    ensures { (result, before.now.words.now) ≡ step6 (copy_line copy 7) before.now.bench.now before.now.process before.now.words.now }
 {
-    let segment = items::segment_of(bench, process, words);
-    items::moved_on(bench, on_segment::do_line_6(copy, segment, process))
+    let next = on_segment::do_line_6(copy, before.segment(), before.process);
+    items::moved_on(*before.bench, next)
 }
 
-// Line 8: save[i] := y.val, where line 7 found the header as it was.
-fn save(p: ProcessNumber, bench: Bench, process: Process, words: &mut [u64])
-    requires { Standing bench process words.old × (p.0 < bench.n) }
-    ensures { words.new ≡ cond (saves bench.header process) (set words.old (return_word bench.n bench.w p process.word) process.y.val) words.old }
-{
-    if on_header::saves_word(bench.header, process) {
-        words[Row::Returned(p).word(bench.n, bench.w, process.word)] = process.y.val;
-    }
-}
-
-// Lines 7 to 9 in a WLL.
+// Lines 7 to 9 in a WLL. Line 8: save[i] := y.val, where line 7 found the header as it was.
 pub fn step_7(p: ProcessNumber, bench: Bench, process: Process, words: &mut [u64]) -> Moved
     requires { Standing bench process words.old × (p.0 < bench.n) }
     ensures { (result, words.new) ≡ step7 p bench process words.old }
 {
-    save(p, bench, process, words);
+    if on_header::saves_word(bench.header, process) {
+        words[Row::Returned(p).word(bench.n, bench.w, process.word)] = process.y.val;
+    }
     items::moved(
         bench,
         on_header::do_line_7(CopyOf::Wll, bench.w, bench.header, process),

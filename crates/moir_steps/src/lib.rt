@@ -2,6 +2,7 @@
 
 #![tactic(auto)]
 
+pub mod before;
 pub mod item_steps;
 pub mod items;
 pub mod orders;

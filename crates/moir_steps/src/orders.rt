@@ -20,6 +20,7 @@ fn begun(line: u8, bench: Bench, process: Process) -> Moved
 }
 
 // A WLL begins at line 10, an SC at line 14, with its words in the offer area, a VL at line 13.
+// Kept: order, p and value one by one, as the definition takes them, and no arm takes all three.
 #[tactic(auto, unfolding(moir_model::specs::Machine::obey))]
 pub fn obey(
     order: Order,

@@ -5,6 +5,7 @@ ghost use Rattle.moir_model.specs.Machine.{step_at};
 ghost use Rattle.moir_steps.specs.Items.{moved19};
 ghost use Rattle.moir_steps.specs.Ranges.{Ready};
 
+use crate::before::Before;
 use crate::{item_steps, items};
 use llsc::ProcessNumber;
 use moir_lines::copies::CopyOf;
@@ -22,6 +23,8 @@ fn step_19(bench: Bench, process: Process) -> Moved
 }
 
 // An idle process, and a line that is none (row 9 refuses it), stay as they are.
+// Kept: a match that calls. The lines take the header, a segment, a word or the words to write to, some in two Copies: a
+// table of functions would give all of them all of it.
 #[tactic(auto, unfolding(moir_model::specs::Machine::step_at))]
 pub fn step(p: ProcessNumber, bench: Bench, process: Process, words: &mut [u64]) -> Moved
     requires { Ready bench process p words.old }
@@ -29,20 +32,25 @@ pub fn step(p: ProcessNumber, bench: Bench, process: Process, words: &mut [u64])
 {
     let line = process.line;
     let header = bench.header;
+    let before = Before {
+        bench: &bench,
+        process,
+        words,
+    };
     match line {
         points::WLL_10 => items::moved_on(bench, on_header::do_line_10(header, process)),
-        points::WLL_2 => item_steps::step_2(CopyOf::Wll, bench, process, words),
-        points::WLL_4 => item_steps::step_4(CopyOf::Wll, bench, process, words),
+        points::WLL_2 => item_steps::step_2(CopyOf::Wll, &before),
+        points::WLL_4 => item_steps::step_4(CopyOf::Wll, &before),
         points::WLL_5 => item_steps::step_5(CopyOf::Wll, bench, process, words),
-        points::WLL_6 => item_steps::step_6(CopyOf::Wll, bench, process, words),
+        points::WLL_6 => item_steps::step_6(CopyOf::Wll, &before),
         points::WLL_7 => item_steps::step_7(p, bench, process, words),
         points::SC_14 => items::moved(bench, on_header::do_line_14(header, process)),
         points::SC_17 => item_steps::step_17(p, bench, process, words),
         points::SC_19 => step_19(bench, process),
-        points::SC_2 => item_steps::step_2(CopyOf::Sc, bench, process, words),
-        points::SC_4 => item_steps::step_4(CopyOf::Sc, bench, process, words),
+        points::SC_2 => item_steps::step_2(CopyOf::Sc, &before),
+        points::SC_4 => item_steps::step_4(CopyOf::Sc, &before),
         points::SC_5 => item_steps::step_5(CopyOf::Sc, bench, process, words),
-        points::SC_6 => item_steps::step_6(CopyOf::Sc, bench, process, words),
+        points::SC_6 => item_steps::step_6(CopyOf::Sc, &before),
         points::SC_7 => items::moved(
             bench,
             on_header::do_line_7(CopyOf::Sc, bench.w, header, process),

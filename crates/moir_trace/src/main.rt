@@ -13,18 +13,18 @@ fn main(rt: HostRuntime) -> Result<ExitCode, AllocError> {
     // room for the trace of 60,000 entries
     let mut list = vec![in rt.alloc(); 0; 3145728]?;
     let out = moir_run::texts::run_text(given, true, &mut list);
-    let mut errors = rt.stderr();
-    let told = messages::output(&mut rt.stdout(), &mut errors, list.get(..out.written)).and_then(
-        |()| {
-            moir_messages::explain(
-                &mut errors,
-                out.number,
-                out.entries,
-                out.report,
-                out.all,
-                given,
-            )
-        },
+    let ended = messages::Ended {
+        number: out.number,
+        entries: out.entries,
+        report: out.report,
+        text: given,
+    };
+    let status = messages::conclude(
+        &mut rt.stdout(),
+        &mut rt.stderr(),
+        list.get(..out.written),
+        ended,
+        moir_messages::left(out.all),
     );
-    Ok(console::status(told))
+    Ok(status)
 }

@@ -1,6 +1,7 @@
 -- Lines and columns by computation.
 use mathlib.Core.Path.{◌≡◌, refl}
 use mathlib.Core.List.{[]}
+use Rattle.std.specs.Prelude.{Some}
 use Rattle.listing.specs.Quoted.{quoted}
 use Rattle.positions.specs.Brackets.{unclosed_below, unclosed_in}
 use Rattle.positions.specs.Positions.{on_byte, seen_from, seen_in, line_after, column_after}
@@ -25,12 +26,12 @@ places = record
     { first_line = refl; first_column = refl; return_line = refl; return_column = refl; next_line = refl; next_column = refl; item_line = refl; item_column = refl }
 
 -- after "2 1 5\n12s34": the last byte is a digit, and the number that it is in began after an `s`
-in_number : (seen_in (quoted "2 1 5\n12s34")).mark ≡ 115
+in_number : (seen_in (quoted "2 1 5\n12s34")).mark ≡ Some 115
 unfolding on_byte seen_from
 in_number = refl
 
 -- after "2 1 5\n2( \n": the last byte that is no gap is the `(`
-in_brackets : (seen_in (quoted "2 1 5\n2( \n")).solid ≡ 40
+in_brackets : (seen_in (quoted "2 1 5\n2( \n")).solid ≡ Some 40
 unfolding on_byte seen_from
 in_brackets = refl
 

@@ -1,5 +1,5 @@
 -- Where a place of a text is for a reader: its line and its column, and what it comes after.
-use Rattle.std.specs.Prelude.{ℕ, ◌+◌, ◌<◌, List, [], ◌∷◌, Bool, true, false, cond, eqb, leb, ltb}
+use Rattle.std.specs.Prelude.{ℕ, ◌+◌, ◌<◌, List, [], ◌∷◌, Bool, true, false, cond, eqb, leb, ltb, None, Some}
 use Rattle.positions.specs.declared.Seen.{Seen}
 
 abbrev pub is_digit : ℕ → Bool
@@ -18,14 +18,14 @@ on_byte b s = record {
   feeds = counted s.feeds (eqb b 10);
   since = cond (eqb b 10) 0 (s.since + 1);
   spaces = counted s.spaces (eqb b 32);
-  last = b;
+  last = Some b;
   earlier = s.last;
-  mark = cond (is_digit b) s.mark b;
-  solid = cond (is_gap b) s.solid b;
+  mark = cond (is_digit b) s.mark (Some b);
+  solid = cond (is_gap b) s.solid (Some b);
 }
 
 abbrev pub at_start : Seen
-at_start = record { feeds = 0; since = 0; spaces = 0; last = 0; earlier = 0; mark = 0; solid = 0 }
+at_start = record { feeds = 0; since = 0; spaces = 0; last = None; earlier = None; mark = None; solid = None }
 
 unfoldable pub seen_from : List ℕ → Seen → Seen
 seen_from [] s = s

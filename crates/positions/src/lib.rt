@@ -14,22 +14,38 @@ pub struct Seen {
     pub since: usize,
     // the spaces passed
     pub spaces: usize,
-    // the last byte, the one before it, the last that is no digit, and the last that is neither space nor line feed; 0
-    // where there is none
-    pub last: u8,
-    pub earlier: u8,
-    pub mark: u8,
-    pub solid: u8,
+    // the last byte, the one before it, the last that is no digit, and the last that is neither space nor line feed
+    pub last: Option<u8>,
+    pub earlier: Option<u8>,
+    pub mark: Option<u8>,
+    pub solid: Option<u8>,
 }
 
-// What a text run tells of its stop beside its reply, for the messages: N and W of a right text's first line, the place at
-// which it stopped and the process of the entry there, 16 for any number above 15; 0 where there is none.
+// N and W, as a right text's first line has them.
 #[derive(Clone, Copy)]
-pub struct StopReport {
+pub struct Sizes {
     pub n: u64,
     pub w: u64,
+}
+
+// An item of a text: its place, and the process of its entry, 16 for any number above 15.
+#[derive(Clone, Copy)]
+pub struct Item {
     pub place: usize,
     pub process: u64,
+}
+
+// What a text run tells of its stop beside its reply, for the messages.
+#[derive(Clone, Copy)]
+pub enum StopReport {
+    // before it looked at the text
+    NotRead,
+    // at a place of a text that is not right
+    AtFault(usize),
+    // in a right text at no item: at its first line, or at its end
+    AtNoItem(Sizes),
+    // at the item whose entry is refused
+    AtItem(Sizes, Item),
 }
 
 // The bytes before the place, one after another.
@@ -40,10 +56,10 @@ pub fn look(before: &[u8]) -> Seen
         feeds: 0,
         since: 0,
         spaces: 0,
-        last: 0,
-        earlier: 0,
-        mark: 0,
-        solid: 0,
+        last: None,
+        earlier: None,
+        mark: None,
+        solid: None,
     };
     for b in before {
         s = on_byte(s, *b);
@@ -61,10 +77,10 @@ pub fn on_byte(s: Seen, b: u8) -> Seen
         feeds: counted(s.feeds, b == b'\n'),
         since: if b == b'\n' { 0 } else { s.since + 1 },
         spaces: counted(s.spaces, b == b' '),
-        last: b,
+        last: Some(b),
         earlier: s.last,
-        mark: if is_digit(b) { s.mark } else { b },
-        solid: if is_gap(b) { s.solid } else { b },
+        mark: if is_digit(b) { s.mark } else { Some(b) },
+        solid: if is_gap(b) { s.solid } else { Some(b) },
     }
 }
 

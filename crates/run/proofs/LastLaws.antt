@@ -9,7 +9,8 @@ use lib.ListN.{length}
 use lib.Seq.{sets}
 use borrow.Author.Tests.{eq-eqb, ne_eqb}
 use Rattle.listing.specs.Lines.{end_line, refused_line}
-use Rattle.listing.specs.Writing.{Room, Wrote}
+use Rattle.listing.specs.declared.Writer.{Writer}
+use Rattle.listing.specs.Writing.{Room, Wrote, Writes}
 use Rattle.listing.proofs.Lengths.{end_length, refused_length}
 use Rattle.entry.specs.declared.state.Run.{Run}
 use Rattle.run.specs.Finished.{last_of, Closable}
@@ -42,7 +43,7 @@ closable_room {r} x =
     record { fits = omega (arith, x.room, short) }
 
 -- what is made of the place after some bytes that were written, and the list with them
-pub with_written_lem : {A : Type 0} (f : ℕ → A) {l l' bs : List ℕ} {at next : ℕ} {out : A} → Wrote l at bs l' next → out ≡ f next
-    → ◌≡◌ {A = A × List ℕ} (out, l') (f (at + length bs), sets l at bs)
-with_written_lem f {l} {l'} {bs} {at} w o =
-    ap (λ y. (y, l')) (o ∙ ap f w.place) ∙ ap (λ (y : List ℕ). (f (at + length bs), y)) w.list
+pub with_written_lem : {A : Type 0} (f : ℕ → A) {l bs : List ℕ} {to to' : Writer} {out : A} → Writes to bs to' → l ≡ to'.list.now → out ≡ f to'.written
+    → ◌≡◌ {A = A × List ℕ} (out, l) (f (to.written + length bs), sets to.list.now to.written bs)
+with_written_lem f {l} {bs} {to} w e o =
+    ap (λ y. (y, l)) (o ∙ ap f w.place) ∙ ap (λ (y : List ℕ). (f (to.written + length bs), y)) (e ∙ w.list)

@@ -3,6 +3,7 @@ ghost use Rattle.std.specs.Prelude.{◌≡◌};
 ghost use Rattle.run.specs.Finished.{fresh_run, finished_of, closed, Closable};
 
 use entry::state::Run;
+use listing::Writer;
 use model::Bench;
 use positions::StopReport;
 use tables::records::Records;
@@ -55,6 +56,10 @@ pub fn ended(run: Run, report: StopReport, list: &mut [u8]) -> Finished
     requires { Closable run list.old }
     ensures { (result, list.new) ≡ closed run report list.old }
 {
-    let next = last_lines::write(run.stop, run.entries, list, run.written);
-    returned(run, report, next)
+    let mut to = Writer {
+        list,
+        written: run.written,
+    };
+    last_lines::write(run.stop, run.entries, &mut to);
+    returned(run, report, to.written)
 }

@@ -5,7 +5,6 @@ ghost use Rattle.llsc.specs.Refusals.{refusal_number};
 ghost use Rattle.model.specs.Records.{no_process};
 ghost use Rattle.tables.specs.Gathered.{gathered};
 ghost use Rattle.notation.specs.Grammar.{largest};
-ghost use Rattle.text_runs.specs.StopPlaces.{at_no_entry};
 ghost use Rattle.semantics.specs.StopPlaces.{StopInText};
 ghost use Rattle.text_runs.specs.KeptEntries.{entries_in, places_in};
 ghost use Rattle.run.specs.Finished.{memory_of, at_most_sixteen, Answers, Lending, Headed, TextRan, started_with, report_with, says_after, refused_with};
@@ -16,27 +15,25 @@ use llsc::refusals::Refusal;
 use model::Bench;
 use notation::items::Items;
 use notation::{First, items};
+use positions::{Sizes, StopReport};
 use tables::records::Records;
 use text_runs::{limits, lists, reports};
 
-// A run that is refused before its set-up, in either style, at no entry.
+// A run that is refused before its set-up, in either style.
 fn refused(
     bench: Bench,
     all: Records,
     len: usize,
     cause: Refusal,
-    n: u64,
-    w: u64,
-    place: usize,
+    report: StopReport,
     words: &mut [u64],
     list: &mut [u8],
 ) -> Finished
     requires { (Lending len all list.old) × (refusal_number cause ≤ 15) }
     ensures { Answers len result words.new list.new (refused_with (refusal_number cause) (memory_of bench all len words.old) list.old) ×
-        (result.report ≡ at_no_entry n w place) }
+        (result.report ≡ report) }
 {
     let run = last_line::fresh(bench, all, cause.number(), false);
-    let report = reports::at_no_entry(n, w, place);
     last_line::ended(run, report, list)
 }
 
@@ -62,7 +59,19 @@ fn started(
     let n = first.n as usize;
     let w = first.w as usize;
     if let Err(cause) = setup::set_up_refusal(n, w, len, words.len(), w) {
-        return refused(bench, all, len, cause, first.n, first.w, 0, words, list);
+        let sizes = Sizes {
+            n: first.n,
+            w: first.w,
+        };
+        return refused(
+            bench,
+            all,
+            len,
+            cause,
+            StopReport::AtNoItem(sizes),
+            words,
+            list,
+        );
     }
     let value = lists::repeated(first.initial);
     setup::words_at_set_up(words, n, w, &value[..w]);
@@ -95,15 +104,15 @@ fn checked(
     let read = match items::read_items(text, first.items, limits::DEEPEST, &mut kept, 0) {
         Ok(read) => read,
         Err(fault) => {
-            return refused(bench, all, len, fault.cause, 0, 0, fault.place, words, list);
+            let report = StopReport::AtFault(fault.place);
+            return refused(bench, all, len, fault.cause, report, words, list);
         }
     };
     match read {
         Items::Ended(count) => started(bench, all, len, traced, first, &kept, count, words, list),
         Items::Closed(next, _) => {
-            let place = next - 1;
-            let cause = Refusal::TextBroken;
-            refused(bench, all, len, cause, 0, 0, place, words, list)
+            let report = StopReport::AtFault(next - 1);
+            refused(bench, all, len, Refusal::TextBroken, report, words, list)
         }
     }
 }
@@ -132,10 +141,11 @@ fn run_in_style(
     let lent = records_seen(len);
     if list.len() < limits::room_needed(traced) {
         let run = last_line::fresh(bench, all, Refusal::NoRoom.number(), traced);
-        return last_line::returned(run, reports::at_no_entry(0, 0, 0), 0);
+        return last_line::returned(run, StopReport::NotRead, 0);
     }
     if limits::LONGEST_TEXT < text.len() {
-        return refused(bench, all, lent, Refusal::TooMuch, 0, 0, 0, words, list);
+        let report = StopReport::NotRead;
+        return refused(bench, all, lent, Refusal::TooMuch, report, words, list);
     }
     let header = notation::first_line(text);
     match header {
@@ -144,9 +154,7 @@ fn run_in_style(
             all,
             lent,
             Refusal::TextBroken,
-            0,
-            0,
-            place,
+            StopReport::AtFault(place),
             words,
             list,
         ),

@@ -1,4 +1,4 @@
-// Bytes, numbers and places of a text to a writer, for the programs, which hand in standard error. What can't be written
+// Bytes and places of a text to a writer, for the programs, which hand in standard error. What can't be written
 // there is lost: there is no other place to say so, and so a program lets the error go.
 
 #![tactic(auto)]
@@ -7,7 +7,6 @@ ghost use Rattle.std.specs.Prelude.{◌≡◌, ◌++◌, Some, OnOk, codes};
 ghost use Rattle.std.specs.Fmt.{decimal as Fmt·decimal};
 ghost use Rattle.std.specs.Io.KnownBytes.{Appends};
 ghost use Rattle.console.specs.Counts.{IsPrefixLen};
-ghost use Rattle.listing.specs.Decimal.{decimal};
 ghost use Rattle.saying.specs.Told.{place_after, place_in, place_text, position_text, byte_name};
 ghost use Rattle.saying.specs.Within.{within_text};
 
@@ -34,6 +33,8 @@ impl Place {
     }
 
     // The place that has so many of the text's bytes before it, or the text's end.
+    // Kept: a place beside its text, here and in `line` and `position`: what a run, a log or a listing tells of itself is
+    // a number, and each of eight callers would cut the text there, and see to a place past its end.
     pub fn of(text: &[u8], at: usize) -> Place
         ensures { result ≡ place_in text.now at }
     {
@@ -68,18 +69,6 @@ impl fmt::Display for Named {
     }
 }
 
-pub fn say<W: Write>(to: &mut W, bytes: &[u8]) -> io::Result<()>
-    ensures { OnOk result (Appends (W.contents to.old) (W.contents to.new) bytes.now) }
-{
-    to.write_all(bytes)
-}
-
-pub fn number<W: Write>(to: &mut W, n: u64) -> io::Result<()>
-    ensures { OnOk result (Appends (W.contents to.old) (W.contents to.new) (decimal n)) }
-{
-    console::print_decimal(to, n)
-}
-
 // The line of a place of the text.
 pub fn line<W: Write>(to: &mut W, text: &[u8], place: usize) -> io::Result<()>
     ensures { OnOk result (Appends (W.contents to.old) (W.contents to.new)
@@ -103,11 +92,4 @@ pub fn within(place: usize, text: &[u8]) -> usize
     ensures value { result ≡ within_text place text.now }
 {
     place.min(text.len())
-}
-
-// A byte by its name.
-pub fn byte<W: Write>(to: &mut W, b: u8) -> io::Result<()>
-    ensures { OnOk result (Appends (W.contents to.old) (W.contents to.new) (byte_name b)) }
-{
-    write!(to, "{}", Named(b))
 }

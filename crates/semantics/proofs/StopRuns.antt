@@ -26,14 +26,15 @@ use Rattle.text_runs.specs.TextRun as TR
 use Rattle.text_runs.specs.StopPlaces as SP
 use Rattle.semantics.specs.TextRun.{single, steps, carry, carry_all, run_with}
 use Rattle.positions.specs.declared.StopReport.{StopReport}
-use Rattle.text_runs.specs.StopPlaces.{at_place}
+use Rattle.positions.specs.declared.StopReport.TheVariants.{AtFault, AtItem}
+use Rattle.text_runs.specs.StopPlaces.{sizes, at_no_item}
 use Rattle.semantics.specs.StopPlaces.{stop_index, started_report, StopInText, StopsAt}
 use Rattle.semantics.proofs.BenchRuns.{dirty_x, dirty_bank, dirty_help, dirty_process, lent, dirty_bytes}
 
 -- the report by the reading of the text
 pub report_read : Bool → Memory → List ℕ → List ℕ → Reading → StopReport
 report_read t m text listing (right a) = started_report t listing a (locate_text text 0) (set_up m a.n a.w (replicate a.w a.initial))
-report_read t m text listing (wrong k left) = at_place (length text - left)
+report_read t m text listing (wrong k left) = AtFault (length text - left)
 
 -- is the one that the promise names
 module _ {t : Bool} {m : Memory} {text listing : List ℕ} {report : StopReport} (x : StopInText t m text listing report) where
@@ -50,45 +51,45 @@ module _ {t : Bool} {m : Memory} {text listing : List ℕ} {report : StopReport}
   by_reading (wrong k left) e =
       let p = wrong_has_fault text k left e in
       let at : p.at ≡ length text - left = omega (arith, wrong_at_fault text k k left p e) in
-      sym (x.fault k p) ∙ ap at_place at
+      sym (x.fault k p) ∙ ap AtFault at
 
 pub stops_by_reading : {t : Bool} {m : Memory} {text listing : List ℕ} {report : StopReport} → StopsAt t m text listing report
     → room_needed t ≤ length listing → length text ≤ longest_text → report ≡ report_read t m text listing (read text)
 stops_by_reading {text = text} x r l = by_reading (x.looked r l) (read text) refl
 
--- a text, the number of its refusal, the place of it, the process there, and N and W
+-- a stop at an item, by N, W, the item's place and its process
+abbrev pub item : ℕ → ℕ → ℕ → ℕ → StopReport
+item n w place process = AtItem (sizes n w) (record { place = place; process = process })
+
+-- a text, the number of its refusal, and where it stops
 pub record Stop : Type 0 where
   pub text : String
   pub number : ℕ
-  pub place : ℕ
-  pub process : ℕ
-  pub n : ℕ
-  pub w : ℕ
+  pub report : StopReport
 
 pub stop_of : Stop → Stop
 stop_of s =
     let text = quoted s.text in
-    let r = report_read false lent text (dirty_bytes 800) (read text) in
-    record { text = s.text; number = (run_with false lent text (dirty_bytes 800)).number; place = r.place; process = r.process; n = r.n; w = r.w }
+    record { text = s.text; number = (run_with false lent text (dirty_bytes 800)).number; report = report_read false lent text (dirty_bytes 800) (read text) }
 
 pub stops : List Stop
 stops =
     -- an entry is refused: the third item, an item of a group's later turn, an item behind a group
-    record { text = "2 1 5\n0l 0.\n 0l"; number = 5; place = 13; process = 0; n = 2; w = 1 } ∷
-    record { text = "2 1 5\n0l 20(0.)\n"; number = 6; place = 12; process = 0; n = 2; w = 1 } ∷
-    record { text = "2 1 5\n0l 2(0.) 2l\n"; number = 4; place = 15; process = 2; n = 2; w = 1 } ∷
+    record { text = "2 1 5\n0l 0.\n 0l"; number = 5; report = item 2 1 13 0 } ∷
+    record { text = "2 1 5\n0l 20(0.)\n"; number = 6; report = item 2 1 12 0 } ∷
+    record { text = "2 1 5\n0l 2(0.) 2l\n"; number = 4; report = item 2 1 15 2 } ∷
     -- the process of that item, not of its neighbours, and one above 15
-    record { text = "2 1 5\n1l 0l 1l\n"; number = 5; place = 12; process = 1; n = 2; w = 1 } ∷
-    record { text = "2 1 5\n1l 99s7\n"; number = 4; place = 9; process = 16; n = 2; w = 1 } ∷
+    record { text = "2 1 5\n1l 0l 1l\n"; number = 5; report = item 2 1 12 1 } ∷
+    record { text = "2 1 5\n1l 99s7\n"; number = 4; report = item 2 1 9 16 } ∷
     -- a fault: a `)` that closes nothing, the text's end, the first line, the ninth `(`
-    record { text = "2 1 5\n0l )"; number = 10; place = 9; process = 0; n = 0; w = 0 } ∷
-    record { text = "2 1 5\n0l 0"; number = 10; place = 10; process = 0; n = 0; w = 0 } ∷
-    record { text = "2 15\n"; number = 10; place = 4; process = 0; n = 0; w = 0 } ∷
-    record { text = "2 1 5\n1(1(1(1(1(1(1(1(1(0l"; number = 11; place = 23; process = 0; n = 0; w = 0 } ∷
+    record { text = "2 1 5\n0l )"; number = 10; report = AtFault 9 } ∷
+    record { text = "2 1 5\n0l 0"; number = 10; report = AtFault 10 } ∷
+    record { text = "2 15\n"; number = 10; report = AtFault 4 } ∷
+    record { text = "2 1 5\n1(1(1(1(1(1(1(1(1(0l"; number = 11; report = AtFault 23 } ∷
     -- at no item: the set-up is refused, and the end
-    record { text = "0 1 5\n0l\n"; number = 1; place = 0; process = 0; n = 0; w = 1 } ∷
-    record { text = "12 65 5\n0l\n"; number = 2; place = 0; process = 0; n = 12; w = 65 } ∷
-    record { text = "2 1 5\n0l 0!\n"; number = 0; place = 0; process = 0; n = 2; w = 1 } ∷
+    record { text = "0 1 5\n0l\n"; number = 1; report = at_no_item 0 1 } ∷
+    record { text = "12 65 5\n0l\n"; number = 2; report = at_no_item 12 65 } ∷
+    record { text = "2 1 5\n0l 0!\n"; number = 0; report = at_no_item 2 1 } ∷
     []
 
 pub stop_places : map stop_of stops ≡ stops
@@ -99,7 +100,7 @@ stop_places = refl
 
 -- so a run of the first one can promise no other report
 pub stops_at_13 : {report : StopReport} → StopsAt false lent (quoted "2 1 5\n0l 0.\n 0l") (dirty_bytes 800) report
-    → report ≡ record { n = 2; w = 1; place = 13; process = 0 }
+    → report ≡ item 2 1 13 0
 unfolding dirty_x dirty_bank dirty_help dirty_process lent dirty_bytes report_read read read_from proceed step starting inside whole scan go move said more
     on_digit at_end kind_of times locate_text locate stride SP.stop_index TR.carry_all TR.carry TR.steps TR.single command refusal obey step_at in_range set_up set_up_refusal
     ll_line truth_line end_line refused_line answer_head words_of decimal digits

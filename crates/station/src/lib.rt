@@ -10,7 +10,7 @@ ghost use Rattle.station.specs.StationSetUp.{empty_tables, empty_station, empty_
 use model::{BankPlace, BufferNumber, HelpPlace, SequenceNumber, XContent, XPlace};
 
 // A record's number, below R.
-#[derive(Clone, Copy)]
+#[derive(Clone, Copy, PartialEq, Eq)]
 pub struct RecordNumber(pub u8);
 
 // A record's X, Bank and Help, with their links.

@@ -5,8 +5,7 @@ use mathlib.Core.List.{List, []}
 use mathlib.Core.Bool.{Bool, cond, not, ◌&&◌}
 use Prim.Native.Nat.{ℕ, zero, suc, ◌≤◌, ◌<◌}
 use native.Mathlib.Omega.{arith}
-use lib.ListN.{length, get_or, set}
-use lib.Seq.{set_out}
+use lib.ListN.{length, get_or}
 use borrow.Author.Tests.{eq-eqb, ne_eqb, leb-false}
 use Rattle.llsc.specs.declared.Order.{Order}
 use Rattle.llsc.specs.Rows.{every, row4, row8}
@@ -71,19 +70,18 @@ module _ (s : Station) (ps : List StationProcess) (ws : List ℕ) where
         same_row (not (station_in_range lent)) 9 _ _ (λ r. same_row (row4 s.n p).holds 4 _ _ (λ t.
         ap calls (same_process p (leb-false s.n p t) h.n_most h.processes_lent))))
 
-    by_number : (k : ℕ) → number ≡ k → stored_back ps (station_decided s all (length ps) p o named v ws) ≡ station_command lent c
+    by_number : (k : ℕ) → number ≡ k → stored_back s ps (station_decided s all (length ps) p o named v ws) ≡ station_command lent c
     unfolding station_command
     by_number zero e =
         let h = accepts lent c (sym same_number ∙ e) in
         let q = same_process p h.below h.n_high h.processes in
-        ap (stored_back ps) (sym (obeyed_law s all (length ps) p o named v ws _ e refl)) ∙
-        ap (λ (r : StationProcess). stored_back ps (obeyed_at s (record_about o named r) r p (obeyed_on s (record_about o named r) r p o v ws))) q ∙
+        ap (stored_back s ps) (sym (obeyed_law s all (length ps) p o named v ws _ e refl)) ∙
+        ap (λ (r : StationProcess). stored_back s ps (obeyed_at s (record_about o named r) r p (obeyed_on s (record_about o named r) r p o v ws))) q ∙
         simp (eq-eqb (station_refusal lent c) 0 (sym same_number ∙ e))
     by_number (suc k) e =
         let n : number ≡ 0 → ⊥ = λ z. omega (arith, e, z) in
-        let out : set ps (length ps) empty_process ≡ ps = set_out ps (length ps) empty_process (omega arith) in
-        ap (stored_back ps) (sym (refused_law s all (length ps) p o named v ws number refl n)) ∙
-        simp (out, same_number, ne_eqb (station_refusal lent c) 0 (λ z. n (same_number ∙ z)))
+        ap (stored_back s ps) (sym (refused_law s all (length ps) p o named v ws number refl n)) ∙
+        simp (same_number, ne_eqb (station_refusal lent c) 0 (λ z. n (same_number ∙ z)))
 
-    pub decision_law : stored_back ps (station_decided s (gathered ps empty_process 16) (length ps) p o named v ws) ≡ station_command (station_memory s ps ws) c
+    pub decision_law : stored_back s ps (station_decided s (gathered ps empty_process 16) (length ps) p o named v ws) ≡ station_command (station_memory s ps ws) c
     decision_law = by_number number refl

@@ -10,6 +10,7 @@ use lib.ListN.{length, get_or}
 use borrow.Author.Tests.{eq-eqb, ne_eqb, le-ltb}
 use Rattle.model.specs.declared.Bench.{Bench}
 use Rattle.llsc.specs.declared.Order.{Order}
+use Rattle.std.specs.Prelude.{Result, Ok, Err}
 use Rattle.model.specs.declared.Moved.{Moved}
 use Rattle.model.specs.declared.Process.{Process}
 use Rattle.model.specs.Sizes.{buffers}
@@ -33,7 +34,7 @@ use Rattle.station_facts.proofs.Accepts.{Accepts, accepts, every_number}
 use Rattle.station_facts.proofs.RecordRows.{below_record}
 use Rattle.serving.proofs.RefusalFacts.{and_true}
 use Rattle.station_machine.specs.declared.Outcome.{Outcome}
-use Rattle.station_machine.specs.StationDecision.{rows_from, refused_outcome, obeyed_outcome, obeyed_at, obeyed_on, station_decided}
+use Rattle.station_machine.specs.StationDecision.{Decided, rows_from, obeyed_outcome, obeyed_at, obeyed_on, station_decided}
 
 -- no row holds, and so none does where row 3 counts other process records, enough of them
 more_lent : (a b c x y y' : Bool) (rest : ℕ) → cond a 1 (cond b 2 (cond c 23 (cond (x || y) 3 rest))) ≡ 0 → (a ≡ false → y' ≡ false)
@@ -118,7 +119,7 @@ module _ (s : Station) (list : List StationProcess) (len p : ℕ) (o : Order) (n
         }
 
   -- the two answers of a decision
-  pub refused_law : (k : ℕ) → k ≡ number → (k ≡ 0 → ⊥) → (refused_outcome s len k, words) ≡ station_decided s list len p o named value words
+  pub refused_law : (k : ℕ) → k ≡ number → (k ≡ 0 → ⊥) → ◌≡◌ {A = Decided} (Err k, words) (station_decided s list len p o named value words)
   unfolding station_decided
   refused_law k e h = rw e (simp (ne_eqb number 0 (λ z. h (e ∙ z))))
 
@@ -155,9 +156,9 @@ module _ (s : Station) (list : List StationProcess) (len p : ℕ) (o : Order) (n
     taken_small l e = rw record_is (record_small l e)
 
     pub whole : {m : Moved} {ws : List ℕ} {r : Outcome} → number ≡ 0 → (m, ws) ≡ obey_in (layout_from f) o (record { 0 = p }) value b u words → r ≡ obeyed_outcome s (record { 0 = i }) q' m p
-        → (r, ws) ≡ station_decided s list len p o named value words
+        → ◌≡◌ {A = Decided} (Ok r, ws) (station_decided s list len p o named value words)
     whole {m} {ws} e h g =
-        ap (λ (x : Outcome). (x, ws)) g
-        ∙ ap₂ (λ (k : ℕ) (x : StationProcess). (obeyed_outcome s (record { 0 = k }) x m p, ws)) record_is t.process_is
+        ap (λ (x : Outcome). (Ok x, ws)) g
+        ∙ ap₂ (λ (k : ℕ) (x : StationProcess). (Ok (obeyed_outcome s (record { 0 = k }) x m p), ws)) record_is t.process_is
         ∙ obeyed_law (m, ws) e (h ∙ ap (λ (x : FirstRows). obey_in (layout_from x) o (record { 0 = p }) value b u words) rows_at
         ∙ ap₂ (λ (x : Bench) (y : Process). obey_in (station_layout s.n s.r j) o (record { 0 = p }) value x y words) bench_at seen_at)

@@ -2,39 +2,27 @@
 
 #![tactic(auto)]
 
-ghost use Rattle.std.specs.Prelude.{◌≡◌, ◌≤◌, ◌<◌, length};
-ghost use Rattle.llsc.specs.Refusals.{refusal_number, number_told};
+ghost use Rattle.std.specs.Prelude.{◌≡◌, ◌≤◌, ◌<◌, Ok, length};
 ghost use Rattle.station_rows.specs.StationCommandRows.{station_number};
-ghost use Rattle.station_machine.specs.StationDecision.{rows_from, refused_outcome, obeyed_outcome, station_decided};
+ghost use Rattle.station_machine.specs.StationDecision.{rows_from, obeyed_outcome, numbered, station_decided};
 
+use llsc::ProcessNumber;
 use llsc::refusals::Refusal;
-use llsc::{Order, ProcessNumber};
 use model::{Moved, Reply, sizes};
 use station::{RecordNumber, Station, StationProcess};
+use station_records::gathered::Gathered;
+use station_rows::commands::Command;
 use station_rows::{causes, table};
 use steps::orders;
 use words::layouts::FirstRows;
 
-// What a command comes to. The caller stores `process` at place `at`; a refusal names the place after the last record,
-// where a store does nothing.
+// What a command that is obeyed comes to. The caller stores `process` at place `at`.
 #[derive(Clone, Copy)]
 pub struct Outcome {
     pub station: Station,
     pub at: usize,
     pub process: StationProcess,
     pub reply: Reply,
-}
-
-fn refused(station: Station, len: usize, refusal: Refusal) -> Outcome
-    ensures { result ≡ refused_outcome station len (refusal_number refusal) }
-{
-    Outcome {
-        station,
-        at: len,
-        process: station::empty_process(),
-        // Kept: 01 promises its users a number.
-        reply: Reply::Refused(refusal.number()),
-    }
 }
 
 fn obeyed(station: Station, j: RecordNumber, q: StationProcess, moved: Moved, p: usize) -> Outcome
@@ -62,24 +50,19 @@ fn rows_of(n: usize, r: usize, j: RecordNumber) -> FirstRows
     }
 }
 
-// The command, with the row that refuses it, if one does.
-pub fn decide_by(
-    refusal: Result<(), Refusal>,
-    station: Station,
-    all: [StationProcess; 16],
-    len: usize,
-    p: usize,
-    order: Order,
-    named: usize,
-    value: &[u64],
-    words: &mut [u64],
-) -> Outcome
-    requires { number_told refusal ≡ station_number station all len p order named (length value.now) (length words.old) }
-    ensures { (result, words.new) ≡ station_decided station all len p order named value.now words.old }
+// A command that no row refuses.
+pub fn obey(lent: Gathered, command: Command, value: &[u64], words: &mut [u64]) -> Outcome
+    requires { station_number lent.station lent.all lent.len command.process command.order command.named
+        (length value.now) (length words.old) ≡ 0 }
+    ensures { (Ok result, words.new)
+        ≡ station_decided lent.station lent.all lent.len command.process command.order command.named value.now words.old }
 {
-    if let Err(refusal) = refusal {
-        return refused(station, len, refusal);
-    }
+    let Command {
+        process: p,
+        order,
+        named,
+    } = command;
+    let Gathered { station, all, .. } = lent;
     let me = ProcessNumber(p as u8);
     let q = all[me.record_place()];
     let j = RecordNumber(causes::record_about(order, named, q) as u8);
@@ -90,19 +73,15 @@ pub fn decide_by(
     obeyed(station, j, q, moved, p)
 }
 
-// `all` holds the first sixteen lent process records, with a filler where there are fewer; `len` is how many were lent.
 pub fn decide(
-    station: Station,
-    all: [StationProcess; 16],
-    len: usize,
-    p: usize,
-    order: Order,
-    named: usize,
+    lent: Gathered,
+    command: Command,
     value: &[u64],
     words: &mut [u64],
-) -> Outcome
-    ensures { (result, words.new) ≡ station_decided station all len p order named value.now words.old }
+) -> Result<Outcome, Refusal>
+    ensures { (numbered result, words.new)
+        ≡ station_decided lent.station lent.all lent.len command.process command.order command.named value.now words.old }
 {
-    let refusal = table::refusal(station, all, len, p, order, named, value.len(), words.len());
-    decide_by(refusal, station, all, len, p, order, named, value, words)
+    table::refusal(lent, command, value.len(), words.len())?;
+    Ok(obey(lent, command, value, words))
 }

@@ -2,6 +2,8 @@
 
 #![tactic(auto)]
 
+pub mod gathered;
+
 ghost use Rattle.std.specs.Prelude.{◌≡◌, ◌<◌, cond, eqb, get_or};
 ghost use Rattle.station.specs.Station.{no_tables, holding_at};
 ghost use Rattle.station.specs.Projection.{elsewhere, process_of, put_tables, put_process};
@@ -63,7 +65,7 @@ pub fn holding_at(q: StationProcess, j: RecordNumber) -> Holding
 pub fn is_elsewhere(j: RecordNumber, q: StationProcess) -> bool
     ensures { result ≡ elsewhere j q }
 {
-    !q.is_at_rest() && q.called.0 != j.0
+    !q.is_at_rest() && q.called != j
 }
 
 // The process record as record j's bench has it.

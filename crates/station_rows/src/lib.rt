@@ -3,5 +3,6 @@
 #![tactic(auto)]
 
 pub mod causes;
+pub mod commands;
 pub mod ranges;
 pub mod table;

@@ -15,7 +15,7 @@ use station::{RecordNumber, Station, StationProcess};
 pub fn called_ok(r: usize, q: StationProcess) -> bool
     ensures { result ≡ called_ok r q }
 {
-    (q.called.0 as usize) < r && (!q.is_at_rest() || q.called.0 == 0)
+    (q.called.0 as usize) < r && (!q.is_at_rest() || q.called == RecordNumber(0))
 }
 
 // The process as each of the R records' benches has it.

@@ -3,11 +3,12 @@ ghost use Rattle.std.specs.Prelude.{◌≡◌, ◌≤◌};
 ghost use Rattle.llsc.specs.Refusals.{number_told};
 ghost use Rattle.station_rows.specs.StationCommandRows.{station_lent_number, station_memory_number, station_number, station_late_number};
 
+use crate::commands::Command;
 use crate::{causes, ranges};
+use llsc::ProcessNumber;
 use llsc::refusals::Refusal;
-use llsc::{Order, ProcessNumber};
 use rows::causes as plain;
-use station::{Station, StationProcess};
+use station_records::gathered::Gathered;
 
 // Rows 1, 2, 23, 3, with which a command and a set-up begin: the first that holds.
 #[tactic(auto, unfolding(crate::specs::StationCommandRows::station_lent_number))]
@@ -27,53 +28,41 @@ pub fn lent_refusal(
     Refusal::TooLittleLent.if_holds(plain::too_little_lent(n, needed, processes, words))
 }
 
-// Rows 1, 2, 23, 3, 9: whether the lent memory is in order, for `len` process records lent.
+// Rows 1, 2, 23, 3, 9: whether the lent memory is in order, with so many words lent.
 #[tactic(auto, unfolding(crate::specs::StationCommandRows::station_lent_number, crate::specs::StationCommandRows::station_memory_number))]
-pub fn memory_refusal(
-    station: Station,
-    all: [StationProcess; 16],
-    len: usize,
-    words: usize,
-) -> Result<(), Refusal>
-    ensures { number_told result ≡ station_memory_number station all len words }
+pub fn memory_refusal(lent: Gathered, words: usize) -> Result<(), Refusal>
+    ensures { number_told result ≡ station_memory_number lent.station lent.all lent.len words }
 {
-    lent_refusal(station.n, station.w, station.r, len, words)?;
-    Refusal::NumberOutOfRange.if_holds(!ranges::in_range(station, all))
+    let station = lent.station;
+    lent_refusal(station.n, station.w, station.r, lent.len, words)?;
+    Refusal::NumberOutOfRange.if_holds(!ranges::in_range(station, lent.all))
 }
 
-// The first row that holds.
-pub fn refusal(
-    station: Station,
-    all: [StationProcess; 16],
-    len: usize,
-    p: usize,
-    order: Order,
-    named: usize,
-    value: usize,
-    words: usize,
-) -> Result<(), Refusal>
-    ensures { number_told result ≡ station_number station all len p order named value words }
+// The first row that holds, for a value of so many words.
+pub fn refusal(lent: Gathered, command: Command, value: usize, words: usize) -> Result<(), Refusal>
+    ensures { number_told result
+        ≡ station_number lent.station lent.all lent.len command.process command.order command.named value words }
 {
-    memory_refusal(station, all, len, words)?;
-    late_refusal(station, all, p, order, named, value)
+    memory_refusal(lent, words)?;
+    late_refusal(lent, command, value)
 }
 
 // Rows 4, 24, 8, 5, 6, 7: all that a command can be refused for where the lent memory is in order.
 #[tactic(auto, unfolding(crate::specs::StationCommandRows::station_late_number))]
-pub fn late_refusal(
-    station: Station,
-    all: [StationProcess; 16],
-    p: usize,
-    order: Order,
-    named: usize,
-    value: usize,
-) -> Result<(), Refusal>
-    requires { (station.n ≤ 16) × (station.r ≤ 8) }
-    ensures { number_told result ≡ station_late_number station all p order named value }
+pub fn late_refusal(lent: Gathered, command: Command, value: usize) -> Result<(), Refusal>
+    requires { (lent.station.n ≤ 16) × (lent.station.r ≤ 8) }
+    ensures { number_told result
+        ≡ station_late_number lent.station lent.all command.process command.order command.named value }
 {
-    Refusal::NoSuchProcess.if_holds(plain::no_such_process(station.n, p))?;
+    let Command {
+        process,
+        order,
+        named,
+    } = command;
+    let Gathered { station, all, .. } = lent;
+    Refusal::NoSuchProcess.if_holds(plain::no_such_process(station.n, process))?;
     Refusal::NoSuchRecord.if_holds(causes::no_such_record(order, station.r, named))?;
-    let q = all[ProcessNumber(p as u8).record_place()];
+    let q = all[ProcessNumber(process as u8).record_place()];
     let answered = causes::answered_for(order, named, q);
     rows::table::call_refusal(order, station.w, value, q.is_at_rest(), answered)
 }

@@ -4,6 +4,7 @@ ghost use Rattle.station_setup.specs.SetUpGathered.{told_all, set_up_gathered};
 
 use llsc::refusals::Refusal;
 use station::{Station, StationProcess};
+use station_records::gathered::Gathered;
 
 // The station record and the process records after a set-up; the first N of these are to be stored back.
 #[derive(Clone, Copy)]
@@ -12,20 +13,19 @@ pub struct NewSetUp {
     pub all: [StationProcess; 16],
 }
 
-// The set-up by value, but for the lent words, which it writes; `len` process records are lent.
+// The set-up by value, but for the lent words, which it writes.
 pub fn set_up_gathered(
-    station: Station,
-    all: [StationProcess; 16],
-    len: usize,
+    lent: Gathered,
     n: usize,
     w: usize,
     r: usize,
     value: &[u64],
     words: &mut [u64],
 ) -> Result<NewSetUp, Refusal>
-    ensures { (told_all station all result, words.new) ≡ set_up_gathered station all len n w r value.now words.old }
+    ensures { (told_all lent.station lent.all result, words.new)
+        ≡ set_up_gathered lent.station lent.all lent.len n w r value.now words.old }
 {
-    let station = crate::prepare(station, len, n, w, r, value, words)?;
-    let all = crate::processes_at_set_up(all, n, r, n);
+    let station = crate::prepare(lent.station, lent.len, n, w, r, value, words)?;
+    let all = crate::processes_at_set_up(lent.all, n, r, n);
     Ok(NewSetUp { station, all })
 }

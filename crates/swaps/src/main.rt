@@ -21,18 +21,18 @@ fn main(rt: HostRuntime) -> Result<ExitCode, AllocError> {
     let out = run::text_run::trace_by_value(bench, all, 16, &mut words, given, &mut list);
     let trace = &list[..out.written.min(list.len())];
     let count = marking::output::mark_lines(trace, &mut marked);
-    let mut errors = rt.stderr();
-    let told = messages::output(&mut rt.stdout(), &mut errors, marked.get(..count)).and_then(
-        |()| {
-            messages::figure2::explain(
-                &mut errors,
-                out.number,
-                out.entries,
-                out.report,
-                out.all,
-                given,
-            )
-        },
+    let ended = messages::Ended {
+        number: out.number,
+        entries: out.entries,
+        report: out.report,
+        text: given,
+    };
+    let status = messages::conclude(
+        &mut rt.stdout(),
+        &mut rt.stderr(),
+        marked.get(..count),
+        ended,
+        messages::figure2::left(out.all),
     );
-    Ok(console::status(told))
+    Ok(status)
 }

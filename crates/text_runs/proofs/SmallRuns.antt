@@ -15,6 +15,7 @@ use Rattle.listing.specs.Lines.{end_line, refused_line}
 use Rattle.trace_parts.specs.TraceParts.{spaced, head_text, brought_text, start_line}
 use Rattle.text_runs.specs.Machines.{Machine}
 use Rattle.text_runs.specs.TextRun.{Ended, single, steps, carry, carry_all, begun, ended}
+use Rattle.positions.specs.declared.StopReport.TheVariants.{AtItem}
 use Rattle.text_runs.specs.StopPlaces.{stop_index, item_report}
 
 -- the steps that the open call has left, 0 where there is none: a start, and a step
@@ -81,6 +82,6 @@ traced = refl
 
 -- the item whose entry stopped the run: its place and its process
 stopped_at_lem : item_report two_steps 1 1 (StartLl 0 ∷ Finish 0 ∷ StartLl 3 ∷ Step 0 ∷ []) (7 ∷ 8 ∷ 9 ∷ 10 ∷ []) (begun two_steps false 0 (replicate 900 0) 0)
-    ≡ record { n = 1; w = 1; place = 9; process = 3 }
+    ≡ AtItem (record { n = 1; w = 1 }) (record { place = 9; process = 3 })
 unfolding start step obeyed carry_all carry steps single stop_index
 stopped_at_lem = refl

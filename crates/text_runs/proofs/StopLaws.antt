@@ -23,9 +23,10 @@ use Rattle.notation.proofs.ListedText.{listed_says, words_say, words_stand}
 use Rattle.notation.proofs.ReplyPlaces.{no_first_fault, no_first_place, broken_fault, broken_place, closed_fault, closed_at}
 use Rattle.notation.proofs.Theorems.{read_is_right, fault_is_wrong}
 use Rattle.positions.specs.declared.StopReport.{StopReport}
+use Rattle.positions.specs.declared.StopReport.TheVariants.{NotRead, AtFault, AtItem}
 use Rattle.text_runs.specs.Machines.{Machine}
 use Rattle.text_runs.specs.TextRun.{Progress, process_of, room_needed, longest_text, begun, carry, carry_all}
-use Rattle.text_runs.specs.StopPlaces.{reported_process, at_no_item, at_place, at_entry, stop_index, item_report, started_report, StopInText, StopsAt}
+use Rattle.text_runs.specs.StopPlaces.{reported_process, sizes, at_no_item, at_entry, stop_index, item_report, started_report, StopInText, StopsAt}
 use Rattle.text_runs.specs.KeptEntries.{entries_in, places_in, word_report, said_with, report_with}
 use Rattle.text_runs.proofs.KeptLaws.{FarRefused, kept_run, kept_index}
 use Rattle.text_runs.proofs.MiddleLaws.{Over}
@@ -63,8 +64,8 @@ kept_entry_lem n w es ps i small =
     ap (λ (e : Entry). reported_process (process_of e)) (get_or-map kept_entry (take 60001 es) i (StartLl 0))
     ∙ kept_process_lem (get_or (take 60001 es) i (StartLl 0))
     ∙ ap (λ (e : Entry). reported_process (process_of e)) (get_or-take 60001 es i (StartLl 0) small) in
-    ap (λ (place : ℕ). record { n = n; w = w; place = place; process = process_at (map kept_entry (take 60001 es)) i }) (get_or-take 60001 ps i 0 small)
-    ∙ ap (λ (p : ℕ). record { n = n; w = w; place = get_or ps i 0; process = p }) process
+    ap (λ (place : ℕ). AtItem (sizes n w) (record { place = place; process = process_at (map kept_entry (take 60001 es)) i })) (get_or-take 60001 ps i 0 small)
+    ∙ ap (λ (p : ℕ). AtItem (sizes n w) (record { place = get_or ps i 0; process = p })) process
 
 -- the word of an entry has the place of its item, and its process
 word_at : (n w count at : ℕ) (entries : List ℕ) → at < count → at_entry n w (entries_in count entries) (places_in count entries) at ≡ word_report n w (get_or entries at 0)
@@ -73,8 +74,8 @@ word_at n w count at entries l =
     let word : get_or (take count entries) at 0 ≡ get_or entries at 0 = get_or-take count entries at 0 l in
     let place : get_or (places_in count entries) at 0 ≡ place_in (get_or entries at 0) = get_or-map place_in (take count entries) at 0 ∙ ap place_in word in
     let entry : get_or (entries_in count entries) at (StartLl 0) ≡ entry_in (get_or entries at 0) = get_or-map entry_in (take count entries) at 0 ∙ ap entry_in word in
-    ap (λ (j : ℕ). record { n = n; w = w; place = j; process = process_at (entries_in count entries) at }) place
-    ∙ ap (λ (e : Entry). record { n = n; w = w; place = place_in (get_or entries at 0); process = reported_process (process_of e) }) entry
+    ap (λ (j : ℕ). AtItem (sizes n w) (record { place = j; process = process_at (entries_in count entries) at })) place
+    ∙ ap (λ (e : Entry). AtItem (sizes n w) (record { place = place_in (get_or entries at 0); process = reported_process (process_of e) })) entry
 
 module _ (M : Machine) where
   -- a run that is stopped is stopped by one of its entries
@@ -112,17 +113,17 @@ module _ (M : Machine) where
 
   -- a text with a fault, wherever the reader says that it stands
   module _ {t : Bool} {m : M.Memory} {s list : List ℕ} where
-    at_fault : {k place : ℕ} → Fault s k → ((j : ℕ) (p : Fault s j) → p.at ≡ place) → StopInText M t m s list (at_place place)
-    at_fault {k} q f = record { fault = λ j p. ap at_place (f j p); item = λ x is. absurd (fault_is_wrong s k q (record { tree = x; text = is })) }
+    at_fault : {k place : ℕ} → Fault s k → ((j : ℕ) (p : Fault s j) → p.at ≡ place) → StopInText M t m s list (AtFault place)
+    at_fault {k} q f = record { fault = λ j p. ap AtFault (f j p); item = λ x is. absurd (fault_is_wrong s k q (record { tree = x; text = is })) }
 
-    pub line_stops : {place : ℕ} → NotHeaded s place → StopInText M t m s list (at_place place)
+    pub line_stops : {place : ℕ} → NotHeaded s place → StopInText M t m s list (AtFault place)
     line_stops h = at_fault (no_first_fault h) (λ j. no_first_place h)
 
     module _ {n w v items : ℕ} (h : Headed s n w v items) where
-      pub broken_stops : {k place : ℕ} → ItemsBroken s items deepest k place → StopInText M t m s list (at_place place)
+      pub broken_stops : {k place : ℕ} → ItemsBroken s items deepest k place → StopInText M t m s list (AtFault place)
       broken_stops i = at_fault (broken_fault h i) (λ j. broken_place h i)
 
-      pub closed_stops : {next : ℕ} {es : List Entry} → ItemsClosed s items deepest next es → StopInText M t m s list (at_place (next - 1))
+      pub closed_stops : {next : ℕ} {es : List Entry} → ItemsClosed s items deepest next es → StopInText M t m s list (AtFault (next - 1))
       closed_stops i = at_fault (closed_fault h i) (λ j p. omega (arith, closed_at h i p))
 
     pub report_is : {report given : StopReport} → report ≡ given → StopInText M t m s list given → StopInText M t m s list report
@@ -130,10 +131,10 @@ module _ (M : Machine) where
 
   -- the whole text run
   module _ {t : Bool} {m : M.Memory} {text list : List ℕ} where
-    pub stops_14 : length list < room_needed t → StopsAt M t m text list (at_place 0)
+    pub stops_14 : length list < room_needed t → StopsAt M t m text list NotRead
     stops_14 l = record { no_room = λ r. refl; too_long = λ r. refl; looked = λ r s. absurd (omega arith) }
 
-    pub stops_12 : {report : StopReport} → longest_text < length text → report ≡ at_place 0 → StopsAt M t m text list report
+    pub stops_12 : {report : StopReport} → longest_text < length text → report ≡ NotRead → StopsAt M t m text list report
     stops_12 l z = record { no_room = λ r. z; too_long = λ r. z; looked = λ r s. absurd (omega arith) }
 
     pub stops_looked : {report : StopReport} → room_needed t ≤ length list → length text ≤ longest_text → StopInText M t m text list report → StopsAt M t m text list report

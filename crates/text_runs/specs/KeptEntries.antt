@@ -6,10 +6,12 @@ use Rattle.notation.specs.Grammar.{Said, deepest}
 use Rattle.notation.specs.EntryWords.{entry_in, place_in}
 use Rattle.notation.specs.Scan.{scan, between}
 use Rattle.notation.specs.FirstLine.{whole}
+use Rattle.positions.specs.declared.Item.{Item}
 use Rattle.positions.specs.declared.StopReport.{StopReport}
+use Rattle.positions.specs.declared.StopReport.TheVariants.{AtItem}
 use Rattle.text_runs.specs.Machines.{Machine}
 use Rattle.text_runs.specs.TextRun.{Ended, process_of, ended, begun, started, carried_out}
-use Rattle.text_runs.specs.StopPlaces.{reported_process, started_report}
+use Rattle.text_runs.specs.StopPlaces.{reported_process, sizes, started_report}
 
 -- the entries that the list of a text keeps
 abbrev pub entries_in : ℕ → List ℕ → List Entry
@@ -20,8 +22,11 @@ abbrev pub places_in : ℕ → List ℕ → List ℕ
 places_in count list = map place_in (take count list)
 
 -- what a number of the list reports of the item that it keeps
+abbrev pub word_item : ℕ → Item
+word_item word = record { place = place_in word; process = reported_process (process_of (entry_in word)) }
+
 abbrev pub word_report : ℕ → ℕ → ℕ → StopReport
-word_report n w word = record { n = n; w = w; place = place_in word; process = reported_process (process_of (entry_in word)) }
+word_report n w word = AtItem (sizes n w) (word_item word)
 
 -- what a text with this first line and these entries says
 abbrev pub said_with : ℕ → ℕ → ℕ → List Entry → Said

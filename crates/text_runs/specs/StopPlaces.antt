@@ -5,7 +5,9 @@ use Rattle.notation.specs.declared.Entry.{Entry}
 use Rattle.notation.specs.declared.Entry.TheVariants.{StartLl}
 use Rattle.notation.specs.Grammar.{Text, Said, bytes, says, places, deepest}
 use Rattle.notation.specs.Right.{Fault}
+use Rattle.positions.specs.declared.Sizes.{Sizes}
 use Rattle.positions.specs.declared.StopReport.{StopReport}
+use Rattle.positions.specs.declared.StopReport.TheVariants.{NotRead, AtFault, AtNoItem, AtItem}
 use Rattle.text_runs.specs.Machines.{Machine}
 use Rattle.text_runs.specs.TextRun.{Progress, process_of, carry, carry_all, begun, room_needed, longest_text}
 
@@ -13,21 +15,17 @@ use Rattle.text_runs.specs.TextRun.{Progress, process_of, carry, carry_all, begu
 abbrev pub reported_process : ℕ → ℕ
 reported_process p = cond (leb p 15) p 16
 
--- a stop at no entry
-abbrev pub at_no_entry : ℕ → ℕ → ℕ → StopReport
-at_no_entry n w place = record { n = n; w = w; place = place; process = 0 }
+-- N and W
+abbrev pub sizes : ℕ → ℕ → Sizes
+sizes n w = record { n = n; w = w }
 
--- where N and W were read
+-- a stop at no item, where N and W were read
 abbrev pub at_no_item : ℕ → ℕ → StopReport
-at_no_item n w = at_no_entry n w 0
-
--- at a place of a text that is not right, or is not looked at: nothing of it is reported as read
-abbrev pub at_place : ℕ → StopReport
-at_place place = at_no_entry 0 0 place
+at_no_item n w = AtNoItem (sizes n w)
 
 -- a stop at the entry with this index, where `ps` are the places of the entries
 abbrev pub at_entry : ℕ → ℕ → List Entry → List ℕ → ℕ → StopReport
-at_entry n w es ps i = record { n = n; w = w; place = get_or ps i 0; process = reported_process (process_of (get_or es i (StartLl 0))) }
+at_entry n w es ps i = AtItem (sizes n w) (record { place = get_or ps i 0; process = reported_process (process_of (get_or es i (StartLl 0))) })
 
 module _ (M : Machine) where
   -- "After a refused entry nothing more runs.": how many of the entries are carried out whole before the one that stops
@@ -49,13 +47,13 @@ module _ (M : Machine) where
 pub record StopInText (M : Machine) (t : Bool) (m : M.Memory) (text listing : List ℕ) (report : StopReport) : Type 0 where
   -- "A fault 10 or 11 stands at the first byte (the text's end counts as one) after which no text of any length could
   -- be right"
-  pub fault : (k : ℕ) (p : Fault text k) → at_place p.at ≡ report
+  pub fault : (k : ℕ) (p : Fault text k) → AtFault p.at ≡ report
   pub item : (x : Text deepest) → bytes x ≡ text → let a = says x in
       report ≡ started_report M t listing a (places x) (M.set_up m a.n a.w (replicate a.w a.initial))
 
 -- The stop of a text run, whatever it was given: a text that is looked at is right or has one fault.
 pub record StopsAt (M : Machine) (t : Bool) (m : M.Memory) (text listing : List ℕ) (report : StopReport) : Type 0 where
   -- "14 at its start, then 12 for length": the text is not looked at
-  pub no_room : length listing < room_needed t → report ≡ at_place 0
-  pub too_long : longest_text < length text → report ≡ at_place 0
+  pub no_room : length listing < room_needed t → report ≡ NotRead
+  pub too_long : longest_text < length text → report ≡ NotRead
   pub looked : room_needed t ≤ length listing → length text ≤ longest_text → StopInText M t m text listing report

@@ -1,16 +1,18 @@
 // The last line of a text run.
-ghost use Rattle.listing.specs.Writing.{Room, Wrote};
+ghost use Rattle.listing.specs.Writing.{Fits, Writes};
 ghost use Rattle.text_runs.specs.Parts.{last_text};
 
-// "The last line is `end E` or `refused C E`", from a place of the listing on; the place after it.
-pub fn write(stop: u8, entries: usize, list: &mut [u8], at: usize) -> usize
-    requires { Room list.old at (last_text stop entries) }
-    ensures { Wrote list.old at (last_text stop entries) list.new result }
+use listing::Writer;
+
+// "The last line is `end E` or `refused C E`".
+pub fn write(stop: u8, entries: usize, to: &mut Writer<'_>)
+    requires { Fits to.old (last_text stop entries) }
+    ensures { Writes to.old (last_text stop entries) to.new }
 {
     let done = entries as u64;
     if stop == 0 {
-        listing::end_line(list, at, done)
+        to.end_line(done);
     } else {
-        listing::refused_line(list, at, stop as u64, done)
+        to.refused_line(stop as u64, done);
     }
 }

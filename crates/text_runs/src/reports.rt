@@ -1,23 +1,11 @@
 // Where a run stopped, for its messages.
 ghost use Rattle.std.specs.Prelude.{◌≡◌, cond, ◌<◌, eqb, length, get_or};
-ghost use Rattle.text_runs.specs.StopPlaces.{reported_process, at_no_entry, at_no_item};
-ghost use Rattle.text_runs.specs.KeptEntries.{word_report};
+ghost use Rattle.text_runs.specs.StopPlaces.{reported_process, at_no_item};
+ghost use Rattle.text_runs.specs.KeptEntries.{word_item, word_report};
 
 use crate::entries;
 use notation::entry_words;
-use positions::StopReport;
-
-// A stop at no entry.
-pub fn at_no_entry(n: u64, w: u64, place: usize) -> StopReport
-    ensures { result ≡ at_no_entry n w place }
-{
-    StopReport {
-        n,
-        w,
-        place,
-        process: 0,
-    }
-}
+use positions::{Item, Sizes, StopReport};
 
 // N is at most 16, so that all above 15 are reported alike.
 fn reported_process(p: u64) -> u64
@@ -27,18 +15,13 @@ fn reported_process(p: u64) -> u64
 }
 
 // The item that a number of the list keeps: its place, and the process of its entry.
-fn word_report(n: u64, w: u64, word: u64) -> StopReport
-    ensures { result ≡ word_report n w word }
+fn word_item(word: u64) -> Item
+    ensures { result ≡ word_item word }
 {
     let e = entry_words::entry_in(word);
     let place = entry_words::item_place(word);
     let process = reported_process(entries::process_of(e));
-    StopReport {
-        n,
-        w,
-        place,
-        process,
-    }
+    Item { place, process }
 }
 
 // The item that stopped a run at a place of its list; none where none did.
@@ -46,9 +29,10 @@ pub fn stop_report(n: u64, w: u64, stop: u8, kept: &[u64], at: usize) -> StopRep
     requires { (stop ≡ 0 → ⊥) → at < length kept.now }
     ensures { result ≡ cond (eqb stop 0) (at_no_item n w) (word_report n w (get_or kept.now at 0)) }
 {
+    let sizes = Sizes { n, w };
     if stop == 0 {
-        at_no_entry(n, w, 0)
+        StopReport::AtNoItem(sizes)
     } else {
-        word_report(n, w, kept[at])
+        StopReport::AtItem(sizes, word_item(kept[at]))
     }
 }

@@ -16,18 +16,18 @@ fn main(rt: HostRuntime) -> Result<ExitCode, AllocError> {
     let bench = model::empty_bench();
     let all = tables::records::records_of(tables::records::no_process());
     let out = run::text_run::trace_by_value(bench, all, 16, &mut words, given, &mut list);
-    let mut errors = rt.stderr();
-    let told = messages::output(&mut rt.stdout(), &mut errors, list.get(..out.written)).and_then(
-        |()| {
-            messages::figure2::explain(
-                &mut errors,
-                out.number,
-                out.entries,
-                out.report,
-                out.all,
-                given,
-            )
-        },
+    let ended = messages::Ended {
+        number: out.number,
+        entries: out.entries,
+        report: out.report,
+        text: given,
+    };
+    let status = messages::conclude(
+        &mut rt.stdout(),
+        &mut rt.stderr(),
+        list.get(..out.written),
+        ended,
+        messages::figure2::left(out.all),
     );
-    Ok(console::status(told))
+    Ok(status)
 }

@@ -2,86 +2,86 @@
 
 #![tactic(auto)]
 
-ghost use Rattle.listing.specs.Writing.{Room, Wrote};
+ghost use Rattle.listing.specs.Writing.{Fits, Writes};
 ghost use Rattle.trace_parts.specs.TraceParts.{spaced, bracketed, head_text, truth_text, end_text, brought_text, start_line};
 
-#[tactic(auto, unfolding(crate::specs::TraceParts::spaced), using(listing::proofs::WritingLaws::writing))]
-pub fn spaced(list: &mut [u8], at: usize, n: u64) -> usize
-    requires { Room list.old at (spaced n) }
-    ensures { Wrote list.old at (spaced n) list.new result }
+use listing::Writer;
+
+#[tactic(auto, unfolding(crate::specs::TraceParts::spaced))]
+pub fn spaced(to: &mut Writer<'_>, n: u64)
+    requires { Fits to.old (spaced n) }
+    ensures { Writes to.old (spaced n) to.new }
 {
-    let a = listing::put(list, at, b' ');
-    listing::number(list, a, n)
+    to.put(b' ');
+    to.number(n);
 }
 
 // A number in brackets.
-#[tactic(auto, unfolding(crate::specs::TraceParts::bracketed), using(listing::proofs::WritingLaws::writing))]
-pub fn bracketed(list: &mut [u8], at: usize, n: u64) -> usize
-    requires { Room list.old at (bracketed n) }
-    ensures { Wrote list.old at (bracketed n) list.new result }
+#[tactic(auto, unfolding(crate::specs::TraceParts::bracketed), using(listing::proofs::WritingLaws::writes_then))]
+pub fn bracketed(to: &mut Writer<'_>, n: u64)
+    requires { Fits to.old (bracketed n) }
+    ensures { Writes to.old (bracketed n) to.new }
 {
-    let a = listing::put(list, at, b'[');
-    let b = listing::number(list, a, n);
-    listing::put(list, b, b']')
+    to.put(b'[');
+    to.number(n);
+    to.put(b']');
 }
 
 // The entry number and the process.
-#[tactic(auto, unfolding(crate::specs::TraceParts::head_text), using(listing::proofs::WritingLaws::writing))]
-pub fn head(list: &mut [u8], at: usize, entry: u64, p: u64) -> usize
-    requires { Room list.old at (head_text entry p) }
-    ensures { Wrote list.old at (head_text entry p) list.new result }
+#[tactic(auto, unfolding(crate::specs::TraceParts::head_text), using(listing::proofs::WritingLaws::writes_then))]
+pub fn head(to: &mut Writer<'_>, entry: u64, p: u64)
+    requires { Fits to.old (head_text entry p) }
+    ensures { Writes to.old (head_text entry p) to.new }
 {
-    let a = listing::number(list, at, entry);
-    spaced(list, a, p)
+    to.number(entry);
+    spaced(to, p);
 }
 
-#[tactic(auto, unfolding(crate::specs::TraceParts::truth_text), using(listing::proofs::WritingLaws::writing))]
-pub fn truth(list: &mut [u8], at: usize, t: bool) -> usize
-    requires { Room list.old at (truth_text t) }
-    ensures { Wrote list.old at (truth_text t) list.new result }
+#[tactic(auto, unfolding(crate::specs::TraceParts::truth_text))]
+pub fn truth(to: &mut Writer<'_>, t: bool)
+    requires { Fits to.old (truth_text t) }
+    ensures { Writes to.old (truth_text t) to.new }
 {
     if t {
-        listing::plain(list, at, b" true")
+        to.plain(b" true");
     } else {
-        listing::plain(list, at, b" false")
+        to.plain(b" false");
     }
 }
 
 // Where the step answers, the listing's line follows on the same line.
-#[tactic(auto, unfolding(crate::specs::TraceParts::end_text), using(listing::proofs::WritingLaws::writing))]
-pub fn end(list: &mut [u8], at: usize, answered: bool) -> usize
-    requires { Room list.old at (end_text answered) }
-    ensures { Wrote list.old at (end_text answered) list.new result }
+#[tactic(auto, unfolding(crate::specs::TraceParts::end_text))]
+pub fn end(to: &mut Writer<'_>, answered: bool)
+    requires { Fits to.old (end_text answered) }
+    ensures { Writes to.old (end_text answered) to.new }
 {
     if answered {
-        listing::plain(list, at, b" answers ")
+        to.plain(b" answers ");
     } else {
-        listing::put(list, at, b'\n')
+        to.put(b'\n');
     }
 }
 
 // The value of a start: only an SC's.
-#[tactic(auto, unfolding(crate::specs::TraceParts::brought_text), using(listing::proofs::WritingLaws::writing))]
-pub fn brought(list: &mut [u8], at: usize, letter: u8, value: u64) -> usize
-    requires { Room list.old at (brought_text letter value) }
-    ensures { Wrote list.old at (brought_text letter value) list.new result }
+#[tactic(auto, unfolding(crate::specs::TraceParts::brought_text))]
+pub fn brought(to: &mut Writer<'_>, letter: u8, value: u64)
+    requires { Fits to.old (brought_text letter value) }
+    ensures { Writes to.old (brought_text letter value) to.new }
 {
     if letter == b'S' {
-        spaced(list, at, value)
-    } else {
-        at
+        spaced(to, value);
     }
 }
 
 // The line of a start, with the letter of its call; the value is an SC's.
-#[tactic(auto, unfolding(crate::specs::TraceParts::start_line), using(listing::proofs::WritingLaws::writing))]
-pub fn start_line(list: &mut [u8], at: usize, entry: u64, p: u64, letter: u8, value: u64) -> usize
-    requires { Room list.old at (start_line entry p letter value) }
-    ensures { Wrote list.old at (start_line entry p letter value) list.new result }
+#[tactic(auto, unfolding(crate::specs::TraceParts::start_line))]
+pub fn start_line(to: &mut Writer<'_>, entry: u64, p: u64, letter: u8, value: u64)
+    requires { Fits to.old (start_line entry p letter value) }
+    ensures { Writes to.old (start_line entry p letter value) to.new }
 {
-    let a = head(list, at, entry, p);
-    let b = listing::plain(list, a, b" start ");
-    let c = listing::put(list, b, letter);
-    let d = brought(list, c, letter, value);
-    listing::put(list, d, b'\n')
+    head(to, entry, p);
+    to.plain(b" start ");
+    to.put(letter);
+    brought(to, letter, value);
+    to.put(b'\n');
 }

@@ -7,6 +7,7 @@ ghost use Rattle.station.specs.Station.{station_memory};
 ghost use Rattle.turns_model.specs.Turns.{turn_of};
 
 use station::{Station, StationProcess};
+use station_records::gathered::gather;
 use turns_model::{NextCall, Turned};
 
 // Process `turn`, any number, has its turn. `left` is how many calls are on its list, `next` the first of them and
@@ -28,11 +29,12 @@ pub fn turn(
         ≡ turn_of (station_memory station.old processes.old words.old)
         turn next value.now left }
 {
-    let len = processes.len();
-    let all = lent::gather(processes, station::empty_process());
-    let out = turns_machine::decide_turn(*station, all, len, turn, next, left, value, words);
-    *station = out.station;
-    // Where no command is obeyed, the place is past the end, and there nothing is stored.
-    lent::store_at(processes, out.at, out.process);
+    let gathered = gather(*station, processes);
+    let out = turns_machine::decide_turn(gathered, turn, next, left, value, words);
+    let Some(obeyed) = out.obeyed else {
+        return out.turned;
+    };
+    *station = obeyed.station;
+    lent::store_at(processes, obeyed.at, obeyed.process);
     out.turned
 }

@@ -3,14 +3,14 @@ use mathlib.Core.Path.{◌≡◌, sym, ap, ◌∙◌}
 use mathlib.Core.Bool.{Bool, cond}
 use mathlib.Core.List.{List}
 use Prim.Native.Nat.{ℕ}
-use lib.ListN.{length}
 use borrow.Author.Tests.{ne_eqb}
 use Rattle.llsc.specs.Refusals.{refusal_number}
 use Rattle.rows.proofs.Refused.{number_some}
 use Rattle.station.specs.declared.StationProcess.{StationProcess}
 use Rattle.station.specs.Station.{station_memory}
-use Rattle.lent.specs.Gathered.{gathered, stored}
+use Rattle.lent.specs.Gathered.{stored}
 use Rattle.station_records.specs.Gathered.{processes_stored}
+use Rattle.station_records.specs.declared.gathered.Gathered.{Gathered}
 use Rattle.station_setup.specs.SetUpGathered.{set_up_gathered, stored_up}
 use Rattle.station_setup.proofs.StoredSetUp.{set_up_same}
 use Rattle.bench.proofs.set_up.Goals as goal
@@ -22,10 +22,9 @@ returns-in-Ok c =
     let set = c.in-Ok.set in
     let ws = c.set_up_gathered.new.words in
     ap (λ (r : List StationProcess). (0, station_memory set.station r ws))
-    (c.store_back.ensures ∙ ap (λ (q : StationProcess). stored ps set.all q a.n) c.empty_process-in-Ok.ensures) ∙
+    (c.store_back.ensures ∙ ap (λ (q : StationProcess). stored ps set.all q a.n) c.empty_process.ensures) ∙
     ap (stored_up ps a.n)
-    (c.in-Ok.ensures ∙ ap (λ (all : List StationProcess). set_up_gathered a.station.now all (length ps) a.n a.w a.r a.value.now a.words.now)
-    (c.gather-all.ensures ∙ ap (λ (q : StationProcess). gathered ps q 16) c.empty_process.ensures)) ∙
+    (c.in-Ok.ensures ∙ ap (λ (l : Gathered). set_up_gathered l.station l.all l.len a.n a.w a.r a.value.now a.words.now) c.gather-gathered.ensures) ∙
     set_up_same a.station.now ps a.words.now a.n a.w a.r a.value.now
 
 pub returns-in-Err : goal.returns-in-Err
@@ -35,9 +34,9 @@ returns-in-Err c =
     let k : ℕ = refusal_number c.in-Err.refusal in
     let ws = c.set_up_gathered.new.words in
     ap (λ (i : ℕ). (i, station_memory a.station.now ps ws)) c.number.ensures ∙
-    ap (λ (t : Bool). (k, station_memory a.station.now (cond t (processes_stored ps c.gather-all.result a.n) ps) ws))
+    ap (λ (l : Gathered). (k, station_memory l.station ps ws)) (sym c.gather-gathered.ensures) ∙
+    ap (λ (t : Bool). (k, station_memory c.gather-gathered.result.station (cond t (processes_stored ps c.gather-gathered.result.all a.n) ps) ws))
     (sym (ne_eqb k 0 (number_some c.in-Err.refusal))) ∙
     ap (stored_up ps a.n)
-    (c.in-Err.ensures ∙ ap (λ (all : List StationProcess). set_up_gathered a.station.now all (length ps) a.n a.w a.r a.value.now a.words.now)
-    (c.gather-all.ensures ∙ ap (λ (q : StationProcess). gathered ps q 16) c.empty_process.ensures)) ∙
+    (c.in-Err.ensures ∙ ap (λ (l : Gathered). set_up_gathered l.station l.all l.len a.n a.w a.r a.value.now a.words.now) c.gather-gathered.ensures) ∙
     set_up_same a.station.now ps a.words.now a.n a.w a.r a.value.now

@@ -1,13 +1,15 @@
 -- `carrying::carry_out`: a turn of the loop is an entry made, refused or not yet over (`LoopLaws`).
 use mathlib.Core.Path.{refl, sym, ◌∙◌}
 use native.Mathlib.Omega.{arith}
-use Rattle.carrying.proofs.LoopLaws.{from_run, first_head, head_all, looking, place_small, taken_at_lem, loop_refused, not_refused, is_refused}
+use Rattle.std.proofs.Common.{rules}
+use Rattle.carrying.proofs.LoopLaws.{in_list, from_run, first_head, head_all, looking, place_small, taken_at_lem, loop_refused, not_refused, is_refused}
 use Rattle.carrying.proofs.LoopLaws.{loop_sized, loop_more, loop_bank, loop_help, loop_turnable, loop_over, loop_further}
 use Rattle.carrying.proofs.carry_out.Goals as goal
+use Rattle.carrying.proofs.carry_out.Goals.{else-loop-at-test, then-loop-at-test+in-Err}
 
 pub loop-at-init : goal.loop-at-init
 loop-at-init c =
-    (first_head c.requires.0 c.requires.1 c.requires.2 refl refl c.room_needed-needed.ensures, refl)
+    (first_head c.requires.0 c.requires.1 c.requires.2 refl refl c.room_needed-needed.ensures, (refl, refl))
 
 pub bounds-entries-at : goal.bounds-entries-at
 bounds-entries-at c =
@@ -78,7 +80,7 @@ carry-turn-requires c =
     c.record_place.ensures c.order_of-order.ensures in
     let f = not_refused c.refusal.result c.refusal.ensures c.in_default.not-Err in
     loop_turnable x f c.bank_index-i.ensures c.help_index-j.ensures
-    (taken_at_lem c.loop-at.bench c.bank_place.ensures c.help_place.ensures c.places-places.ensures)
+    (taken_at_lem c.loop-at.bench c.bank_place.ensures c.help_place.ensures c.places-places.ensures) (refl, refl)
 
 pub offset_bounds-bench-bank_place-in-loop-at : goal.offset_bounds-bench-bank_place-in-loop-at
 offset_bounds-bench-bank_place-in-loop-at c =
@@ -131,8 +133,8 @@ loop-at-preserved-then-stays c =
       rw (c.bank_place-in-loop-at.ensures, c.help_place-in-loop-at.ensures, c.record_place-in-loop-at.ensures)
           (loop_further x f c.bank_index-i.ensures c.help_index-j.ensures
           (taken_at_lem c.loop-at.bench c.bank_place.ensures c.help_place.ensures c.places-places.ensures)
-          c.carry-turn.ensures (sym c.stays.ensures ∙ c.if-stays.true)),
-      c.loop-at.invariant.1,
+          (refl, refl) c.carry-turn.ensures (sym c.stays.ensures ∙ c.if-stays.true)),
+      (c.loop-at.invariant.1.0, c.carry-turn.ensures.wrote.same ∙ c.loop-at.invariant.1.1),
     )
 
 pub overflow_add-at : goal.overflow_add-at
@@ -154,34 +156,16 @@ loop-at-preserved c =
       rw (c.bank_place-in-loop-at.ensures, c.help_place-in-loop-at.ensures, c.record_place-in-loop-at.ensures)
           (loop_over x f c.bank_index-i.ensures c.help_index-j.ensures
           (taken_at_lem c.loop-at.bench c.bank_place.ensures c.help_place.ensures c.places-places.ensures)
-          c.carry-turn.ensures (sym c.stays.ensures ∙ c.if-stays.false)),
-      c.loop-at.invariant.1,
+          (refl, refl) c.carry-turn.ensures (sym c.stays.ensures ∙ c.if-stays.false)),
+      (c.loop-at.invariant.1.0, c.carry-turn.ensures.wrote.same ∙ c.loop-at.invariant.1.1),
     )
 
-pub shape_of-words-after-loop-at : goal.shape_of-words-after-loop-at
-shape_of-words-after-loop-at c = (head_all c.loop-at.invariant.0 c.loop-at-test.false).becomes.kept.words
-
-pub shape_of-list-after-loop-at : goal.shape_of-list-after-loop-at
-shape_of-list-after-loop-at c = (head_all c.loop-at.invariant.0 c.loop-at-test.false).becomes.kept.listing
-
-pub returns-after-loop-at : goal.returns-after-loop-at
-returns-after-loop-at c =
-    from_run c.requires.2 (rw c.loop-at.invariant.1 (head_all c.loop-at.invariant.0 c.loop-at-test.false))
-
-pub shape_of-words-in-Err : goal.shape_of-words-in-Err
-shape_of-words-in-Err c =
-    let x = looking c.loop-at.invariant.0 c.loop-at-test.true c.entry_in-e.ensures c.process_of-p.ensures c.process_number-k.ensures
-    c.record_place.ensures c.order_of-order.ensures in
-    (loop_refused x (c.number-stop.ensures ∙ c.in-Err.ensures) (is_refused c.in-Err.refusal c.number-stop.ensures)).becomes.kept.words
-
-pub shape_of-list-in-Err : goal.shape_of-list-in-Err
-shape_of-list-in-Err c =
-    let x = looking c.loop-at.invariant.0 c.loop-at-test.true c.entry_in-e.ensures c.process_of-p.ensures c.process_number-k.ensures
-    c.record_place.ensures c.order_of-order.ensures in
-    (loop_refused x (c.number-stop.ensures ∙ c.in-Err.ensures) (is_refused c.in-Err.refusal c.number-stop.ensures)).becomes.kept.listing
-
-pub returns-in-Err : goal.returns-in-Err
-returns-in-Err c =
-    let x = looking c.loop-at.invariant.0 c.loop-at-test.true c.entry_in-e.ensures c.process_of-p.ensures c.process_number-k.ensures
-    c.record_place.ensures c.order_of-order.ensures in
-    from_run c.requires.2 (loop_refused x (c.number-stop.ensures ∙ c.in-Err.ensures) (is_refused c.in-Err.refusal c.number-stop.ensures))
+pub returns : goal.returns
+returns c =
+    elim c.loop-at-test.branch [
+      | else-loop-at-test w ↦ in_list {l = c.loop-at.to.list.now} (search rules) (from_run c.requires.2 (rw (w.stop-is, c.loop-at.invariant.1.0) (head_all c.loop-at.invariant.0 w.loop-at-test.false)))
+      | then-loop-at-test+in-Err w ↦
+          let x = looking c.loop-at.invariant.0 w.loop-at-test.true w.entry_in-e.ensures w.process_of-p.ensures w.process_number-k.ensures
+          w.record_place.ensures w.order_of-order.ensures in
+          in_list {l = c.loop-at.to.list.now} (search rules) (from_run c.requires.2 (rw w.stop-is (loop_refused x (w.number-stop.ensures ∙ w.in-Err.ensures) (is_refused w.in-Err.refusal w.number-stop.ensures))))
+    ]

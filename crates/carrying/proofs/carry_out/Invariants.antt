@@ -7,8 +7,8 @@ use Rattle.carrying.proofs.carry_out.Given as goal
 
 abbrev pub invariant-loop-at : goal.invariant-loop-at
 invariant-loop-at l =
-    Head l.count l.entries l.len l.n l.w l.needed (state_of (going_run l.initial.bench l.initial.all l.initial.written l.initial.done l.traced) l.initial.words l.initial.list) l.at
-    (state_of (going_run l.bench l.all l.written l.done l.traced) l.words l.list) × (l.stop ≡ 0)
+    Head l.count l.entries l.len l.n l.w l.needed (state_of (going_run l.initial.bench l.initial.all l.initial.to.written l.initial.done l.traced) l.initial.words l.initial.to.list.now) l.at
+    (state_of (going_run l.bench l.all l.to.written l.done l.traced) l.words l.to.list.now) × ((l.stop ≡ 0) × (l.to.list.ghost_name ≡ l.initial.to.list.ghost_name))
 
 abbrev pub decreases-loop-at : goal.decreases-loop-at
 decreases-loop-at l = 60001 - l.done

@@ -1,10 +1,9 @@
 -- `trace_parts::start_line`: its parts, one after another.
-use Rattle.trace_parts.specs.TraceParts.{head_text, start_line}
-use Rattle.listing.proofs.WritingLaws.{then}
+use Rattle.std.proofs.Common.{rules}
+use Rattle.trace_parts.specs.TraceParts.{start_line}
+use Rattle.listing.proofs.WritingLaws.{writes_then}
 use Rattle.trace_parts.proofs.start_line.Goals as goal
 
 pub returns : goal.returns
-unfolding start_line head_text
-returns c =
-    then c.head-a.ensures
-    (then c.plain-b.ensures (then c.put-c.ensures (then c.brought-d.ensures c.put.ensures)))
+unfolding start_line
+returns c = search (rules, writes_then)

@@ -19,14 +19,14 @@ slice_bounds-value-end c =
 pub slice_bounds-decide-end : goal.slice_bounds-decide-end
 slice_bounds-decide-end c =
     let w = c.min-w in let v = c.repeated-value in
-    let same : w.result ≡ at_most64 c.args.station.w = search rules in
-    let few : w.result ≤ 64 = omega (arith, same, at_most c.args.station.w) in
+    let same : w.result ≡ at_most64 c.args.lent.station.w = search rules in
+    let few : w.result ≤ 64 = omega (arith, same, at_most c.args.lent.station.w) in
     prefix_length few v.ensures
 
 pub returns : goal.returns
 returns c =
     let w = c.min-w in let a = c.args in
-    let same : w.result ≡ at_most64 a.station.w = grind arith in
-    let few : w.result ≤ 64 = omega (arith, same, at_most a.station.w) in
-    record_decided a.station a.all a.len (record_of a.bytes.now) a.words.now
+    let same : w.result ≡ at_most64 a.lent.station.w = grind arith in
+    let few : w.result ≤ 64 = omega (arith, same, at_most a.lent.station.w) in
+    record_decided a.lent.station a.lent.all a.lent.len (record_of a.bytes.now) a.words.now
     c.value.ensures same (c.order_of-order.ensures ∙ ap order_of c.order.ensures) (ap (take w.result) c.repeated-value.ensures) few (rw c.process-p.ensures at c.decide.ensures)

@@ -7,23 +7,23 @@ use Rattle.board_commands.proofs.CommandLaws.{accepted_place}
 use Rattle.board_commands.proofs.RunLaws.{refused, goes_on, ended}
 use Rattle.board_commands.proofs.running.run_records.Goals as goal
 
-pub returns-then-number-ne0 : goal.returns-then-number-ne0
-returns-then-number-ne0 c =
-    refused c.loop-done.invariant (omega (arith, c.loop-done-test.true)) _ _ c.decide-out.ensures _ c.number_of-number.ensures c.if-number-ne0.true _ c.left_with.ensures
+pub returns-in-Err : goal.returns-in-Err
+returns-in-Err c =
+    refused c.loop-done.invariant (omega (arith, c.loop-done-test.true)) _ _ c.in-Err.ensures _ c.number.ensures _ c.left_with.ensures
 
 pub offset_bounds-all-out : goal.offset_bounds-all-out
 offset_bounds-all-out c =
-    let ok = accepted_place _ _ _ _ _ _ _ c.decide-out.ensures _ c.number_of-number.ensures c.if-number-ne0.false in
+    let ok = accepted_place _ _ _ _ _ _ _ c.in-Ok.ensures in
     omega (arith, ok.place, ok.most)
 
 pub bounds-all-out : goal.bounds-all-out
 bounds-all-out c =
-    let ok = accepted_place _ _ _ _ _ _ _ c.decide-out.ensures _ c.number_of-number.ensures c.if-number-ne0.false in
+    let ok = accepted_place _ _ _ _ _ _ _ c.in-Ok.ensures in
     omega (arith, ok.place, ok.most)
 
 pub loop-done-preserved : goal.loop-done-preserved
 loop-done-preserved c =
-    goes_on c.loop-done.invariant (omega (arith, c.loop-done-test.true)) _ _ c.decide-out.ensures _ c.number_of-number.ensures c.if-number-ne0.false c.decide-out.auto.words
+    goes_on c.loop-done.invariant (omega (arith, c.loop-done-test.true)) _ _ c.in-Ok.ensures c.decide.auto.words
 
 pub returns : goal.returns
 returns c =

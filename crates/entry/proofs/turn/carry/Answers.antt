@@ -1,8 +1,8 @@
--- `run::turn::carry`: the parts, put together.
+-- `entry::turn::carry`: the parts, put together.
 use Rattle.entry.proofs.TurnLaws.{turn_made}
 use Rattle.entry.proofs.turn.carry.Goals as goal
 
 pub returns : goal.returns
 returns c =
     turn_made c.requires c.process_of-p.ensures c.order_of-order.ensures c.access_seen-access.ensures c.offer.ensures c.obey_taken-stepped.ensures
-    c.trace_line-shown.ensures c.answer_line-written.ensures
+    c.trace_line.ensures c.answer_line.ensures

@@ -2,5 +2,5 @@
 use Rattle.moir_run.proofs.LastLaws.{closable_room}
 use Rattle.moir_run.proofs.texts.ended.Goals as goal
 
-pub write-next-requires : goal.write-next-requires
-write-next-requires c = closable_room c.requires
+pub write-requires : goal.write-requires
+write-requires c = closable_room c.requires

@@ -3,6 +3,7 @@ use mathlib.Core.Path.{refl, sym, ap, subst, ◌∙◌}
 use mathlib.Core.Bool.{cond}
 use Prim.Native.Nat.{ℕ}
 use native.Mathlib.Omega.{arith}
+use Rattle.std.proofs.Common.{rules}
 use lib.Dec.{eqb}
 use lib.ListN.{length, get_or, length-replicate}
 use Rattle.text_runs.specs.StopPlaces.{at_no_item}
@@ -66,7 +67,7 @@ carry_out-carried-requires c =
     let f = a.first in
     let x = accepted a.traced f.n f.w f.initial a.list.now (sym c.in-Ok.ensures) in
     let first =
-    first_state_is a.traced f.n f.w f.initial a.list.now x.w_most c.fresh-run.ensures c.bench_at_set_up-bench.ensures
+    first_state_is a.traced f.n f.w f.initial a.list.now refl refl x.w_most c.fresh-run.ensures c.bench_at_set_up-bench.ensures
     c.empty_bench.ensures c.words_at_set_up.ensures c.no_words-words.ensures c.repeated-value.ensures in
     (c.requires.2, subst Sound (sym first) (first_sound a.traced f.n f.w f.initial a.list.now c.requires.1 c.requires.0))
 
@@ -82,12 +83,12 @@ returns-in-Ok c =
     let ps = places_in a.count a.kept.now in
     let x = accepted a.traced f.n f.w f.initial a.list.now (sym c.in-Ok.ensures) in
     let first =
-    first_state_is a.traced f.n f.w f.initial a.list.now x.w_most c.fresh-run.ensures c.bench_at_set_up-bench.ensures
+    first_state_is a.traced f.n f.w f.initial a.list.now refl refl x.w_most c.fresh-run.ensures c.bench_at_set_up-bench.ensures
     c.empty_bench.ensures c.words_at_set_up.ensures c.no_words-words.ensures c.repeated-value.ensures in
     let at = c.carry_out-carried.result.at in (
       carried_closed a.traced f.n f.w f.initial a.list.now ps c.in-Ok.ensures c.carry_out-carried.ensures first
-          c.number_of-number.ensures c.ended.ensures,
-      closed_report c.carry_out-carried.result.run c.number_of-number.result _ c.ended.ensures ∙ c.stop_report-report.ensures ∙
+          c.number_of-number.ensures c.ended.ensures.is (search rules),
+      closed_report c.carry_out-carried.result.run c.number_of-number.result c.ended.ensures.is ∙ c.stop_report-report.ensures ∙
           ap (λ (k : ℕ). cond (eqb k 0) (at_no_item f.n f.w) (word_report f.n f.w (get_or a.kept.now at 0))) c.number_of-number.ensures ∙
           item_read figure6 a.kept.now c.requires.2 refl c.carry_out-carried.ensures.over f.n f.w ∙
           begun_report a.traced f.n f.w f.initial a.list.now es ps c.in-Ok.ensures refl first,

@@ -1,5 +1,5 @@
 -- `moir_run::turns::accepted`: the order obeyed, its lines written, its record stored.
-use mathlib.Core.Path.{sym, ap}
+use mathlib.Core.Path.{refl, sym, ap}
 use Prim.Native.Nat.{ℕ}
 use native.Mathlib.Omega.{arith}
 use lib.ListN.{set}
@@ -33,15 +33,17 @@ pub obey-moved-requires : goal.obey-moved-requires
 obey-moved-requires c =
     obeyable_as c.requires c.process_of-p.ensures (own_at c.args.run.all c.record_place-place.ensures) c.value_of-value.ensures c.words_of-count.ensures c.order_of-order.ensures
 
-pub trace_line-shown-requires : goal.trace_line-shown-requires
-trace_line-shown-requires c =
+pub trace_line-requires : goal.trace_line-requires
+trace_line-requires c =
     shown_room c.requires c.process_of-p.ensures (own_at c.args.run.all c.record_place-place.ensures)
     c.value_of-value.ensures c.words_of-count.ensures c.order_of-order.ensures c.obey-moved.ensures c.access_seen-access.ensures
+    (record { list = refl; place = refl })
 
-pub answer_line-written-requires : goal.answer_line-written-requires
-answer_line-written-requires c =
+pub answer_line-requires : goal.answer_line-requires
+answer_line-requires c =
     listable_as c.requires c.process_of-p.ensures (own_at c.args.run.all c.record_place-place.ensures)
-    c.value_of-value.ensures c.words_of-count.ensures c.order_of-order.ensures c.obey-moved.ensures c.access_seen-access.ensures c.trace_line-shown.ensures
+    c.value_of-value.ensures c.words_of-count.ensures c.order_of-order.ensures c.obey-moved.ensures c.access_seen-access.ensures
+    (record { list = refl; place = refl }) c.trace_line.ensures
 
 pub offset_bounds-all-place-2 : goal.offset_bounds-all-place-2
 offset_bounds-all-place-2 c = omega (arith, c.record_place-place.ensures, process_few c.requires c.process_of-p.ensures)
@@ -49,8 +51,9 @@ offset_bounds-all-place-2 c = omega (arith, c.record_place-place.ensures, proces
 pub bounds-all-place-2 : goal.bounds-all-place-2
 bounds-all-place-2 c = rw c.record_place-place.ensures (process_few c.requires c.process_of-p.ensures)
 
-pub returns : goal.returns
-returns c =
+pub returns-clause-is : goal.returns-clause-is
+returns-clause-is c =
     carried_as c.requires c.process_of-p.ensures (own_at c.args.run.all c.record_place-place.ensures)
-    c.value_of-value.ensures c.words_of-count.ensures c.order_of-order.ensures c.obey-moved.ensures c.access_seen-access.ensures c.trace_line-shown.ensures c.answer_line-written.ensures
+    c.value_of-value.ensures c.words_of-count.ensures c.order_of-order.ensures c.obey-moved.ensures c.access_seen-access.ensures
+    (record { list = refl; place = refl }) c.trace_line.ensures c.answer_line.ensures
     (ap (λ (i : ℕ). set c.args.run.all i c.obey-moved.result.process) c.record_place-place.ensures)

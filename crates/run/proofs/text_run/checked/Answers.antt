@@ -19,8 +19,8 @@ read_items-requires c =
 pub refused-requires : goal.refused-requires
 refused-requires c = (c.requires.0, broken_small c.in-Err.ensures.are.is)
 
-pub overflow_sub-place : goal.overflow_sub-place
-overflow_sub-place c = omega (arith, (items_as c.in-Ok.ensures c.in-Closed.is).read.on)
+pub overflow_sub-report : goal.overflow_sub-report
+overflow_sub-report c = omega (arith, (items_as c.in-Ok.ensures c.in-Closed.is).read.on)
 
 pub refused-requires-in-Closed : goal.refused-requires-in-Closed
 refused-requires-in-Closed c = (c.requires.0, omega arith)

@@ -1,5 +1,4 @@
 -- `run::text_run::refused`: a run that is stopped before its set-up, with its last line.
-use mathlib.Core.Path.{◌∙◌}
 use mathlib.Core.Bool.{false}
 use native.Mathlib.Omega.{arith}
 use Rattle.llsc.specs.Refusals.{refusal_number}
@@ -17,4 +16,4 @@ returns c =
     let a = c.args in
     let run = fresh_run a.bench a.all (refusal_number a.cause) false in
     let out = rw (c.fresh-run.ensures, c.number.ensures) at c.ended.ensures in
-    (closed_answers run a.words.now a.list.now c.requires.0.filled out, closed_report run a.list.now out ∙ c.at_no_entry-report.ensures)
+    (closed_answers run a.words.now a.list.now c.requires.0.filled out, closed_report run a.list.now out)

@@ -17,7 +17,7 @@ returns-then-list-room_needed c =
     let a = c.args in
     let m = memory_of a.bench a.all a.len a.words.now in
     let short : length a.list.now < room_needed a.traced = omega (arith, c.if-list-room_needed.true, c.room_needed.ensures) in
-    rw (c.returned.ensures, c.at_no_entry.ensures, c.fresh-run.ensures, c.number.ensures)
+    rw (c.returned.ensures, c.fresh-run.ensures, c.number.ensures)
     (record { same = run_14 figure2 a.traced m a.text.now a.list.now short; again = c.requires; stops = stops_14 figure2 short })
 
 pub refused-requires : goal.refused-requires

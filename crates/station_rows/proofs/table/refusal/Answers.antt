@@ -9,8 +9,8 @@ use Rattle.station_rows.proofs.table.refusal.Goals as goal
 
 pub returns-in_err-memory_refusal : goal.returns-in_err-memory_refusal
 returns-in_err-memory_refusal c =
-    let a = c.args in let refused = c.in_err-memory_refusal in
-    let told : number_told c.from_residual.result ≡ station_memory_number a.station a.all a.len a.words = search rules in
+    let lent = c.args.lent in let refused = c.in_err-memory_refusal in
+    let told : number_told c.from_residual.result ≡ station_memory_number lent.station lent.all lent.len c.args.words = search rules in
     told ∙ memory_answers _ _ _ _ _ _ _ _ (λ z. number_some refused.field-0.0 (refused.ensures ∙ z))
 
 pub late_refusal-requires : goal.late_refusal-requires

@@ -14,16 +14,16 @@ use Rattle.station_setup.proofs.gathered.set_up_gathered.Goals as goal
 pub returns-in_err-station : goal.returns-in_err-station
 returns-in_err-station c =
     let a = c.args in let r = c.in_err-station.field-0.0 in
-    let same : told_all a.station a.all c.from_residual.result ≡ ((refusal_number r, a.station), a.all) = search rules in
+    let same : told_all a.lent.station a.lent.all c.from_residual.result ≡ ((refusal_number r, a.lent.station), a.lent.all) = search rules in
     ap (λ (x : (ℕ × Station) × List StationProcess). (x, c.prepare.new.words)) same
-    ∙ all_stay a.all a.n a.r c.in_err-station.ensures (number_some r)
+    ∙ all_stay a.lent.all a.n a.r c.in_err-station.ensures (number_some r)
 
 pub processes_at_set_up-all-requires : goal.processes_at_set_up-all-requires
 processes_at_set_up-all-requires c =
     let a = c.args in
-    few a.station a.len a.n a.w a.r a.value.now a.words.now c.in_ok-station.ensures refl
+    few a.lent.station a.lent.len a.n a.w a.r a.value.now a.words.now c.in_ok-station.ensures refl
 
 pub returns : goal.returns
 returns c =
     let a = c.args in
-    simp c.processes_at_set_up-all.ensures (ap (with_processes a.all a.n a.r) c.in_ok-station.ensures)
+    simp c.processes_at_set_up-all.ensures (ap (with_processes a.lent.all a.n a.r) c.in_ok-station.ensures)
