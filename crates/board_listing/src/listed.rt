@@ -18,6 +18,7 @@ use tables::records::Records;
 use text_runs::{limits, lists};
 
 // A run that is refused before its first command.
+// Kept: the room is a fact on a lent list, tested once in `run_listed`; a struct for it would be undone at each line.
 fn refused(bench: Bench, all: Records, number: u8, list: &mut [u8]) -> Run
     requires { (number ≤ 99) × (room_needed false ≤ length list.old) }
     ensures { (result, list.new) ≡ closed (fresh_run bench all number false) list.old }
@@ -27,6 +28,7 @@ fn refused(bench: Bench, all: Records, number: u8, list: &mut [u8]) -> Run
 }
 
 // The file on a run that has done nothing: "25 and 26 also before a run".
+// Kept: file, words and list come from the caller one by one, and go on so to three crates.
 fn run_file(run: Run, file: &[u8], words: &mut [u64], list: &mut [u8]) -> Run
     requires { (Between (state_of run words.old list.old)) × (run ≡ fresh_run run.bench run.all 0 false) × (room_needed false ≤ length list.old) }
     ensures { RunsFile run words.old file.now list.old result words.new list.new }
