@@ -12,8 +12,9 @@ use model::Process;
 use taken::Taken;
 use words::word_places;
 
-// What stands for no access: none is made, or none is shown.
-pub fn no_access() -> Access
+// What stands for no access: an idle process makes none.
+// Kept: a trace asks also at a start, and drops what it gets; an Option would be opened at each step, which has an access.
+fn no_access() -> Access
     ensures { result ≡ no_access }
 {
     Access {

@@ -6,6 +6,7 @@ use crate::{Access, texts};
 use listing::Writer;
 
 // The line of a step; where it answers, up to the listing's line.
+// Kept: the entry's number and the process are what `head` takes; a struct of them would be made for that one call.
 #[tactic(auto, unfolding(crate::specs::TraceLines::step_line))]
 pub fn step_line(to: &mut Writer<'_>, entry: u64, p: u64, access: Access, answered: bool)
     requires { Fits to.old (step_line entry p access answered) }

@@ -4,6 +4,8 @@ ghost use Rattle.boards.specs.Merging.{merge_files};
 ghost use Rattle.besklaun.specs.BoardRuns.{board_run};
 
 use boards::Merged;
+use entry::state::Held;
+use llsc::refusals::number_of;
 
 // Two trace files made one, into the bytes lent.
 // Kept: two files and the bytes one by one, as the C library's header declares them.
@@ -40,14 +42,11 @@ pub fn besklaun_run_board(
 {
     // Kept: the words stand here and in `texts`, for a function that handed them out would copy all 5,120.
     let mut words = [0; 5120];
-    let bench = model::empty_bench();
-    let all = tables::records::records_of(tables::records::no_process());
-    let out = board_listing::listed::run_listed(
-        bench, all, n, w, initial, file, &mut words, listing,
-    );
+    let held = Held::empty();
+    let out = board_listing::listed::run_listed(held, n, w, initial, file, &mut words, listing);
     BoardRun {
-        number: out.stop,
-        done: out.entries,
-        written: out.written,
+        number: number_of(out.outcome),
+        done: out.run.entries,
+        written: out.run.written,
     }
 }

@@ -1,5 +1,6 @@
 // A record of a trace file as an entry of a text, and that entry carried out.
 ghost use Rattle.std.specs.Prelude.{◌≡◌};
+ghost use Rattle.llsc.specs.Refusals.{number_told};
 ghost use Rattle.boards.specs.Files.{record_of};
 ghost use Rattle.entry.specs.RunState.{state_of, Small, Becomes};
 ghost use Rattle.semantics.specs.TextRun.{carry};
@@ -9,6 +10,7 @@ ghost use Rattle.board_listing.specs.ListedRun.{with_entries, Between};
 use boards::records::{self, Record};
 use entry::state::Run;
 use notation::{Entry, entry_words};
+use text_runs::runs::Carried;
 
 // The entry of a record.
 pub fn entry_of(bytes: &Record) -> Entry
@@ -33,11 +35,11 @@ pub fn with_entries(run: Run, entries: usize) -> Run
 
 // One entry, as the only one of its list.
 // Kept: an enum has no ghost field for `Small`, and `carry_out` takes the run, words and list of `Between` one by one.
-pub fn obey(run: Run, e: Entry, words: &mut [u64], list: &mut [u8]) -> Run
-    requires { (Between (state_of run words.old list.old)) × (Small e) }
-    ensures { Becomes 16 (carry e) (state_of run words.old list.old) (state_of result words.new list.new) }
+pub fn obey(run: Run, e: Entry, words: &mut [u64], list: &mut [u8]) -> Carried<Run>
+    requires { (Between (state_of run 0 words.old list.old)) × (Small e) }
+    ensures { Becomes 16 (carry e) (state_of run 0 words.old list.old)
+        (state_of result.run (number_told result.outcome) words.new list.new) }
 {
     let entries = [entry_words::word_of(e); 1];
-    let carried = carrying::carry_out(run, 16, &entries, 1, words, list);
-    carried.run
+    carrying::carry_out(run, 16, &entries, 1, words, list)
 }

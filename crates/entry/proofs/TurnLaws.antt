@@ -1,10 +1,11 @@
 -- One accepted entry: its parts, put together.
 use mathlib.Core.Path.{◌≡◌, sym, ap, ◌∙◌}
 use mathlib.Core.Bool.{Bool}
-use mathlib.Core.List.{List, ◌++◌}
+use mathlib.Core.List.{List}
 use Prim.Native.Nat.{ℕ}
 use native.Mathlib.Omega.{arith}
 use lib.ListN.{length}
+use Rattle.std.specs.Prelude.{Option}
 use Rattle.model.specs.declared.Process.{Process}
 use Rattle.llsc.specs.declared.Order.{Order}
 use Rattle.taken.specs.declared.Taken.{Taken}
@@ -23,17 +24,17 @@ module _ {traced : Bool} {k n w : ℕ} {e : Entry} {t : Taken} {q : Process} {ws
   abbrev out : Stepped × List ℕ
   out = turned e n w t q ws
 
-  abbrev seen : Access
+  abbrev seen : Option Access
   seen = access_seen traced (number_of e) n w t q ws
 
   abbrev shown : List ℕ
-  shown = shown_line traced k seen e out.0.reply
+  shown = shown_line k seen e out.0.reply
 
   abbrev answer : List ℕ
   answer = answer_line n w out.1 (process_of e) out.0.reply
 
   -- what the code has: process, order, access, the words offered, the order obeyed
-  module _ {p : ℕ} {o : Order} {a : Access} {ws₁ ws₂ : List ℕ} {st : Stepped} (ep : p ≡ process_of e) (eo : o ≡ order_of e) (ea : a ≡ access_seen traced (record { 0 = p }) n w t q ws)
+  module _ {p : ℕ} {o : Order} {a : Option Access} {ws₁ ws₂ : List ℕ} {st : Stepped} (ep : p ≡ process_of e) (eo : o ≡ order_of e) (ea : a ≡ access_seen traced (record { 0 = p }) n w t q ws)
       (e₁ : ws₁ ≡ offered (order_of e) (record { 0 = p }) n w (value_of w e) ws) (e₂ : ◌≡◌ {A = Stepped × List ℕ} (st, ws₂) (obey_on o (record { 0 = p }) n w t q ws₁)) where
     is_out : ◌≡◌ {A = Stepped × List ℕ} (st, ws₂) out
     is_out = e₂ ∙ rw (e₁, eo, ep)
@@ -47,16 +48,16 @@ module _ {traced : Bool} {k n w : ℕ} {e : Entry} {t : Taken} {q : Process} {ws
     same_access : a ≡ seen
     same_access = ea ∙ ap (λ (i : ℕ). access_seen traced (record { 0 = i }) n w t q ws) ep
 
-    same_shown : shown_line traced k a e st.reply ≡ shown
-    same_shown = ap (λ (x : Access). shown_line traced k x e st.reply) same_access ∙ ap (λ (x : Stepped). shown_line traced k seen e x.reply) same_stepped
+    same_shown : shown_line k a e st.reply ≡ shown
+    same_shown = ap (λ (x : Option Access). shown_line k x e st.reply) same_access ∙ ap (λ (x : Stepped). shown_line k seen e x.reply) same_stepped
 
     same_answer : answer_line n w ws₂ p st.reply ≡ answer
     same_answer = rw (same_words_lem, same_stepped, ep)
 
-    pub shown_room : Fits to (shown_line traced k a e st.reply)
+    pub shown_room : Fits to (shown_line k a e st.reply)
     shown_room = fits_same (sym same_shown) (fits_first shown answer f.fits)
 
-    module _ {to₁ : Writer} (w₁ : Writes to (shown_line traced k a e st.reply) to₁) where
+    module _ {to₁ : Writer} (w₁ : Writes to (shown_line k a e st.reply) to₁) where
       wrote_shown : Writes to shown to₁
       wrote_shown = writes_same (sym same_shown) w₁
 

@@ -1,6 +1,6 @@
 -- One entry carried out on the places taken out for it, as the code does it.
 -- Inner: `EntryLaws` proves that such an entry is `single` of `semantics/specs/TextRun`; crate `carrying` has the loop.
-use Rattle.std.specs.Prelude.{ℕ, ◌+◌, ◌≤◌, ◌≡◌, List, [], ◌∷◌, ◌++◌, Bool, false, not, cond, eqb, ltb, leb, length}
+use Rattle.std.specs.Prelude.{ℕ, ◌≡◌, List, [], ◌∷◌, ◌++◌, Bool, false, not, Option, Some, None, cond, eqb, ltb, leb, length}
 use Rattle.llsc.specs.declared.ProcessNumber.{ProcessNumber}
 use Rattle.model.specs.declared.Process.{Process}
 use Rattle.llsc.specs.declared.Order.{Order}
@@ -16,7 +16,7 @@ use Rattle.notation.specs.declared.Entry.TheVariants.{StartLl, StartVl, StartSc,
 use Rattle.listing.specs.declared.Writer.{Writer}
 use Rattle.listing.specs.Writing.{Fits, Writes}
 use Rattle.access.specs.declared.Access.{Access}
-use Rattle.access.specs.AccessOn.{no_access, access_on}
+use Rattle.access.specs.AccessOn.{access_on}
 use Rattle.entry.specs.declared.turn.Turn.{Turn}
 use Rattle.text_runs.specs.TextRun.{most_entries, process_of, order_of, value_of}
 use Rattle.entry.specs.RunState.{answer_line, shown_line}
@@ -40,13 +40,13 @@ abbrev pub turned : Entry → ℕ → ℕ → Taken → Process → List ℕ →
 turned e n w t q ws = obey_on (order_of e) (number_of e) n w t q (offered (order_of e) (number_of e) n w (value_of w e) ws)
 
 -- the access that a trace shows of it; a listing shows none
-abbrev pub access_seen : Bool → ProcessNumber → ℕ → ℕ → Taken → Process → List ℕ → Access
-access_seen traced p n w t q ws = cond traced (access_on (point_of q.line) p n w t q ws) no_access
+abbrev pub access_seen : Bool → ProcessNumber → ℕ → ℕ → Taken → Process → List ℕ → Option Access
+access_seen traced p n w t q ws = cond traced (Some (access_on (point_of q.line) p n w t q ws)) None
 
 -- the lines that it writes: the trace's, and then the answer's
 abbrev pub turn_lines : Bool → ℕ → Entry → ℕ → ℕ → Taken → Process → List ℕ → List ℕ
 turn_lines traced k e n w t q ws =
-    shown_line traced k (access_seen traced (number_of e) n w t q ws) e (turned e n w t q ws).0.reply ++ answer_line n w (turned e n w t q ws).1 (process_of e) (turned e n w t q ws).0.reply
+    shown_line k (access_seen traced (number_of e) n w t q ws) e (turned e n w t q ws).0.reply ++ answer_line n w (turned e n w t q ws).1 (process_of e) (turned e n w t q ws).0.reply
 
 -- it can be carried out: its process and the words are in range, and its lines fit
 pub record Turnable (traced : Bool) (k : ℕ) (e : Entry) (n w : ℕ) (t : Taken) (q : Process) (ws : List ℕ) (to : Writer) : Type 0 where

@@ -2,7 +2,7 @@
 // command is accepted.
 ghost use Rattle.std.specs.Prelude.{◌≡◌};
 ghost use Rattle.listing.specs.Writing.{Fits, Writes};
-ghost use Rattle.semantics.specs.TextRun.{answers};
+ghost use Rattle.semantics.specs.TextRun.{answers, entry_line};
 ghost use Rattle.taken.specs.Ranges.{Ready};
 ghost use Rattle.entry.specs.RunState.{shown_line};
 ghost use Rattle.entry.specs.Turned.{access_seen};
@@ -14,7 +14,7 @@ use model::{Process, Reply};
 use notation::Entry;
 use taken::Taken;
 
-// The access that an entry makes, seen in the places taken out for it; a run that is not traced needs none.
+// The access that a trace shows of an entry, seen in the places taken out for it; a listing shows none.
 pub fn access_seen(
     traced: bool,
     n: usize,
@@ -23,14 +23,14 @@ pub fn access_seen(
     process: Process,
     taken: Taken,
     words: &[u64],
-) -> Access
+) -> Option<Access>
     requires { Ready n w process p words.now }
     ensures { result ≡ access_seen traced p n w taken process words.now }
 {
     if traced {
-        access_of::access_of(n, w, p, process, taken, words)
+        Some(access_of::access_of(n, w, p, process, taken, words))
     } else {
-        access_of::no_access()
+        None
     }
 }
 
@@ -41,27 +41,30 @@ fn answers(reply: Reply) -> bool
     !matches!(reply, Reply::Refused(_) | Reply::Accepted)
 }
 
-// The line of an accepted entry; none in a run that is not traced.
-pub fn trace_line(
-    traced: bool,
-    entry: usize,
-    access: Access,
-    e: Entry,
-    reply: Reply,
-    to: &mut Writer<'_>,
-)
-    requires { Fits to.old (shown_line traced entry access e reply) }
-    ensures { Writes to.old (shown_line traced entry access e reply) to.new }
+// The trace's line of an accepted entry.
+// Kept: an entry and its reply have no struct: they meet here alone, and each is a value of another crate.
+fn entry_line(entry: usize, access: Access, e: Entry, reply: Reply, to: &mut Writer<'_>)
+    requires { Fits to.old (entry_line entry access e reply) }
+    ensures { Writes to.old (entry_line entry access e reply) to.new }
 {
-    if !traced {
-        return;
-    }
     let k = entry as u64;
-    let answered = answers(reply);
     match e {
         Entry::StartLl(p) => trace_parts::start_line(to, k, p, b'L', 0),
         Entry::StartVl(p) => trace_parts::start_line(to, k, p, b'V', 0),
         Entry::StartSc(p, value) => trace_parts::start_line(to, k, p, b'S', value),
-        Entry::Step(p) | Entry::Finish(p) => trace_lines::step_line(to, k, p, access, answered),
+        Entry::Step(p) | Entry::Finish(p) => {
+            trace_lines::step_line(to, k, p, access, answers(reply));
+        }
+    }
+}
+
+// The same in a run of either style: none in one that shows no access.
+// Kept: Moir's trace has this over its own Access; one for both would be generic in how a step is written, and longer.
+pub fn trace_line(access: Option<Access>, entry: usize, e: Entry, reply: Reply, to: &mut Writer<'_>)
+    requires { Fits to.old (shown_line entry access e reply) }
+    ensures { Writes to.old (shown_line entry access e reply) to.new }
+{
+    if let Some(access) = access {
+        entry_line(entry, access, e, reply, to);
     }
 }

@@ -39,7 +39,7 @@ pub fn carry(
     entries::offer(e, n, w, own, words);
     let stepped = orders::obey_taken(order, n, w, own, process, taken, words);
     let reply = stepped.reply;
-    traces::trace_line(traced, k, access, e, reply, to);
+    traces::trace_line(access, k, e, reply, to);
     answer_lines::answer_line(reply, p, n, w, words, to);
     let left = stepped.taken;
     let next = stepped.process;

@@ -7,11 +7,10 @@ mod arguments;
 mod files;
 mod notices;
 
-use std::env::Env;
+use crate::files::Season;
 use std::io;
 use std::io::Write;
 use std::process::ExitCode;
-use std::rt::Files;
 use sums::{Row, Sums};
 
 fn main(rt: HostRuntime) -> ExitCode {
@@ -31,8 +30,13 @@ fn main(rt: HostRuntime) -> ExitCode {
     if let Err(refusal) = sums::table_of(empty) {
         return console::status(notices::refused(&mut table_to, refusal));
     }
-    let sums = season(&rt, &mut errors, empty, count);
-    console::status(print_table(&mut table_to, sums, count - 3, n as usize))
+    let mut season = Season {
+        rt: &rt,
+        errors: &mut errors,
+        sums: empty,
+    };
+    season.add_files(count);
+    console::status(print_table(&mut table_to, season.sums, count - 3, n as usize))
 }
 
 // How many of the files are taken, and the rows.
@@ -42,21 +46,6 @@ fn print_table(to: &mut impl Write, sums: Sums, files: usize, n: usize) -> io::R
         Ok(rows) => print_rows(to, rows, n),
         Err(refusal) => notices::refused(to, refusal),
     }
-}
-
-// The files of the arguments from 3 on, one after the other.
-fn season<R: Env + Files + Alloc>(
-    rt: &R,
-    errors: &mut impl Write,
-    empty: Sums,
-    count: usize,
-) -> Sums {
-    let mut sums = empty;
-    for i in 3..count {
-        sums = files::add_file(rt, errors, sums, i);
-        let _ = notices::progress(errors, i - 2, count - 3);
-    }
-    sums
 }
 
 // A line for each process below n: its number and its two fractions.

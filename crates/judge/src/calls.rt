@@ -55,6 +55,14 @@ impl<'a> Log<'a> {
         Place::of(self.text, place).line
     }
 
+    // How many numbers stand from a call's first on.
+    pub(crate) fn left(self, call: usize) -> u64
+        ensures { result ≡ length self.entry.numbers.now - first_of self.entry.numbers.now call }
+    {
+        let first = first_of(self.numbers, call);
+        self.numbers.len().saturating_sub(first) as u64
+    }
+
     // The initial value.
     pub(crate) fn value(self) -> Words<'a>
         ensures { result.0.now ≡ words_in self.entry.numbers.now 2 }
@@ -73,6 +81,7 @@ impl fmt::Display for Call<'_> {
     }
 }
 
+// Kept: a log's kind is any number, so that each is told; `board_commands::order_of` is alike by its four arms alone.
 fn kind_word(kind: u64) -> &'static str
     ensures { result.now ≡ kind_text kind }
 {
@@ -121,6 +130,7 @@ fn words_from<'a>(numbers: &'a [u64], from: usize) -> Words<'a>
 }
 
 // A number of the text, 0 where there is none.
+// Kept: `lent::record_or` has this body, but a log is no lent memory, and the judge stands on no bench's crates.
 pub(crate) fn at(numbers: &[u64], i: usize) -> u64
     ensures { result ≡ get_or numbers.now i 0 }
 {
@@ -157,11 +167,4 @@ fn part(numbers: &[u64], call: usize, k: usize) -> u64
     ensures { result ≡ part_of numbers.now call k }
 {
     at(numbers, first_of(numbers, call) + k)
-}
-
-// How many numbers stand from an index on.
-pub(crate) fn after(numbers: &[u64], index: usize) -> u64
-    ensures { result ≡ length numbers.now - index }
-{
-    numbers.len().saturating_sub(index) as u64
 }

@@ -17,6 +17,7 @@ struct Odd {
 
 // The line at which the reader is, from 1 on; the numbers before it and in it; whether the last byte is a digit. Lines of
 // so many numbers as a call has, and the first other one after the value, if there is one.
+// Kept: `inside` tells of the last byte, and of no field beside it: each of them has a value whether it holds or not.
 #[derive(Clone, Copy)]
 struct Lines {
     line: usize,

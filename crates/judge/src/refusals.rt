@@ -14,6 +14,7 @@ pub(crate) fn refused(
     log: Log,
 ) -> io::Result<()> {
     write!(to, "refused {}: ", refusal.number())?;
+    // Kept: each refusal is about something of its own (N or W, a call, a place), so that no two arms ask alike.
     match refusal {
         Refusal::NOutOfRange => range(to, 0, "N", 16, log),
         Refusal::WOutOfRange => range(to, 1, "W", 64, log),
@@ -54,7 +55,7 @@ fn cut_off(to: &mut impl Write, place: Option<Place>, log: Log) -> io::Result<()
     match place {
         Some(Place::Call(call)) => {
             let line = log.line(call);
-            let left = calls::after(log.numbers, calls::first_of(log.numbers, call));
+            let left = log.left(call);
             write!(
                 to,
                 "line {line}: the last call has {left} numbers, not {}",

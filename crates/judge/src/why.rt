@@ -21,6 +21,7 @@ pub(crate) fn explain(to: &mut impl Write, judgement: Judgement, log: Log) -> io
 
 fn no(to: &mut impl Write, fault: Fault, log: Log) -> io::Result<()> {
     write!(to, "no: condition ")?;
+    // Kept: each fault has its own calls, one or two, or what the object answers, which its own words tell.
     match fault {
         Fault::Unknown(call) => unknown(to, log.call(call)),
         Fault::Overlap(call, other) => overlap(to, log.call(call), log.call(other)),

@@ -10,8 +10,9 @@ use lib.ListN.{length, get_or, set, take, drop, drop_of_length-le}
 use lib.Seq.{sets, length-sets, take-length, drop-cons}
 use borrow.Author.Tests.{eqb-true, eqb-false, eq-eqb, ne_eqb}
 use Rattle.listing.specs.Lines.{line_feed}
-use Rattle.listing.specs.Writing.{Wrote}
-use Rattle.listing.proofs.WritingLaws.{then, kept}
+use Rattle.listing.specs.declared.Writer.{Writer}
+use Rattle.listing.specs.Writing.{Wrote, Writes}
+use Rattle.listing.proofs.WritingLaws.{then, kept, wrote, written, writes_then, writes_same}
 use Rattle.listing.proofs.LineLaws.{take_more}
 use Rattle.std.proofs.lemmas.List.{length-take-le, take_all}
 use Rattle.std.specs.Prelude.{Option}
@@ -122,9 +123,6 @@ module _ {l : List ℕ} {i : ℕ} {all : List ℕ} where
   none_left {out} {next} e w =
       let z = subst (λ (x : List ℕ). Still l i all out next x) e w in record { place = omega (arith, z.place); list = z.list }
 
-  still_length : (out : List ℕ) (next : ℕ) (rest : List ℕ) → Still l i all out next rest → length out ≡ length l
-  still_length out next rest w = sym (length-sets out next rest) ∙ kept w
-
   part_done : {out out' : List ℕ} {next next' : ℕ} {both : List ℕ} (a rest : List ℕ) → both ≡ a ++ rest
       → Wrote out next a out' next' → Still l i all out next both → Still l i all out' next' rest
   part_done {out} {out'} {next} {next'} a rest e w s =
@@ -133,15 +131,14 @@ module _ {l : List ℕ} {i : ℕ} {all : List ℕ} where
       let z = subst (λ (x : List ℕ). Still l i all out next x) e s in
       record { place = both.place ∙ z.place; list = both.list ∙ z.list }
 
--- the loop over the bytes that are written: the first i of them stand
-pub put_on : (out bs : List ℕ) (at i : ℕ) → i < length bs
-    → set (sets out at (take i bs)) (at + i) (get_or bs i 0) ≡ sets out at (take (i + 1) bs)
-put_on out bs at i h =
-    let w : Wrote out at (take i bs) (sets out at (take i bs)) (at + i) =
-    record { place = omega (arith, length-take-le i bs (omega arith)); list = refl } in
-    let b : Wrote (sets out at (take i bs)) (at + i) (get_or bs i 0 ∷ []) (set (sets out at (take i bs)) (at + i) (get_or bs i 0)) (at + i + 1) =
-    record { place = omega arith; list = refl } in
-    (then w b).list ∙ ap (sets out at) (sym (take_more bs i h))
+-- the loop over the bytes that are written: one more of them stands, or is where there is no room
+pub byte_put : {u v w : Writer} (bs : List ℕ) (i : ℕ) → i < length bs → Writes u (take i bs) v → w.list.ghost_name ≡ v.list.ghost_name
+    → w.list.now ≡ set v.list.now v.written (get_or bs i 0) → w.written ≡ v.written + 1 → Writes u (take (i + 1) bs) w
+byte_put bs i h p same e k = writes_same (take_more bs i h) (writes_then p (written same (record { place = k; list = e })))
+
+-- the bytes after the loop are those that the writer had
+pub in_list : {out l l' bs : List ℕ} {k : ℕ} → l' ≡ l → Wrote out 0 bs l k → Wrote out 0 bs l' k
+in_list {out} {bs = bs} {k = k} e w = subst (λ (x : List ℕ). Wrote out 0 bs x k) (sym e) w
 
 -- the loop over the lines
 pub no_bytes : (bs : List ℕ) → eqb (length bs) 0 ≡ true → bs ≡ []
@@ -159,16 +156,14 @@ pub record Marking (bs out₀ out : List ℕ) (before : Option Line) (rest : Lis
 pub marking_first : (bs out₀ : List ℕ) → Marking bs out₀ out₀ no_line bs 0
 marking_first bs out₀ = record { still = record { place = refl; list = refl }; within = omega arith; close = omega arith }
 
-module _ {bs out₀ out : List ℕ} {before : Option Line} {rest : List ℕ} {next : ℕ} (m : Marking bs out₀ out before rest next) where
-  pub marking_length : length out ≡ length out₀
-  marking_length = still_length out next (marked_from true before rest) m.still
+pub marking_end : {bs out₀ out : List ℕ} {before : Option Line} {rest : List ℕ} {next : ℕ} → Marking bs out₀ out before rest next → rest ≡ []
+    → Wrote out₀ 0 (marked bs) out next
+marking_end {before = before} m h = none_left (ap (marked_from true before) h ∙ marked_none before) m.still
 
-  pub marking_end : rest ≡ [] → Wrote out₀ 0 (marked bs) out next
-  marking_end h = none_left (ap (marked_from true before) h ∙ marked_none before) m.still
-
+module _ {bs out₀ : List ℕ} {u : Writer} {before : Option Line} {rest : List ℕ} (m : Marking bs out₀ u.list.now before rest u.written) where
   -- a line with its mark
   module _ (h : 0 < length rest) (line : Option Line) (e : line ≡ line_in rest) (t : Bool) (f : t ≡ may_swap before line)
-      {out₁ : List ℕ} {to : ℕ} (w : Wrote out next (mark_text t) out₁ to) where
+      {v : Writer} (w : Writes u (mark_text t) v) where
     marked_here : marked_from true before rest ≡ mark_text t ++ (line_bytes rest ++ marked_from true line (behind rest))
     marked_here =
         marked_first before rest h
@@ -179,20 +174,20 @@ module _ {bs out₀ out : List ℕ} {before : Option Line} {rest : List ℕ} {ne
     two true = refl
     two false = refl
 
-    pub line_near : length bs ≤ 4294967295 → to + length rest < 18446744073709551616
+    pub line_near : length bs ≤ 4294967295 → v.written + length rest < 18446744073709551616
     line_near k = omega (arith, m.within, m.close, w.place, two t)
 
-    module _ {out₂ : List ℕ} {r : Text × ℕ} (c : CopiedLine rest out₁ to out₂ r) where
-      pub shorter : length r.0.now < length rest
+    module _ {x : Writer} {r : Text} (c : CopiedLine rest v x r) where
+      pub shorter : length r.now < length rest
       shorter = omega (arith, ap length c.left, line_lengths rest, line_some rest h)
 
-      pub marking_on : Marking bs out₀ out₂ line r.0.now r.1
+      pub marking_on : Marking bs out₀ x.list.now line r.now x.written
       marking_on =
           let more = marked_from true line (behind rest) in
-          let mark_done = part_done (mark_text t) (line_bytes rest ++ more) marked_here w m.still in
-          let line_done = part_done (line_bytes rest) more refl c.wrote mark_done in
+          let mark_done = part_done (mark_text t) (line_bytes rest ++ more) marked_here (wrote w) m.still in
+          let line_done = part_done (line_bytes rest) more refl (wrote c.wrote) mark_done in
           record {
-            still = subst (λ (x : List ℕ). Still out₀ 0 (marked bs) out₂ r.1 (marked_from true line x)) (sym c.left) line_done;
+            still = subst (λ (y : List ℕ). Still out₀ 0 (marked bs) x.list.now x.written (marked_from true line y)) (sym c.left) line_done;
             within = omega (arith, shorter, m.within);
             close = omega (arith, shorter, m.within, m.close, w.place, two t, c.wrote.place, ap length c.left, line_lengths rest, line_some rest h);
           }

@@ -2,7 +2,8 @@
 -- Inner: `MarkedLaws` proves that the lines, each behind its mark, make `Marked`.
 use Rattle.std.specs.Prelude.{◌≡◌, ℕ, ◌≤◌, List, [], ◌∷◌, cond, eqb, length, take, drop}
 use Rattle.listing.specs.Lines.{line_feed}
-use Rattle.listing.specs.Writing.{Wrote}
+use Rattle.listing.specs.declared.Writer.{Writer}
+use Rattle.listing.specs.Writing.{Writes}
 use Rattle.answers.specs.Readers.{Text}
 
 -- the first line of bs with its line feed, and what is behind it
@@ -20,7 +21,7 @@ pub record LineEnd (bs : List ℕ) (k : ℕ) : Type 0 where
   pub line : take k bs ≡ line_bytes bs
   pub left : drop k bs ≡ behind bs
 
--- the first line of bs stands in the output from `at` on
-pub record CopiedLine (bs out : List ℕ) (at : ℕ) (out' : List ℕ) (r : Text × ℕ) : Type 0 where
-  pub wrote : Wrote out at (line_bytes bs) out' r.1
-  pub left : r.0.now ≡ behind bs
+-- the first line of bs is written, and what is behind it is left
+pub record CopiedLine (bs : List ℕ) (to to' : Writer) (rest : Text) : Type 0 where
+  pub wrote : Writes to (line_bytes bs) to'
+  pub left : rest.now ≡ behind bs

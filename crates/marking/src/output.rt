@@ -1,30 +1,31 @@
 // A trace with the marks of its lines, two columns before each.
 ghost use Rattle.std.specs.Prelude.{◌≡◌, ◌+◌, ◌≤◌, ◌<◌, length, take, drop};
-ghost use Rattle.listing.specs.Writing.{Wrote};
+ghost use Rattle.listing.specs.Writing.{Wrote, Writes};
 ghost use Rattle.marking.specs.Marked.{mark_text, marked};
 ghost use Rattle.marking.specs.CopiedLines.{LineEnd, CopiedLine};
 
 use crate::{may_swap, reading};
+use listing::Writer;
 
-// Bytes from a place on, where there is room for them, and the place after them.
-fn put(out: &mut [u8], at: usize, bytes: &[u8]) -> usize
-    requires { at + length bytes.now < 18446744073709551616 }
-    ensures { Wrote out.old at bytes.now out.new result }
+// Bytes behind those that are written, as many as there is room for; those that do not fit are counted as well.
+fn put(to: &mut Writer<'_>, bytes: &[u8])
+    requires { to.old.written + length bytes.now < 18446744073709551616 }
+    ensures { Writes to.old bytes.now to.new }
 {
-    for (i, byte) in bytes.iter().enumerate() {
-        if at + i < out.len() {
-            out[at + i] = *byte;
+    for byte in bytes {
+        if to.written < to.list.len() {
+            to.list[to.written] = *byte;
         }
+        to.written += 1;
     }
-    at + bytes.len()
 }
 
-// The mark, and the place after it.
-fn put_mark(out: &mut [u8], at: usize, marked: bool) -> usize
-    requires { at + 2 < 18446744073709551616 }
-    ensures { Wrote out.old at (mark_text marked) out.new result }
+// The mark.
+fn put_mark(to: &mut Writer<'_>, marked: bool)
+    requires { to.old.written + 2 < 18446744073709551616 }
+    ensures { Writes to.old (mark_text marked) to.new }
 {
-    put(out, at, if marked { b"~ " } else { b"  " })
+    put(to, if marked { b"~ " } else { b"  " });
 }
 
 // Where the first line ends, behind its line feed.
@@ -39,13 +40,14 @@ fn line_end(text: &[u8]) -> usize
     text.len()
 }
 
-// The first line with its line feed; the text behind it, and the place after it in the output.
-fn copy_line<'a>(text: &'a [u8], out: &mut [u8], at: usize) -> (&'a [u8], usize)
-    requires { at + length text.now < 18446744073709551616 }
-    ensures { CopiedLine text.now out.old at out.new result }
+// The first line with its line feed; the text behind it.
+fn copy_line<'a>(text: &'a [u8], to: &mut Writer<'_>) -> &'a [u8]
+    requires { to.old.written + length text.now < 18446744073709551616 }
+    ensures { CopiedLine text.now to.old to.new result }
 {
     let (line, rest) = text.split_at(line_end(text));
-    (rest, put(out, at, line))
+    put(to, line);
+    rest
 }
 
 // The whole trace. The reply is the length of the marked trace; what does not fit is not written.
@@ -55,12 +57,15 @@ pub fn mark_lines(text: &[u8], out: &mut [u8]) -> usize
 {
     let mut before = None;
     let mut rest = text;
-    let mut next = 0;
+    let mut to = Writer {
+        list: out,
+        written: 0,
+    };
     while !rest.is_empty() {
         let line = reading::line(rest);
-        let at = put_mark(out, next, may_swap(before, line));
-        (rest, next) = copy_line(rest, out, at);
+        put_mark(&mut to, may_swap(before, line));
+        rest = copy_line(rest, &mut to);
         before = line;
     }
-    next
+    to.written
 }

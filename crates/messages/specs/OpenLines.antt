@@ -12,7 +12,6 @@ use Rattle.messages.specs.declared.calls.Moves.TheVariants.{Whole, Halves}
 use Rattle.messages.specs.declared.calls.Told.{Told}
 use Rattle.messages.specs.declared.calls.Word.{Word}
 use Rattle.messages.specs.declared.Left.{Left}
-use Rattle.positions.specs.declared.Item.{Item}
 use Rattle.positions.specs.declared.Sizes.{Sizes}
 use Rattle.positions.specs.declared.StopReport.{StopReport}
 use Rattle.positions.specs.declared.StopReport.TheVariants.{NotRead, AtFault, AtNoItem, AtItem}

@@ -65,7 +65,7 @@ fn is_order_mark(rest: &[u8]) -> bool
 }
 
 // What is expected after what was seen. Nothing is here where the text ends.
-// Kept: the arms say no value but which words are sought next, so a table of closures would hide the patterns.
+// Kept: the arms choose by patterns of both bytes and by guards, in their order, which no table of closures can show.
 fn expected(s: Seen, here: Option<u8>) -> &'static str {
     match (s.last, here) {
         (Some(b'0'..=b'9'), Some(b'0'..=b'9')) => stray_digit(s),

@@ -11,14 +11,16 @@ use moir_lines::points;
 use moir_model::{Bench, Process};
 use moir_steps::before::Before;
 
-// What stands for no access: none is made, or none is shown.
-pub fn no_access() -> Access
+// What stands for no access: an idle process makes none.
+// Kept: a trace asks also at a start, and drops what it gets; an Option would be opened at each step, which has an access.
+fn no_access() -> Access
     ensures { result ≡ no_access }
 {
     on_header::read(0, moir_model::header_at_set_up())
 }
 
 // From the memory before the step. An idle process and a line that is none are never stepped.
+// Kept: each line by its own number, as Figure 6 has it; the arms differ in that number and in what they take.
 #[tactic(auto, unfolding(crate::specs::Accesses::access_of))]
 pub fn access_of(bench: Bench, p: ProcessNumber, process: Process, words: &[u64]) -> Access
     requires { Ready bench process p words.now }

@@ -49,6 +49,7 @@ fn kind_of(line: u8) -> Option<Kind>
 }
 
 // Figure 6's own line.
+// Kept: a number, as Figure 6 numbers its lines: a message shows it, and `moves_of` takes ranges of them.
 fn figure_line(line: u8) -> u8
     ensures { result ≡ figure_line line }
 {

@@ -3,6 +3,7 @@
 
 #![tactic(auto)]
 
+use llsc::refusals::number_of;
 use std::alloc::AllocError;
 use std::process::ExitCode;
 
@@ -14,7 +15,7 @@ fn main(rt: HostRuntime) -> Result<ExitCode, AllocError> {
     let mut list = vec![in rt.alloc(); 0; 3145728]?;
     let out = moir_run::texts::run_text(given, true, &mut list);
     let ended = messages::Ended {
-        number: out.number,
+        number: number_of(out.outcome),
         entries: out.entries,
         report: out.report,
         text: given,
@@ -24,7 +25,7 @@ fn main(rt: HostRuntime) -> Result<ExitCode, AllocError> {
         &mut rt.stderr(),
         list.get(..out.written),
         ended,
-        moir_messages::left(out.all),
+        moir_messages::left(out.held),
     );
     Ok(status)
 }

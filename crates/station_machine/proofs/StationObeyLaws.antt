@@ -1,5 +1,5 @@
 -- Where no row holds, the order can be obeyed on its record.
-use mathlib.Core.Path.{◌≡◌, refl, ap, ap₂, ◌∙◌}
+use mathlib.Core.Path.{◌≡◌, refl, ap, ap₂, subst, ◌∙◌}
 use mathlib.Core.List.{List}
 use mathlib.Core.Bool.{Bool, true, false, ◌||◌, cond}
 use Prim.Native.Nat.{ℕ, ◌+◌, ◌*◌, ◌<◌, ◌≤◌}
@@ -17,6 +17,8 @@ use Rattle.model.specs.Sizes.{buffers}
 use Rattle.llsc.specs.Rows.{row1, row2}
 use Rattle.model.specs.Refusals.{process_ok}
 use Rattle.model.specs.Machine.{obey_in}
+use Rattle.model.specs.Words.{Layout}
+use Rattle.taken.specs.Ranges.{Ready}
 use Rattle.words.specs.declared.layouts.FirstRows.{FirstRows}
 use Rattle.words.specs.Layouts.{layout_from}
 use Rattle.steps.specs.Layouts.{ObeyableIn, Placed}
@@ -34,7 +36,7 @@ use Rattle.station_facts.proofs.Accepts.{Accepts, accepts, every_number}
 use Rattle.station_facts.proofs.RecordRows.{below_record}
 use Rattle.serving.proofs.RefusalFacts.{and_true}
 use Rattle.station_machine.specs.declared.Outcome.{Outcome}
-use Rattle.station_machine.specs.StationDecision.{Decided, rows_from, obeyed_outcome, obeyed_at, obeyed_on, station_decided}
+use Rattle.station_machine.specs.StationDecision.{Decided, Sizes, RowsOf, obeyed_outcome, obeyed_at, obeyed_on, station_decided}
 
 -- no row holds, and so none does where row 3 counts other process records, enough of them
 more_lent : (a b c x y y' : Bool) (rest : ℕ) → cond a 1 (cond b 2 (cond c 23 (cond (x || y) 3 rest))) ≡ 0 → (a ≡ false → y' ≡ false)
@@ -76,8 +78,8 @@ module _ (s : Station) (list : List StationProcess) (len p : ℕ) (o : Order) (n
     pub record_small : j.0 < 8
     record_small = omega (arith, a.on, a.r_high)
 
-    pub sizes_small : (s.n ≤ 16) × (s.r ≤ 8)
-    sizes_small = (a.n_high, a.r_high)
+    pub sizes_small : Sizes s
+    sizes_small = record { n_most = a.n_high; w_most = a.w_high; r_most = a.r_high }
 
     ok : process_ok s.n s.w (process_of j q) ≡ true
     ok = every_number (λ i. process_ok s.n s.w (process_of (record { 0 = i }) q)) s.r j.0 (and_true (called_ok s.r q) _ a.ranges).1 a.on
@@ -86,35 +88,32 @@ module _ (s : Station) (list : List StationProcess) (len p : ℕ) (o : Order) (n
     range = in_range_lem s.n s.w (process_of j q) a.w_high ok
 
     -- the rows of record j are among the (3R + 2)N that are lent
-    placed : Placed (rows_from s.n s.r j) s.n s.w words
-    placed =
+    placed : {f : FirstRows} → RowsOf s j f → Placed f s.n words
+    placed f =
         let T : ℕ = (3 * s.r + 2) * s.n in
         let up : (k : ℕ) → k ≤ T → k * s.w ≤ length words = λ k h. omega (arith, mul-le-mul_right {m = k} {n = T} s.w h, a.words) in
         let below = below_record s.n j.0 s.r a.on in
-        let few : s.r * buffers s.n ≤ 8 * 48 = mul-le-mul {n₂ = 8} {m₂ = 48} a.r_high (omega (arith, a.n_high)) in
         record {
-          few = record { buffers_few = omega (arith, below, few); returns_few = omega (arith, few); offers_few = omega (arith, few, a.n_high) };
-          buffers_lent = up (j.0 * buffers s.n + buffers s.n) (omega (arith, below));
-          returns_lent = up (s.r * buffers s.n + s.n) (omega arith);
-          offers_lent = up (s.r * buffers s.n + s.n + s.n) (omega arith);
+          buffers_lent = rw (f.width, f.buffers_at) (up (j.0 * buffers s.n + buffers s.n) (omega (arith, below)));
+          returns_lent = rw (f.width, f.returns_at) (up (s.r * buffers s.n + s.n) (omega arith));
+          offers_lent = rw (f.width, f.offers_at) (up (s.r * buffers s.n + s.n + s.n) (omega arith));
         }
 
-    pub obeyable : ObeyableIn (rows_from s.n s.r j) o (record { 0 = p }) value (bench_in s j) (process_of j q) words
-    obeyable =
+    pub obeyable : {f : FirstRows} → RowsOf s j f → ObeyableIn f o (record { 0 = p }) value (bench_in s j) (process_of j q) words
+    obeyable f =
         let five : 5 * s.n * s.w ≤ station_words s.n s.w s.r = mul-le-mul_right s.w (let z : 1 * s.n ≤ s.r * s.n = mul-le-mul_right s.n a.r_low in omega arith) in
+        let ready : Ready s.n s.w (process_of j q) (record { 0 = p }) words = record {
+          lent = record { n_some = a.n_low; n_most = a.n_high; w_most = a.w_high; process = a.below; words = omega (arith, five, a.words) };
+          mybuf = range.mybuf;
+          x_buf = range.x_buf;
+          x_seq = range.x_seq;
+          b_buf = range.b_buf;
+          word = range.word;
+          count = range.count;
+        } in
         record {
-          ready_in = record {
-            ready = record {
-              lent = record { n_some = a.n_low; n_most = a.n_high; w_most = a.w_high; process = a.below; words = omega (arith, five, a.words) };
-              mybuf = range.mybuf;
-              x_buf = range.x_buf;
-              x_seq = range.x_seq;
-              b_buf = range.b_buf;
-              word = range.word;
-              count = range.count;
-            };
-            placed = placed;
-          };
+          ready_in = record { ready = rw f.width ready; placed = placed f };
+          w_is = f.width;
           value = a.value;
         }
 
@@ -134,7 +133,7 @@ module _ (s : Station) (list : List StationProcess) (len p : ℕ) (o : Order) (n
     pub number_is : i ≡ (record_about o named q').0
     pub bench_is : b ≡ bench_in s (record { 0 = i })
     pub seen_is : u ≡ process_of (record { 0 = i }) q'
-    pub rows_is : f ≡ rows_from s.n s.r (record { 0 = i })
+    pub rows_is : RowsOf s (record { 0 = i }) f
 
   module _ {q' : StationProcess} {i : ℕ} {b : Bench} {u : Process} {f : FirstRows} (t : TakenOut q' i b u f) where
     record_is : i ≡ j.0
@@ -146,11 +145,14 @@ module _ (s : Station) (list : List StationProcess) (len p : ℕ) (o : Order) (n
     seen_at : u ≡ process_of j q
     seen_at = t.seen_is ∙ ap₂ (λ (k : ℕ) (x : StationProcess). process_of (record { 0 = k }) x) record_is t.process_is
 
-    rows_at : f ≡ rows_from s.n s.r j
-    rows_at = t.rows_is ∙ ap (λ (k : ℕ). rows_from s.n s.r (record { 0 = k })) record_is
+    rows_at : RowsOf s j f
+    rows_at = subst (λ (k : ℕ). RowsOf s (record { 0 = k }) f) record_is t.rows_is
+
+    layout_at : layout_from f ≡ station_layout s.n s.r j
+    layout_at = rw (rows_at.buffers_at, rows_at.returns_at, rows_at.offers_at) refl
 
     pub taken_obeyable : length list ≡ 16 → number ≡ 0 → ObeyableIn f o (record { 0 = p }) value b u words
-    taken_obeyable l e = rw (rows_at, bench_at, seen_at) (obeyable l e)
+    taken_obeyable l e = rw (bench_at, seen_at) (obeyable l e rows_at)
 
     pub taken_small : length list ≡ 16 → number ≡ 0 → i < 8
     taken_small l e = rw record_is (record_small l e)
@@ -160,5 +162,5 @@ module _ (s : Station) (list : List StationProcess) (len p : ℕ) (o : Order) (n
     whole {m} {ws} e h g =
         ap (λ (x : Outcome). (Ok x, ws)) g
         ∙ ap₂ (λ (k : ℕ) (x : StationProcess). (Ok (obeyed_outcome s (record { 0 = k }) x m p), ws)) record_is t.process_is
-        ∙ obeyed_law (m, ws) e (h ∙ ap (λ (x : FirstRows). obey_in (layout_from x) o (record { 0 = p }) value b u words) rows_at
+        ∙ obeyed_law (m, ws) e (h ∙ ap (λ (x : Layout). obey_in x o (record { 0 = p }) value b u words) layout_at
         ∙ ap₂ (λ (x : Bench) (y : Process). obey_in (station_layout s.n s.r j) o (record { 0 = p }) value x y words) bench_at seen_at)

@@ -1,7 +1,7 @@
 -- The command of a station by value: `list` is the lent process records with a filler after them, `len` how many were
 -- lent.
 -- Inner: `StationDecisionLaws` proves that this, stored back, is `station`'s command.
-use Rattle.std.specs.Prelude.{ℕ, ◌+◌, ◌*◌, List, cond, eqb, Result, Ok, Err, length, get_or, set}
+use Rattle.std.specs.Prelude.{◌≡◌, ◌≤◌, ℕ, ◌+◌, ◌*◌, List, cond, eqb, Result, Ok, Err, length, get_or, set}
 use Rattle.llsc.specs.declared.refusals.Refusal.{Refusal}
 use Rattle.llsc.specs.Refusals.{refusal_number}
 use Rattle.llsc.specs.declared.Order.{Order}
@@ -21,9 +21,18 @@ use Rattle.station_records.specs.TakenOut.{bench_in, with_tables}
 use Rattle.station_rows.specs.StationCommandRows.{station_number}
 use Rattle.station_machine.specs.declared.Outcome.{Outcome}
 
+-- what rows 1, 2 and 23 leave of N, W and R
+pub record Sizes (s : Station) : Type 0 where
+  pub n_most : s.n ≤ 16
+  pub w_most : s.w ≤ 64
+  pub r_most : s.r ≤ 8
+
 -- the rows at which record j's words begin
-abbrev pub rows_from : ℕ → ℕ → RecordNumber → FirstRows
-rows_from n r j = record { buffers = j.0 * buffers n; returns = r * buffers n; offers = r * buffers n + n }
+pub record RowsOf (s : Station) (j : RecordNumber) (f : FirstRows) : Type 0 where
+  pub buffers_at : f.buffers ≡ j.0 * buffers s.n
+  pub returns_at : f.returns ≡ s.r * buffers s.n
+  pub offers_at : f.offers ≡ s.r * buffers s.n + s.n
+  pub width : f.w ≡ s.w
 
 -- what record j's bench made of the order, put back
 abbrev pub obeyed_outcome : Station → RecordNumber → StationProcess → Moved → ℕ → Outcome

@@ -4,7 +4,7 @@
 
 ghost use Rattle.std.specs.Prelude.{◌≡◌, ◌≤◌, ◌<◌, Ok, length};
 ghost use Rattle.station_rows.specs.StationCommandRows.{station_number};
-ghost use Rattle.station_machine.specs.StationDecision.{rows_from, obeyed_outcome, numbered, station_decided};
+ghost use Rattle.station_machine.specs.StationDecision.{Sizes, RowsOf, obeyed_outcome, numbered, station_decided};
 
 use llsc::ProcessNumber;
 use llsc::refusals::Refusal;
@@ -38,15 +38,17 @@ fn obeyed(station: Station, j: RecordNumber, q: StationProcess, moved: Moved, p:
 }
 
 // The rows at which record j's words begin.
-fn rows_of(n: usize, r: usize, j: RecordNumber) -> FirstRows
-    requires { (n ≤ 16) × (r ≤ 8) }
-    ensures { result ≡ rows_from n r j }
+fn rows_of(station: Station, j: RecordNumber) -> FirstRows
+    requires { Sizes station × (j.0 < 8) }
+    ensures { RowsOf station j result }
 {
-    let each = sizes::buffers(n);
+    let each = sizes::buffers(station.n);
+    let records = station.r * each;
     FirstRows {
         buffers: (j.0 as usize) * each,
-        returns: r * each,
-        offers: r * each + n,
+        returns: records,
+        offers: records + station.n,
+        w: station.w,
     }
 }
 
@@ -68,7 +70,7 @@ pub fn obey(lent: Gathered, command: Command, value: &[u64], words: &mut [u64]) 
     let j = RecordNumber(causes::record_about(order, named, q) as u8);
     let bench = station_records::bench_of(station, j);
     let process = station_records::process_of(j, q);
-    let rows = rows_of(station.n, station.r, j);
+    let rows = rows_of(station, j);
     let moved = orders::obey_in(rows, order, me, value, bench, process, words);
     obeyed(station, j, q, moved, p)
 }

@@ -8,29 +8,26 @@ use Rattle.llsc.specs.declared.Order.{Order}
 use Rattle.model.specs.Sizes.{buffers, halves}
 use Rattle.llsc.specs.Rows.{brings_value}
 use Rattle.words.specs.declared.layouts.FirstRows.{FirstRows}
-use Rattle.words.specs.Layouts.{Few}
 use Rattle.taken.specs.Ranges.{Ready}
 
 -- the 3N buffers, the N return areas and the N offer areas are lent
-pub record Placed (f : FirstRows) (n w : ℕ) (ws : List ℕ) : Type 0 where
-  pub few : Few f
-  pub buffers_lent : (f.buffers + buffers n) * w ≤ length ws
-  pub returns_lent : (f.returns + n) * w ≤ length ws
-  pub offers_lent : (f.offers + n) * w ≤ length ws
+pub record Placed (f : FirstRows) (n : ℕ) (ws : List ℕ) : Type 0 where
+  pub buffers_lent : (f.buffers + buffers n) * f.w ≤ length ws
+  pub returns_lent : (f.returns + n) * f.w ≤ length ws
+  pub offers_lent : (f.offers + n) * f.w ≤ length ws
 
-pub record ReadyIn (f : FirstRows) (n w : ℕ) (q : Process) (p : ProcessNumber) (ws : List ℕ) : Type 0 where
-  pub ready : Ready n w q p ws
-  pub placed : Placed f n w ws
+pub record ReadyIn (f : FirstRows) (n : ℕ) (q : Process) (p : ProcessNumber) (ws : List ℕ) : Type 0 where
+  pub ready : Ready n f.w q p ws
+  pub placed : Placed f n ws
 
--- and an SC's value has W words
+-- and an SC's value has W words, W being the bench's
 pub record ObeyableIn (f : FirstRows) (o : Order) (p : ProcessNumber) (v : List ℕ) (b : Bench) (q : Process) (ws : List ℕ) : Type 0 where
-  pub ready_in : ReadyIn f b.n b.w q p ws
+  pub ready_in : ReadyIn f b.n q p ws
+  pub w_is : f.w ≡ b.w
   pub value : brings_value o ≡ true → length v ≡ b.w
 
 -- a half word moves from the word at `source` to the word at `target`
-pub record Moves (f : FirstRows) (w : ℕ) (q : Process) (source target : ℕ) (ws : List ℕ) : Type 0 where
-  pub few : Few f
-  pub w_most : w ≤ 64
+pub record Moves (w : ℕ) (q : Process) (source target : ℕ) (ws : List ℕ) : Type 0 where
   pub word : q.word < halves w
   pub count : q.count < 4294967296
   pub source_lent : source < length ws

@@ -14,27 +14,25 @@ use taken::{Stepped, Taken};
 use words::layouts::FirstRows;
 use words::word_runs;
 
-// Kept: rows, n, w and p one by one, as the definitions take them: each contract would take a struct of them apart.
 // LL begins at line 1, SC at line 12, with its words in the offer area already, VL at line 23.
 #[tactic(auto, unfolding(crate::specs::Steps::obey_on_in))]
 pub fn obey_taken_in(
     rows: FirstRows,
     order: Order,
     n: usize,
-    w: usize,
     p: ProcessNumber,
     process: Process,
     taken: Taken,
     words: &mut [u64],
 ) -> Stepped
-    requires { ReadyIn rows n w process p words.old }
-    ensures { (result, words.new) ≡ obey_on_in (layout_from rows) order p n w taken process words.old }
+    requires { ReadyIn rows n process p words.old }
+    ensures { (result, words.new) ≡ obey_on_in (layout_from rows) order p n rows.w taken process words.old }
 {
     let first = match order {
         Order::StartLl => points::LINE_1,
         Order::StartSc => points::LINE_12,
         Order::StartVl => points::LINE_23,
-        Order::Step => return step::on_taken(rows, n, w, p, process, taken, words),
+        Order::Step => return step::on_taken(rows, n, p, process, taken, words),
     };
     Stepped::accepted(taken, records::begun(first, process))
 }
@@ -52,16 +50,8 @@ pub fn obey_taken(
     requires { Ready n w process p words.old }
     ensures { (result, words.new) ≡ obey_on order p n w taken process words.old }
 {
-    obey_taken_in(
-        FirstRows::one_record(n),
-        order,
-        n,
-        w,
-        p,
-        process,
-        taken,
-        words,
-    )
+    let rows = FirstRows::one_record(n, w);
+    obey_taken_in(rows, order, n, p, process, taken, words)
 }
 
 // The words of an SC's start into the offer area; no other order brings any.
@@ -75,10 +65,10 @@ fn offer(
     words: &mut [u64],
 )
     requires { ObeyableIn rows order p value.now bench process words.old }
-    ensures { words.new ≡ offered_in (layout_from rows) order p bench.w value.now words.old }
+    ensures { words.new ≡ offered_in (layout_from rows) order p rows.w value.now words.old }
 {
     if let Order::StartSc = order {
-        word_runs::copy_in(words, rows.offer_in(bench.w, p, 0), value);
+        word_runs::copy_in(words, rows.offer_in(p, 0), value);
     }
 }
 
@@ -97,10 +87,9 @@ pub fn obey_in(
 {
     offer(rows, order, p, value, bench, process, words);
     let n = bench.n;
-    let w = bench.w;
     let i = taken::bank_index(n, process);
     let j = taken::help_index(n, p, process);
     let places = taken::take(bench, i, j);
-    let stepped = obey_taken_in(rows, order, n, w, p, process, places, words);
+    let stepped = obey_taken_in(rows, order, n, p, process, places, words);
     taken::put_back(bench, i, j, stepped)
 }

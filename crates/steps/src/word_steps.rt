@@ -17,55 +17,42 @@ use words::word_places;
 // Lines 3, 6 and 7's copy: a half word of BUF[from] into the return area of p. `line` follows the last half.
 pub fn read_word(
     rows: FirstRows,
-    w: usize,
     p: ProcessNumber,
     from: BufferNumber,
     line: u8,
     process: Process,
     words: &mut [u64],
 ) -> WordStep
-    requires { Moves rows w process (buffer_in (layout_from rows) w from (word_of process.word)) (return_in (layout_from rows) w p (word_of process.word)) words.old }
-    ensures { (result, words.new) ≡ read_word (layout_from rows) w p from (do_word_then (halves w) line process) process words.old }
+    requires { Moves rows.w process (buffer_in (layout_from rows) rows.w from (word_of process.word)) (return_in (layout_from rows) rows.w p (word_of process.word)) words.old }
+    ensures { (result, words.new) ≡ read_word (layout_from rows) rows.w p from (do_word_then (halves rows.w) line process) process words.old }
 {
     let k = process.word;
-    let source = rows.buffer_in(w, from, k / 2);
-    let target = rows.return_in(w, p, k / 2);
+    let source = rows.buffer_in(from, k / 2);
+    let target = rows.return_in(p, k / 2);
     word_places::copy_half(words, k, source, target);
-    on_words::do_word(sizes::halves(w), line, process)
+    on_words::do_word(sizes::halves(rows.w), line, process)
 }
 
 // Line 11: a half word of the return area into BUF[mybuf].
-pub fn step_11(
-    rows: FirstRows,
-    w: usize,
-    p: ProcessNumber,
-    process: Process,
-    words: &mut [u64],
-) -> WordStep
-    requires { Moves rows w process (return_in (layout_from rows) w p (word_of process.word)) (buffer_in (layout_from rows) w process.mybuf (word_of process.word)) words.old }
-    ensures { (result, words.new) ≡ written_word (layout_from rows) w (return_in (layout_from rows) w p (word_of process.word)) (do_line11 (halves w) process) process words.old }
+pub fn step_11(rows: FirstRows, p: ProcessNumber, process: Process, words: &mut [u64]) -> WordStep
+    requires { Moves rows.w process (return_in (layout_from rows) rows.w p (word_of process.word)) (buffer_in (layout_from rows) rows.w process.mybuf (word_of process.word)) words.old }
+    ensures { (result, words.new) ≡ written_word (layout_from rows) rows.w (return_in (layout_from rows) rows.w p (word_of process.word)) (do_line11 (halves rows.w) process) process words.old }
 {
     let k = process.word;
-    let source = rows.return_in(w, p, k / 2);
-    let target = rows.buffer_in(w, process.mybuf, k / 2);
+    let source = rows.return_in(p, k / 2);
+    let target = rows.buffer_in(process.mybuf, k / 2);
     word_places::copy_half(words, k, source, target);
-    on_words::do_line_11(sizes::halves(w), process)
+    on_words::do_line_11(sizes::halves(rows.w), process)
 }
 
 // Line 17: a half word of the offer area into BUF[mybuf].
-pub fn step_17(
-    rows: FirstRows,
-    w: usize,
-    p: ProcessNumber,
-    process: Process,
-    words: &mut [u64],
-) -> WordStep
-    requires { Moves rows w process (offer_in (layout_from rows) w p (word_of process.word)) (buffer_in (layout_from rows) w process.mybuf (word_of process.word)) words.old }
-    ensures { (result, words.new) ≡ written_word (layout_from rows) w (offer_in (layout_from rows) w p (word_of process.word)) (do_word (halves w) line18 process) process words.old }
+pub fn step_17(rows: FirstRows, p: ProcessNumber, process: Process, words: &mut [u64]) -> WordStep
+    requires { Moves rows.w process (offer_in (layout_from rows) rows.w p (word_of process.word)) (buffer_in (layout_from rows) rows.w process.mybuf (word_of process.word)) words.old }
+    ensures { (result, words.new) ≡ written_word (layout_from rows) rows.w (offer_in (layout_from rows) rows.w p (word_of process.word)) (do_word (halves rows.w) line18 process) process words.old }
 {
     let k = process.word;
-    let source = rows.offer_in(w, p, k / 2);
-    let target = rows.buffer_in(w, process.mybuf, k / 2);
+    let source = rows.offer_in(p, k / 2);
+    let target = rows.buffer_in(process.mybuf, k / 2);
     word_places::copy_half(words, k, source, target);
-    on_words::do_word(sizes::halves(w), points::LINE_18, process)
+    on_words::do_word(sizes::halves(rows.w), points::LINE_18, process)
 }

@@ -1,15 +1,13 @@
--- The layout of one record alone, and places in any layout.
+-- The layout of one record alone.
 use mathlib.Core.Path.{◌≡◌, ap, fun_ext}
-use Prim.Native.Nat.{ℕ, ◌+◌, ◌*◌, ◌≤◌}
+use Prim.Native.Nat.{ℕ, ◌+◌}
 use native.Mathlib.Omega.{arith}
-use Rattle.model.specs.Sizes.{buffers}
-use Rattle.model.specs.Words.{one_record}
-use Rattle.words.specs.Layouts.{layout_from, one_rows, Few}
+use Rattle.model.specs.Sizes.{buffers, rows_before_offers}
+use Rattle.model.specs.Words.{Layout, one_record}
+use Rattle.words.specs.declared.layouts.FirstRows.{FirstRows}
+use Rattle.words.specs.Layouts.{layout_from, OneRecord}
 
-pub one_layout : (n : ℕ) → layout_from (one_rows n) ≡ one_record n
-one_layout n =
-    let b : ◌≡◌ {A = ℕ → ℕ} (λ i. 0 + i) (λ i. i) = fun_ext (λ i. omega arith) in
-    ap (λ (f : ℕ → ℕ). record { buffer = f; returns = buffers n; offers = 4 * n }) b
-
-pub one_few : (n : ℕ) → n ≤ 16 → Few (one_rows n)
-one_few n h = record { buffers_few = omega arith; returns_few = omega arith; offers_few = omega arith }
+pub one_layout : {n w : ℕ} {f : FirstRows} → OneRecord n w f → layout_from f ≡ one_record n
+one_layout {n} {w} {f} o =
+    let b : ◌≡◌ {A = ℕ → ℕ} (λ i. f.buffers + i) (λ i. i) = fun_ext (λ i. omega (arith, o.buffers_at)) in
+    rw (o.returns_at, o.offers_at) (ap (λ (g : ℕ → ℕ). record { buffer = g; returns = buffers n; offers = rows_before_offers n }) b)

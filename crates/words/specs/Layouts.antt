@@ -1,18 +1,16 @@
 -- The layout of a record's words, from the rows at which they begin.
 -- Inner: `LayoutLaws` proves that the one of one record alone is `model`'s.
-use Rattle.std.specs.Prelude.{ℕ, ◌+◌, ◌*◌, ◌≤◌}
-use Rattle.model.specs.Sizes.{buffers}
+use Rattle.std.specs.Prelude.{◌≡◌, ℕ, ◌+◌}
+use Rattle.model.specs.Sizes.{buffers, rows_before_offers}
 use Rattle.model.specs.Words.{Layout}
 use Rattle.words.specs.declared.layouts.FirstRows.{FirstRows}
 
 abbrev pub layout_from : FirstRows → Layout
 layout_from f = record { buffer = λ b. f.buffers + b; returns = f.returns; offers = f.offers }
 
-abbrev pub one_rows : ℕ → FirstRows
-one_rows n = record { buffers = 0; returns = buffers n; offers = 4 * n }
-
--- there are at most 400 rows before them: a place in them fits a machine number
-pub record Few (f : FirstRows) : Type 0 where
-  pub buffers_few : f.buffers ≤ 400
-  pub returns_few : f.returns ≤ 400
-  pub offers_few : f.offers ≤ 400
+-- the rows of one record alone, n for N and w for W
+pub record OneRecord (n w : ℕ) (f : FirstRows) : Type 0 where
+  pub buffers_at : f.buffers ≡ 0
+  pub returns_at : f.returns ≡ buffers n
+  pub offers_at : f.offers ≡ rows_before_offers n
+  pub width : f.w ≡ w

@@ -1,8 +1,6 @@
 // Where a record's words lie: the rows, of W words each, at which its buffers, the return areas and the offer areas
 // begin.
 ghost use Rattle.std.specs.Prelude.{◌≡◌, ◌+◌, ◌*◌, ◌≤◌, ◌<◌};
-ghost use Rattle.model.specs.Words.{buffer_in, return_in, offer_in};
-ghost use Rattle.words.specs.Layouts.{layout_from, one_rows, Few};
 
 use llsc::ProcessNumber;
 use model::{BufferNumber, sizes};
@@ -12,6 +10,9 @@ pub struct FirstRows {
     pub buffers: usize,
     pub returns: usize,
     pub offers: usize,
+    pub w: usize,
+    // so few that a place in them fits a machine number
+    pub ghost few: { (buffers ≤ 400) × ((returns ≤ 400) × ((offers ≤ 400) × (w ≤ 64))) },
 }
 
 // Where word k of a row lies.
@@ -22,40 +23,46 @@ pub(crate) fn word_of_row(row: usize, w: usize, k: usize) -> usize
     row * w + k
 }
 
+// Kept: three functions that tell where a word lies, as a buffer's number and a process's are two kinds of number, and
+// an area's first row is another for each.
 impl FirstRows {
+    ghost use Rattle.model.specs.Words.{buffer_in, return_in, offer_in};
+    ghost use Rattle.words.specs.Layouts.{layout_from, OneRecord};
+
     // One record alone.
-    pub fn one_record(n: usize) -> FirstRows
-        requires { n ≤ 16 }
-        ensures { result ≡ one_rows n }
+    pub fn one_record(n: usize, w: usize) -> FirstRows
+        requires { (n ≤ 16) × (w ≤ 64) }
+        ensures { OneRecord n w result }
     {
         FirstRows {
             buffers: 0,
             returns: sizes::buffers(n),
             offers: sizes::rows_before_offers(n),
+            w,
         }
     }
 
     // Where word k of BUF[b] lies.
-    pub fn buffer_in(self, w: usize, b: BufferNumber, k: usize) -> usize
-        requires { Few self × ((w ≤ 64) × (k < 64)) }
-        ensures { result ≡ buffer_in (layout_from self) w b k }
+    pub fn buffer_in(self, b: BufferNumber, k: usize) -> usize
+        requires { k < 64 }
+        ensures { result ≡ buffer_in (layout_from self) self.w b k }
     {
-        word_of_row(self.buffers + b.0 as usize, w, k)
+        word_of_row(self.buffers + b.0 as usize, self.w, k)
     }
 
     // Where word k of p's return area lies.
-    pub fn return_in(self, w: usize, p: ProcessNumber, k: usize) -> usize
-        requires { Few self × ((w ≤ 64) × (k < 64)) }
-        ensures { result ≡ return_in (layout_from self) w p k }
+    pub fn return_in(self, p: ProcessNumber, k: usize) -> usize
+        requires { k < 64 }
+        ensures { result ≡ return_in (layout_from self) self.w p k }
     {
-        word_of_row(self.returns + p.0 as usize, w, k)
+        word_of_row(self.returns + p.0 as usize, self.w, k)
     }
 
     // Where word k of p's offer area lies.
-    pub fn offer_in(self, w: usize, p: ProcessNumber, k: usize) -> usize
-        requires { Few self × ((w ≤ 64) × (k < 64)) }
-        ensures { result ≡ offer_in (layout_from self) w p k }
+    pub fn offer_in(self, p: ProcessNumber, k: usize) -> usize
+        requires { k < 64 }
+        ensures { result ≡ offer_in (layout_from self) self.w p k }
     {
-        word_of_row(self.offers + p.0 as usize, w, k)
+        word_of_row(self.offers + p.0 as usize, self.w, k)
     }
 }

@@ -20,7 +20,7 @@ pub fn return_word(n: usize, w: usize, p: ProcessNumber, k: usize) -> usize
     requires { (n ≤ 16) × ((w ≤ 64) × (k < 64)) }
     ensures { result ≡ return_word n w p k }
 {
-    FirstRows::one_record(n).return_in(w, p, k)
+    FirstRows::one_record(n, w).return_in(p, k)
 }
 
 // Where word k of p's offer area lies.
@@ -28,7 +28,7 @@ pub fn offer_word(n: usize, w: usize, p: ProcessNumber, k: usize) -> usize
     requires { (n ≤ 16) × ((w ≤ 64) × (k < 64)) }
     ensures { result ≡ offer_word n w p k }
 {
-    FirstRows::one_record(n).offer_in(w, p, k)
+    FirstRows::one_record(n, w).offer_in(p, k)
 }
 
 // How many values a half word has.

@@ -42,8 +42,10 @@ bench_of-bench-requires c =
 pub rows_of-rows-requires : goal.rows_of-rows-requires
 rows_of-rows-requires c =
     let a = c.args in
-    let sixteen : length a.lent.all ≡ 16 = omega arith in
-    sizes_small a.lent.station a.lent.all a.lent.len a.command.process a.command.order a.command.named a.value.now a.words.now sixteen c.requires
+    let sixteen : length a.lent.all ≡ 16 = omega arith in (
+      sizes_small a.lent.station a.lent.all a.lent.len a.command.process a.command.order a.command.named a.value.now a.words.now sixteen c.requires,
+      rw (c.record_about.ensures, c.record_place.ensures) (record_small a.lent.station a.lent.all a.lent.len a.command.process a.command.order a.command.named a.value.now a.words.now sixteen c.requires),
+    )
 
 pub obey_in-moved-requires : goal.obey_in-moved-requires
 obey_in-moved-requires c =

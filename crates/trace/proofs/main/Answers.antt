@@ -4,4 +4,4 @@ use Rattle.trace.proofs.main.Goals as goal
 
 pub trace_by_value-out-requires : goal.trace_by_value-out-requires
 trace_by_value-out-requires c =
-    fillers c.no_process.result c.records_of-all.result c.no_process.ensures c.records_of-all.ensures
+    fillers c.no_process-all.result _ c.no_process-all.ensures refl

@@ -1,11 +1,11 @@
 -- `board_listing::listed::run_file`: refused by its rows, or run.
-use mathlib.Core.Path.{sym, ◌∙◌}
+use mathlib.Core.Path.{sym}
 use native.Mathlib.Omega.{arith}
 use Rattle.board_listing.proofs.ListedLaws.{file_small, file_refused, file_run_is}
 use Rattle.board_listing.proofs.listed.run_file.Goals as goal
 
 pub refused-requires : goal.refused-requires
-refused-requires c = (file_small c.args.file.now (c.number.ensures ∙ sym c.in-Err.ensures), c.requires.2)
+refused-requires c = (file_small c.args.file.now (sym c.in-Err.ensures), c.requires.2)
 
 pub obey_records-done-requires : goal.obey_records-done-requires
 obey_records-done-requires c = (c.requires.0, omega (arith, c.in-Ok.ensures.few))
@@ -18,4 +18,4 @@ returns-in-Ok c =
 pub returns-in-Err : goal.returns-in-Err
 returns-in-Err c =
     let x = c.args in
-    file_refused x.run x.words.now x.file.now x.list.now _ c.in-Err.ensures c.number.ensures c.refused.ensures
+    file_refused x.run x.words.now x.file.now x.list.now _ c.in-Err.ensures c.refused.ensures

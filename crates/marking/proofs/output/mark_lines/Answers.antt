@@ -1,18 +1,23 @@
-use Rattle.std.proofs.Common.{sym}
-use Rattle.marking.proofs.MarkedLaws.{no_bytes, some_bytes, marking_end, shorter, marking_on}
+use Rattle.std.proofs.Common.{rules, sym, ◌∙◌}
+use Rattle.marking.proofs.MarkedLaws.{no_bytes, some_bytes, marking_end, shorter, marking_on, in_list}
 use Rattle.marking.proofs.output.mark_lines.Goals as goal
 
 pub loop-rest-smaller : goal.loop-rest-smaller
 loop-rest-smaller c =
     let l = c.loop-rest in
     let some = some_bytes l.rest.now (sym c.loop-rest-test.ensures) in
-    shorter l.invariant some _ c.line-line.ensures _ c.may_swap.ensures c.put_mark-at.ensures c.copy_line.ensures
+    shorter l.invariant.marking some _ c.line-line.ensures _ c.may_swap.ensures c.put_mark.ensures c.copy_line-rest.ensures
 
 pub loop-rest-preserved : goal.loop-rest-preserved
 loop-rest-preserved c =
     let l = c.loop-rest in
     let some = some_bytes l.rest.now (sym c.loop-rest-test.ensures) in
-    marking_on l.invariant some _ c.line-line.ensures _ c.may_swap.ensures c.put_mark-at.ensures c.copy_line.ensures
+    record {
+      marking = marking_on l.invariant.marking some _ c.line-line.ensures _ c.may_swap.ensures c.put_mark.ensures c.copy_line-rest.ensures;
+      same = c.copy_line-rest.ensures.wrote.same ∙ (c.put_mark.ensures.same ∙ l.invariant.same);
+    }
 
 pub returns : goal.returns
-returns c = marking_end c.loop-rest.invariant (no_bytes c.loop-rest.rest.now (sym c.loop-rest-test.ensures))
+returns c =
+    let l = c.loop-rest in
+    in_list {l = l.to.list.now} (search rules) (marking_end l.invariant.marking (no_bytes l.rest.now (sym c.loop-rest-test.ensures)))

@@ -1,19 +1,15 @@
-use Rattle.std.proofs.Common.{◌≡◌, sym, ap, ◌∙◌, List, ℕ, ◌+◌, set, get_or}
+-- `marking::output::put`: the bytes passed are written.
+use Rattle.std.proofs.Common.{refl, sym, arith}
 use lib.Seq.{set_out}
-use Rattle.marking.proofs.MarkedLaws.{put_on}
+use Rattle.marking.proofs.MarkedLaws.{byte_put}
 use Rattle.marking.proofs.output.put.Goals as goal
-use Rattle.marking.proofs.output.put.Goals.{then-at-i, else-at-i}
+use Rattle.marking.proofs.output.put.Goals.{then-to, else-to}
 
-pub loop-i-preserved : goal.loop-i-preserved
-loop-i-preserved c =
-    let l = c.loop-i in
-    let a = c.args in
-    let byte : ℕ = get_or a.bytes.now l.i 0 in
-    let stored : c.if-at-i.out ≡ set l.out (a.at + l.i) byte =
-    elim c.if-at-i.branch [
-      | then-at-i w ↦ w.out-is
-      | else-at-i w ↦ w.out-is ∙ sym (set_out l.out (a.at + l.i) byte w.if-at-i.false)
+pub loop-byte-preserved : goal.loop-byte-preserved
+loop-byte-preserved c =
+    let to = c.loop-byte.to in
+    let more = c.loop-byte-test.true in
+    elim c.if-to.branch [
+      | then-to w ↦ rw w.to-is (byte_put _ _ more c.loop-byte.invariant refl refl refl)
+      | else-to w ↦ rw w.to-is (byte_put _ _ more c.loop-byte.invariant refl (sym (set_out to.list.now to.written _ w.if-to.false)) refl)
     ]
-    in
-    stored ∙ ap (λ (x : List ℕ). set x (a.at + l.i) byte) l.invariant
-    ∙ put_on a.out.now a.bytes.now a.at l.i c.loop-i-test.true
