@@ -107,8 +107,9 @@ pub fn run_text(text: &[u8], traced: bool, list: &mut [u8]) -> Finished<[Process
 {
     if list.len() < limits::room_needed(traced) {
         let run = fresh(moir_model::empty_bench(), traced);
+        let held = run.all;
         return Finished {
-            held: run.all,
+            held,
             outcome: Err(Refusal::NoRoom),
             entries: 0,
             written: 0,
