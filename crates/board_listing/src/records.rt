@@ -11,12 +11,7 @@ use boards::records::Record;
 use entry::state::Run;
 
 // Each record is the only entry of a run that has done none; the commands done are counted here.
-pub fn obey_records(
-    run: Run,
-    records: &[Record],
-    words: &mut [u64],
-    list: &mut [u8],
-) -> Stopped
+pub fn obey_records(run: Run, records: &[Record], words: &mut [u64], list: &mut [u8]) -> Stopped
     requires { (Between (state_of run 0 words.old list.old)) × (length records.now ≤ 9999999) }
     ensures { Obeys (read records.now) (state_of run 0 words.old list.old)
         (state_of result.run (number_told result.outcome) words.new list.new) }
