@@ -18,11 +18,8 @@ use Rattle.model.specs.declared.Process.{Process}
 use Rattle.lent.specs.Gathered.{gathered}
 use Rattle.setup.specs.SetUpByValue.{set_up_number}
 use Rattle.notation.specs.Grammar.{largest}
-use Rattle.boards.specs.declared.Left.{Left}
 use Rattle.boards.specs.Files.{decode, good_trailer, good_records, file_number}
-use Rattle.boards.specs.Places.{left_of, There}
-use Rattle.boards.proofs.RefusalLaws.{its_records, as_left, they_are_there, they_are_few}
-use Rattle.board_rows.proofs.FileRows.{has_trailer}
+use Rattle.boards.specs.Places.{read, RightFile, WrongFile}
 use Rattle.text_runs.specs.TextRun.{room_needed}
 use Rattle.semantics.specs.TextRun.{Progress, Ended, ended, begun}
 use Rattle.entry.specs.declared.state.Held.{Held}
@@ -45,55 +42,40 @@ closed_ends : {out : Stopped} {list' : List ℕ} (s : Stopped) (ws list : List �
     → end_of out ws list' ≡ ended (progress 16 (state_of s.run (number_told s.outcome) ws list))
 closed_ends s ws list e = ap (λ (x : Stopped × List ℕ). end_of x.0 ws x.1) e
 
-pub obeyed_closable : {rs : _} {h : RunState} {s : Stopped} {ws list : List ℕ} → Obeys rs h (state_of s.run (number_told s.outcome) ws list) → Closable s list
-obeyed_closable o = record { entries = o.few; stop = omega (arith, o.stop); room = o.room }
-
 -- "25 and 26 also before a run"
-module _ (r : Run) (ws file list : List ℕ) {o : Outcome} (e : number_told o ≡ file_number file) where
+module _ (r : Run) (ws file list : List ℕ) where
   abbrev m : Memory
   m = memory_of r.held 16 ws
 
   abbrev ran : Bool → Ended
   ran t = cond t (ended (obey_all (decode file) (begun false m list 0))) (ended (begun false m list (file_number file)))
 
-  pub file_refused : (f : Refusal) → o ≡ Err f → {out : Stopped} {list' : List ℕ} → ◌≡◌ {A = Stopped × List ℕ} (out, list') (closed (refused_with r.held f) list)
+  pub file_refused : (f : Refusal) → WrongFile file f → {out : Stopped} {list' : List ℕ} → ◌≡◌ {A = Stopped × List ℕ} (out, list') (closed (refused_with r.held f) list)
       → RunsFile r ws file list out ws list'
   unfolding run_listed
-  file_refused f is c =
-      let told : refusal_number f ≡ file_number file = sym (ap number_told is) ∙ e in
-      record {
-        same = closed_ends (refused_with r.held f) ws list c ∙ ap (λ (j : ℕ). ended (begun false m list j)) told
-            ∙ sym (ap ran (ne_eqb (file_number file) 0 (λ z. number_some f (told ∙ z))));
-        words = refl;
-      }
+  file_refused f e c = record {
+    same = closed_ends (refused_with r.held f) ws list c ∙ ap (λ (j : ℕ). ended (begun false m list j)) (sym e)
+        ∙ sym (ap ran (ne_eqb (file_number file) 0 (λ z. number_some f (sym e ∙ z))));
+    words = refl;
+  }
 
-  module _ (z : number_told o ≡ 0) (l : Left) (f : l ≡ its_records file) where
-    pub records_there : There file l
-    records_there = they_are_there file l f (has_trailer file (sym e ∙ z))
-
-    pub records_few : l.count ≤ 9999999
-    records_few = omega (arith, they_are_few file l f (has_trailer file (sym e ∙ z)))
-
-    pub file_run_is : r ≡ fresh_run r.held false → {done out : Stopped} {ws' list' last : List ℕ}
-        → Obeys (left_of file l) (state_of r 0 ws list) (state_of done.run (number_told done.outcome) ws' list')
-        → ◌≡◌ {A = Stopped × List ℕ} (out, last) (closed done list') → RunsFile r ws file list out ws' last
-    unfolding run_listed
-    file_run_is fresh {done} {ws' = ws'} {list' = list'} o c = record {
-      same = closed_ends done ws' list' c ∙ ap ended o.same
-          ∙ ap (λ (x : Run). ended (obey_all (left_of file l) (progress 16 (state_of x 0 ws list)))) fresh
-          ∙ ap (λ rs. ended (obey_all rs (begun false m list 0))) (as_left file l f)
-          ∙ sym (ap ran (eq-eqb (file_number file) 0 (sym e ∙ z)));
-      words = o.words;
-    }
+  pub file_run_is : {bs : List (List ℕ)} → RightFile file bs → r ≡ fresh_run r.held false → {done out : Stopped} {ws' list' last : List ℕ}
+      → Obeys (read bs) (state_of r 0 ws list) (state_of done.run (number_told done.outcome) ws' list')
+      → ◌≡◌ {A = Stopped × List ℕ} (out, last) (closed done list') → RunsFile r ws file list out ws' last
+  unfolding run_listed
+  file_run_is {bs} f fresh {done} {ws' = ws'} {list' = list'} o c = record {
+    same = closed_ends done ws' list' c ∙ ap ended o.same
+        ∙ ap (λ (x : Run). ended (obey_all (read bs) (progress 16 (state_of x 0 ws list)))) fresh
+        ∙ ap (λ rs. ended (obey_all rs (begun false m list 0))) f.reads
+        ∙ sym (ap ran (eq-eqb (file_number file) 0 f.number));
+    words = o.words;
+  }
 
 -- the set-up
 pub lent : {all : List Process} (list : List ℕ) → all ≡ gathered (take 16 all) no_process 16 → room_needed false ≤ length list → Lending 16 all list
 lent {all} list g l = record { few = omega arith; filled = gathered_filled 16 all g; room = l }
 
-module _ {list : List ℕ} (held : Held) (ws file : List ℕ) (x : Lending 16 held.all list) (n w k : ℕ) {o : Outcome} (e : number_told o ≡ set_up_number n w 16 (length ws) w) where
-  abbrev j : ℕ
-  j = number_told o
-
+module _ {list : List ℕ} (held : Held) (ws file : List ℕ) (x : Lending 16 held.all list) (n w k : ℕ) {j : ℕ} (e : j ≡ set_up_number n w 16 (length ws) w) where
   abbrev before : Memory
   before = memory_of held 16 ws
 
@@ -103,11 +85,11 @@ module _ {list : List ℕ} (held : Held) (ws file : List ℕ) (x : Lending 16 he
   same_number : j ≡ set_up_refusal before n w v
   same_number = e ∙ set_up_same held 16 ws n w k x.few x.filled
 
-  pub set_up_refused : (f : Refusal) → o ≡ Err f → {out : Stopped} {list' : List ℕ} → ◌≡◌ {A = Stopped × List ℕ} (out, list') (closed (refused_with held f) list)
+  pub set_up_refused : (f : Refusal) → j ≡ refusal_number f → {out : Stopped} {list' : List ℕ} → ◌≡◌ {A = Stopped × List ℕ} (out, list') (closed (refused_with held f) list)
       → end_of out ws list' ≡ after_set_up before file list (set_up before n w v)
   unfolding set_up
   set_up_refused f is c =
-      let told : refusal_number f ≡ set_up_refusal before n w v = sym (ap number_told is) ∙ same_number in
+      let told : refusal_number f ≡ set_up_refusal before n w v = sym is ∙ same_number in
       closed_ends (refused_with held f) ws list c ∙ ap (λ (i : ℕ). ended (begun false before list i)) told
       ∙ sym (not_begun (set_up_refusal before n w v) (λ y. run_listed y file list) (at_set_up before n w v) before _ (λ z. number_some f (told ∙ z)))
 

@@ -12,14 +12,14 @@ ghost use Rattle.board_listing.specs.ListedRun.{Between, closed, refused_with, e
 
 use crate::ending::Stopped;
 use crate::{ending, records};
-use board_rows::file_refusal;
-use boards::trailers::records_of;
+use board_rows::right_records;
 use entry::state::{Held, Run};
 use llsc::refusals::Refusal;
 use run::set_up;
 use text_runs::{limits, lists};
 
 // A run that is refused before its first command.
+// Kept: the room is a fact on a lent list, tested once in `run_listed`; a struct for it would be undone at each line.
 fn refused(held: Held, cause: Refusal, list: &mut [u8]) -> Stopped
     requires { (refusal_number cause ≤ 99) × (room_needed false ≤ length list.old) }
     ensures { (result, list.new) ≡ closed (refused_with held cause) list.old }
@@ -32,16 +32,18 @@ fn refused(held: Held, cause: Refusal, list: &mut [u8]) -> Stopped
 }
 
 // The file on a run that has done nothing: "25 and 26 also before a run".
+// Kept: file, words and list come from the caller one by one, and go on so to three crates.
 fn run_file(run: Run, file: &[u8], words: &mut [u64], list: &mut [u8]) -> Stopped
     requires { (Between (state_of run 0 words.old list.old)) × (run ≡ fresh_run run.held false) × (room_needed false ≤ length list.old) }
     ensures { RunsFile run words.old file.now list.old result words.new list.new }
 {
-    if let Err(cause) = file_refusal(file) {
-        return refused(run.held, cause, list);
+    match right_records(file) {
+        Ok(records) => {
+            let done = records::obey_records(run, records, words, list);
+            ending::close(done, list)
+        }
+        Err(cause) => refused(run.held, cause, list),
     }
-    let from = records_of(file);
-    let done = records::obey_records(run, file, from, words, list);
-    ending::close(done, list)
 }
 
 // The set-up, refused or done, and then the file.

@@ -54,7 +54,13 @@ fn no_words() -> [u64; 3136]
 
 // "then 1, 2, 3, then the set-up, then the entries": those of the list, up to `count`. The records are at their set-up from
 // the start.
-fn started(traced: bool, first: First, kept: &[u64], count: usize, list: &mut [u8]) -> Finished<[Process; 16]>
+fn started(
+    traced: bool,
+    first: First,
+    kept: &[u64],
+    count: usize,
+    list: &mut [u8],
+) -> Finished<[Process; 16]>
     requires { (Roomy list.old) × (first.initial ≤ largest) × (count ≤ length kept.now) }
     ensures { (returned result list.new ≡ seen (started_with figure6 traced first.n first.w first.initial (entries_in count kept.now) at_start list.old)) ×
         (result.report ≡ report_with figure6 traced first.n first.w first.initial (entries_in count kept.now) (places_in count kept.now) at_start list.old) }
@@ -107,8 +113,9 @@ pub fn run_text(text: &[u8], traced: bool, list: &mut [u8]) -> Finished<[Process
 {
     if list.len() < limits::room_needed(traced) {
         let run = fresh(moir_model::empty_bench(), traced);
+        let held = run.all;
         return Finished {
-            held: run.all,
+            held,
             outcome: Err(Refusal::NoRoom),
             entries: 0,
             written: 0,

@@ -108,7 +108,7 @@ mutual
       ∙ number_read e k (a ∷ ((items_bytes i ++ (g ++ z ∷ [])) ++ l)) stack os (suc d)
       ∙ opens n ((items_bytes i ++ (g ++ z ∷ [])) ++ l) stack os d h c
       ∙ ap (λ (x : List ℕ). scan x (between false) (record { count = n; before = os; room = suc d } ∷ stack) [] d)
-          (append_assoc (items_bytes i) (g ++ z ∷ []) l ∙ ap (λ (x : List ℕ). items_bytes i ++ x) (append_assoc g (z ∷ []) l))
+      (append_assoc (items_bytes i) (g ++ z ∷ []) l ∙ ap (λ (x : List ℕ). items_bytes i ++ x) (append_assoc g (z ∷ []) l))
       ∙ items_read i (g ++ z ∷ l) (gaps_over z l t (ap is_digit u.is)) (record { count = n; before = os; room = suc d } ∷ stack) []
       ∙ close_read t u (record { count = n; before = os; room = suc d }) l stack (items_say i) d
 
@@ -155,8 +155,8 @@ first_read : (d : ℕ) (f : FirstLine) (l : List ℕ) → read_from d (first_byt
 unfolding proceed first_bytes
 first_read d f l =
     ap (λ (x : List ℕ). read_from d x before_n)
-        (append_assoc f.n_digits (space ∷ third) l ∙ ap (λ (x : List ℕ). f.n_digits ++ space ∷ x) (append_assoc f.w_digits (space ∷ second) l
-        ∙ ap (λ (x : List ℕ). f.w_digits ++ space ∷ x) (append_assoc f.initial_digits (line_feed ∷ []) l)))
+    (append_assoc f.n_digits (space ∷ third) l ∙ ap (λ (x : List ℕ). f.n_digits ++ space ∷ x) (append_assoc f.w_digits (space ∷ second) l
+    ∙ ap (λ (x : List ℕ). f.w_digits ++ space ∷ x) (append_assoc f.initial_digits (line_feed ∷ []) l)))
     ∙ field_read field_n d f.n_number (f.w_digits ++ space ∷ (f.initial_digits ++ line_feed ∷ l))
     ∙ field_read (field_w f.n) d f.w_number (f.initial_digits ++ line_feed ∷ l)
     ∙ field_read (field_initial f.n f.w) d f.initial_number l

@@ -206,9 +206,13 @@ module _ {s : List ℕ} where
       on = omega (arith, k.on);
       item = record { here = l; item = ap is_gap c };
       places = places_on h e k;
-      goes = then gapped (record { on = omega arith; within = omega arith; same = λ stack os r.
-          scan_at s next (between true) stack os r l ∙ simp (c, append-nil)
-          (sym (scan_at s next (between false) stack os r l ∙ simp (c, append-nil))) });
+      goes = then gapped (record {
+        on = omega arith;
+        within = omega arith;
+        same = λ stack os r.
+            scan_at s next (between true) stack os r l ∙ simp (c, append-nil)
+            (sym (scan_at s next (between false) stack os r l ∙ simp (c, append-nil)));
+      });
     }
 
     gap_stray : next < length s → move (between true) (kind_of (get_or s next 0)) ≡ bad → Faults s at done 10 next

@@ -210,7 +210,7 @@ module _ (b : ℕ) (m : Mode) (n : ℕ) (e : move m (kind_of b) ≡ enter n) whe
 
   hop : (x : List ℕ) (stack stack' : List Frame) (os : List Entry) (d : ℕ) → count_ok n ≡ true → length stack' ≡ length stack
       → ((stack'' : List Frame) (os' : List Entry) (d' : ℕ) → length stack'' ≡ suc (length stack) → is_end (scan x (between false) stack'' os' d') ≡ false)
-          → is_end (scan (b ∷ x) m stack' os d) ≡ false
+      → is_end (scan (b ∷ x) m stack' os d) ≡ false
   hop x stack stack' os zero c q h = ap is_end (entering x stack' os zero c)
   hop x stack stack' os (suc r) c q h = ap is_end (entering x stack' os (suc r) c) ∙ h (record { count = n; before = os ++ said m (kind_of b); room = suc r } ∷ stack') [] r (ap suc q)
 

@@ -186,7 +186,7 @@ module _ (s : List ℕ) (k left : ℕ) (e : read_from deepest s before_n ≡ wro
 longer : (d a b : ℕ) (s : List ℕ) → a < b → Hopeless d (take (suc a) s) → Completable d (take b s) → ⊥
 longer d a b s l h c = h (take (b - suc a) (drop (suc a) s) ++ c.rest)
     (subst (Right d) (ap (λ (x : List ℕ). x ++ c.rest) (ap (λ (x : ℕ). take x s) parts ∙ take-add (suc a) (b - suc a) s)
-        ∙ append_assoc (take (suc a) s) (take (b - suc a) (drop (suc a) s)) c.rest) c.right)
+    ∙ append_assoc (take (suc a) s) (take (b - suc a) (drop (suc a) s)) c.rest) c.right)
   where
     parts : b ≡ suc a + (b - suc a)
     parts = omega arith
