@@ -75,10 +75,7 @@ module _ (r : Run) (ws file list : List ℕ) where
 pub lent : {all : List Process} (list : List ℕ) → all ≡ gathered (take 16 all) no_process 16 → room_needed false ≤ length list → Lending 16 all list
 lent {all} list g l = record { few = omega arith; filled = gathered_filled 16 all g; room = l }
 
-module _ {list : List ℕ} (held : Held) (ws file : List ℕ) (x : Lending 16 held.all list) (n w k : ℕ) {o : Outcome} (e : number_told o ≡ set_up_number n w 16 (length ws) w) where
-  abbrev j : ℕ
-  j = number_told o
-
+module _ {list : List ℕ} (held : Held) (ws file : List ℕ) (x : Lending 16 held.all list) (n w k : ℕ) {j : ℕ} (e : j ≡ set_up_number n w 16 (length ws) w) where
   abbrev before : Memory
   before = memory_of held 16 ws
 
@@ -88,11 +85,11 @@ module _ {list : List ℕ} (held : Held) (ws file : List ℕ) (x : Lending 16 he
   same_number : j ≡ set_up_refusal before n w v
   same_number = e ∙ set_up_same held 16 ws n w k x.few x.filled
 
-  pub set_up_refused : (f : Refusal) → o ≡ Err f → {out : Stopped} {list' : List ℕ} → ◌≡◌ {A = Stopped × List ℕ} (out, list') (closed (refused_with held f) list)
+  pub set_up_refused : (f : Refusal) → j ≡ refusal_number f → {out : Stopped} {list' : List ℕ} → ◌≡◌ {A = Stopped × List ℕ} (out, list') (closed (refused_with held f) list)
       → end_of out ws list' ≡ after_set_up before file list (set_up before n w v)
   unfolding set_up
   set_up_refused f is c =
-      let told : refusal_number f ≡ set_up_refusal before n w v = sym (ap number_told is) ∙ same_number in
+      let told : refusal_number f ≡ set_up_refusal before n w v = sym is ∙ same_number in
       closed_ends (refused_with held f) ws list c ∙ ap (λ (i : ℕ). ended (begun false before list i)) told
       ∙ sym (not_begun (set_up_refusal before n w v) (λ y. run_listed y file list) (at_set_up before n w v) before _ (λ z. number_some f (told ∙ z)))
 

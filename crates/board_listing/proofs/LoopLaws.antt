@@ -99,15 +99,16 @@ module _ {bs : List (List ℕ)} {ws₀ list₀ : List ℕ} {run₀ : Run} {ws li
         let left_over = room_left d (entry_of r) (subst Small is small) g in
         subst (λ (y : Run). Obeying bs ws₀ list₀ run₀ ws' list' y (done + 1)) (sym q) (record {
           between = record {
-            sound = record { few = x.few; filled = x.filled; entries = omega arith; stop = x.stop; room = x.room; going = x.going };
-            goes = z;
+            sound = record { few = x.few; filled = x.filled; entries = omega arith; stop = omega arith; room = x.room; going = λ y. x.going z };
+            goes = refl;
             none = refl;
             listed = ap (λ (y : Progress). y.traced) made ∙ stays_listed (entry_of r) s d.goes d.none d.listed ∙ d.listed;
             room = omega (arith, left_over, ap (λ (y : Progress). y.written) made, b.kept.listing);
           };
           words = b.kept.words ∙ m.words;
           listing = b.kept.listing ∙ m.listing;
-          same = opened (recounted (done + 1) t) one ∙ ap (further (recounted (done + 1) t)) (eq-eqb k 0 z);
+          same = opened (recounted (done + 1) t) one ∙ ap (further (recounted (done + 1) t)) (eq-eqb k 0 z)
+              ∙ ap (λ (j : ℕ). obey_all rs (recounted (done + 1) (progress 16 (state_of next j ws' list')))) z;
         })
 
   pub all_done : length bs ≤ 9999999 → length bs ≡ done → (out : Run) → out ≡ with_entries run done → Obeys (read bs) h₀ (state_of out 0 ws list)

@@ -4,7 +4,6 @@ use mathlib.Core.Bool.{false}
 use Prim.Native.Nat.{ℕ, ◌≤◌}
 use native.Mathlib.Omega.{arith}
 use lib.ListN.{length, length-replicate}
-use Rattle.std.specs.Prelude.{Err}
 use Rattle.carrying.proofs.LoopLaws.{not_refused}
 use Rattle.model.specs.Machine.{Shaped}
 use Rattle.run.specs.Finished.{memory_of}
@@ -25,7 +24,7 @@ pub returns-in-Err : goal.returns-in-Err
 returns-in-Err c =
     let x = c.args in
     set_up_refused x.held x.words.now x.file.now (lent x.list.now c.requires.0 c.requires.1) x.n x.w x.initial
-    {o = Err c.in-Err.cause} c.in-Err.ensures c.in-Err.cause refl c.refused.ensures
+    c.in-Err.ensures c.in-Err.cause refl c.refused.ensures
 
 pub slice_bounds-value-end : goal.slice_bounds-value-end
 slice_bounds-value-end c =
