@@ -123,7 +123,7 @@ pub fn run_text(
     *station = out.station;
     lent::store_back(processes, &out.all, station::empty_process(), out.stored);
     TextRun {
-        number: out.number,
+        number: number_of(out.outcome),
         entries: out.entries,
         written: out.written,
     }

@@ -3,24 +3,20 @@ use mathlib.Core.Path.{◌≡◌, refl, ap, ◌∙◌}
 use mathlib.Core.List.{List}
 use mathlib.Core.Bool.{Bool}
 use Prim.Native.Nat.{ℕ}
-use lib.ListN.{replicate}
-use Rattle.model.specs.declared.Bench.{Bench}
-use Rattle.model.specs.declared.Process.{Process}
-use Rattle.model.specs.Records.{no_process}
-use Rattle.model.specs.SetUp.{empty_bench}
-use Rattle.tables.specs.declared.records.Records.{Records}
 use Rattle.semantics.specs.TextRun.{run_with}
-use Rattle.run.specs.declared.last_line.Finished.{Finished}
+use Rattle.llsc.specs.Refusals.{number_told}
+use Rattle.entry.specs.declared.state.Held.{Held}
+use Rattle.entry.specs.RunState.{empty_held}
+use Rattle.text_runs.specs.declared.runs.Finished.{Finished}
 use Rattle.run.specs.Finished.{TextRan, memory_of}
 use Rattle.besklaun.specs.OwnBench.{own_memory, own_words, seen, text_run}
 
--- what the run holds, as its makers give it
-pub own_memory_lem : (b : Bench) (q : Process) (all : Records) → b ≡ empty_bench → q ≡ no_process → all ≡ record { list = replicate 16 q } →
-    memory_of b all 16 own_words ≡ own_memory
-own_memory_lem b q all e f g = rw (g, f, e) refl
+-- what the run holds
+pub own_memory_lem : (held : Held) → held ≡ empty_held → memory_of held 16 own_words ≡ own_memory
+own_memory_lem held e = rw e refl
 
-pub ran_alone : (t : Bool) (b : Bench) (q : Process) (all : Records) (text bytes : List ℕ) (r : Finished) (words after : List ℕ) →
-    b ≡ empty_bench → q ≡ no_process → all ≡ record { list = replicate 16 q } → TextRan t b all 16 own_words text bytes r words after →
-    (record { number = r.number; entries = r.entries; written = r.written }, after) ≡ text_run t text bytes
-ran_alone t b q all text bytes r words after e f g ran =
-    ap seen ran.same ∙ ap (λ m. seen (run_with t m text bytes)) (own_memory_lem b q all e f g)
+pub ran_alone : (t : Bool) (held : Held) (text bytes : List ℕ) (r : Finished Held) (words after : List ℕ) →
+    held ≡ empty_held → TextRan t held 16 own_words text bytes r words after →
+    (record { number = number_told r.outcome; entries = r.entries; written = r.written }, after) ≡ text_run t text bytes
+ran_alone t held text bytes r words after e ran =
+    ap seen ran.same ∙ ap (λ m. seen (run_with t m text bytes)) (own_memory_lem held e)

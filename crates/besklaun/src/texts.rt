@@ -2,6 +2,9 @@
 ghost use Rattle.std.specs.Prelude.{◌≡◌, true, false};
 ghost use Rattle.besklaun.specs.OwnBench.{text_run};
 
+use entry::state::Held;
+use llsc::refusals::number_of;
+
 // What a text run returns: its number, 0 at `end`, the entries done and the bytes written.
 // Kept: no enum crosses to C.
 #[repr(C)]
@@ -17,15 +20,14 @@ fn own_run(traced: bool, text: &[u8], into: &mut [u8]) -> TextRun
     ensures { (result, into.new) ≡ text_run traced text.now into.old }
 {
     let mut words = [0; 5120];
-    let bench = model::empty_bench();
-    let all = tables::records::records_of(tables::records::no_process());
+    let held = Held::empty();
     let out = if traced {
-        run::text_run::trace_by_value(bench, all, 16, &mut words, text, into)
+        run::text_run::trace_by_value(held, 16, &mut words, text, into)
     } else {
-        run::text_run::run_by_value(bench, all, 16, &mut words, text, into)
+        run::text_run::run_by_value(held, 16, &mut words, text, into)
     };
     TextRun {
-        number: out.number,
+        number: number_of(out.outcome),
         entries: out.entries,
         written: out.written,
     }

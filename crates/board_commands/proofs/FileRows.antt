@@ -4,29 +4,28 @@ use mathlib.Core.List.{List}
 use mathlib.Core.Bool.{Bool, cond}
 use Prim.Native.Nat.{ℕ}
 use borrow.Author.Tests.{eq-eqb, ne_eqb}
+use Rattle.llsc.specs.Refusals.{refusal_number}
+use Rattle.llsc.specs.declared.refusals.Refusal.{Refusal}
 use Rattle.boards.specs.Files.{decode, file_number}
-use Rattle.boards.specs.Places.{left_of, There}
-use Rattle.boards.specs.declared.Left.{Left}
-use Rattle.boards.proofs.RefusalLaws.{its_records, as_left, they_are_there}
-use Rattle.board_rows.proofs.FileRows.{has_trailer}
+use Rattle.boards.specs.Places.{read, RightFile, WrongFile}
+use Rattle.boards.proofs.RefusalLaws.{positive}
 use Rattle.station.specs.declared.Station.{Station}
 use Rattle.station.specs.declared.StationProcess.{StationProcess}
 use Rattle.board_commands.specs.declared.RunLeft.{RunLeft}
 use Rattle.board_commands.specs.ByValue.{left_with, records_run, file_run}
 
-module _ (file : List ℕ) (s : Station) (all : List StationProcess) (len : ℕ) (ws : List ℕ) (k : ℕ) (e : k ≡ file_number file) where
-  pub refused_file : (k ≡ 0 → ⊥) → (r : RunLeft) → r ≡ left_with s all k 0 → (r, ws) ≡ file_run file s all len ws
+module _ (file : List ℕ) (s : Station) (all : List StationProcess) (len : ℕ) (ws : List ℕ) where
+  abbrev ran : Bool → RunLeft × List ℕ
+  ran t = cond t (records_run 0 (decode file) s all len ws) (left_with s all (file_number file) 0, ws)
+
+  pub refused_file : (refusal : Refusal) {k : ℕ} → WrongFile file refusal → k ≡ refusal_number refusal → (r : RunLeft) → r ≡ left_with s all k 0
+      → (r, ws) ≡ file_run file s all len ws
   unfolding file_run
-  refused_file h r q =
-      ap (λ (x : RunLeft). (x, ws)) (q ∙ ap (λ (i : ℕ). left_with s all i 0) e)
-      ∙ sym (ap (λ (t : Bool). cond t (records_run 0 (decode file) s all len ws) (left_with s all (file_number file) 0, ws)) (ne_eqb (file_number file) 0 (λ z. h (e ∙ z))))
+  refused_file refusal w n r q =
+      ap (λ (x : RunLeft). (x, ws)) (q ∙ ap (λ (i : ℕ). left_with s all i 0) (n ∙ sym w))
+      ∙ sym (ap ran (ne_eqb (file_number file) 0 (λ z. positive refusal (sym w ∙ z))))
 
-  module _ (z : k ≡ 0) (l : Left) (f : l ≡ its_records file) where
-    pub records_there : There file l
-    records_there = they_are_there file l f (has_trailer file (sym e ∙ z))
-
-    pub run_file_is : (r : RunLeft) (ws' : List ℕ) → (r, ws') ≡ records_run 0 (left_of file l) s all len ws → (r, ws') ≡ file_run file s all len ws
-    unfolding file_run
-    run_file_is r ws' q =
-        q ∙ ap (λ rs. records_run 0 rs s all len ws) (as_left file l f)
-        ∙ sym (ap (λ (t : Bool). cond t (records_run 0 (decode file) s all len ws) (left_with s all (file_number file) 0, ws)) (eq-eqb (file_number file) 0 (sym e ∙ z)))
+  pub run_file_is : {rs : List (List ℕ)} → RightFile file rs → (r : RunLeft) (ws' : List ℕ) → (r, ws') ≡ records_run 0 (read rs) s all len ws
+      → (r, ws') ≡ file_run file s all len ws
+  unfolding file_run
+  run_file_is f r ws' q = q ∙ ap (λ l. records_run 0 l s all len ws) f.reads ∙ sym (ap ran (eq-eqb (file_number file) 0 f.number))

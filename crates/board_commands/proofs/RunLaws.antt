@@ -1,13 +1,15 @@
 -- The loop over a file's records, by value.
-use mathlib.Core.Path.{◌≡◌, sym, ap, ◌∙◌}
-use mathlib.Core.List.{List, ◌∷◌}
+use mathlib.Core.Path.{◌≡◌, refl, sym, ap, ◌∙◌}
+use mathlib.Core.List.{List, [], ◌∷◌}
 use Rattle.std.specs.Prelude.{Ok, Err}
-use Prim.Native.Nat.{ℕ, suc, ◌+◌, ◌-◌, ◌*◌, ◌<◌, ◌≤◌}
+use Prim.Native.Nat.{ℕ, suc, ◌+◌, ◌<◌, ◌≤◌}
 use native.Mathlib.Omega.{arith}
-use lib.ListN.{length, drop}
-use Rattle.boards.specs.Files.{BoardRecord, records_of}
-use Rattle.boards.specs.Places.{record_at}
-use Rattle.boards.proofs.FrontLaws.{next_record}
+use native.Mathlib.Numerals.{add-one}
+use lib.ListN.{length, get_or, drop}
+use lib.Seq.{drop-cons}
+use Rattle.std.proofs.lemmas.List.{drop_all}
+use Rattle.boards.specs.Files.{BoardRecord, record_of}
+use Rattle.boards.specs.Places.{read}
 use Rattle.station.specs.declared.Station.{Station}
 use Rattle.station.specs.declared.StationProcess.{StationProcess}
 use Rattle.station_machine.specs.declared.Outcome.{Outcome}
@@ -16,11 +18,9 @@ use Rattle.board_commands.specs.declared.RunLeft.{RunLeft}
 use Rattle.board_commands.specs.ByValue.{decided, left_with, processes_after, after_one, records_run}
 
 -- what is left, and what is still to be done, is the whole
-pub record Running (file : List ℕ) (s₀ : Station) (all₀ : List StationProcess) (len : ℕ) (ws₀ : List ℕ) (left₀ at₀ : ℕ) (s : Station) (all : List StationProcess) (ws : List ℕ) (left at done : ℕ) : Type 0 where
-  pub there : at + 12 * left ≤ length file
-  pub counted : done + left ≡ left₀
+pub record Running (rs : List (List ℕ)) (s₀ : Station) (all₀ : List StationProcess) (len : ℕ) (ws₀ : List ℕ) (s : Station) (all : List StationProcess) (ws : List ℕ) (done : ℕ) : Type 0 where
   pub long : length ws ≡ length ws₀
-  pub same : records_run 0 (records_of left₀ (drop at₀ file)) s₀ all₀ len ws₀ ≡ records_run done (records_of left (drop at file)) s all len ws
+  pub same : records_run 0 (read rs) s₀ all₀ len ws₀ ≡ records_run done (read (drop done rs)) s all len ws
 
 -- a command and the records after it: on, or to an end
 abbrev gone_on : ℕ → List BoardRecord → Station → List StationProcess → ℕ → Decided → RunLeft × List ℕ
@@ -32,40 +32,34 @@ one_more : (done : ℕ) (r : BoardRecord) (rs : List BoardRecord) (s : Station) 
 unfolding records_run
 one_more done r rs s all len ws d e = ap (gone_on done rs s all len) (sym e)
 
-module _ {file : List ℕ} {s₀ : Station} {all₀ : List StationProcess} {len : ℕ} {ws₀ : List ℕ} {left₀ at₀ : ℕ} {s : Station} {all : List StationProcess} {ws : List ℕ} {left at done : ℕ}
-    (m : Running file s₀ all₀ len ws₀ left₀ at₀ s all ws left at done) where
+module _ {rs : List (List ℕ)} {s₀ : Station} {all₀ : List StationProcess} {len : ℕ} {ws₀ : List ℕ} {s : Station} {all : List StationProcess} {ws : List ℕ} {done : ℕ}
+    (m : Running rs s₀ all₀ len ws₀ s all ws done) where
   abbrev whole : RunLeft × List ℕ
-  whole = records_run 0 (records_of left₀ (drop at₀ file)) s₀ all₀ len ws₀
+  whole = records_run 0 (read rs) s₀ all₀ len ws₀
 
-  module _ (some : 0 < left) (ws' : List ℕ) where
-    abbrev rest : List BoardRecord
-    rest = records_of (left - 1) (drop (at + 12) file)
+  abbrev r : BoardRecord
+  r = record_of (get_or rs done [])
 
-    opened : (d : Decided) → d ≡ decided s all len (record_at file at) ws → whole ≡ gone_on done rest s all len d
-    opened d e =
-        m.same
-        ∙ ap (λ (l : List BoardRecord). records_run done l s all len ws) (next_record file at left some)
-        ∙ one_more done (record_at file at) rest s all len ws d e
+  abbrev rest : List BoardRecord
+  rest = read (drop (done + 1) rs)
 
-    pub refused : (k : ℕ) → ◌≡◌ {A = Decided} (Err k, ws') (decided s all len (record_at file at) ws) → (n : ℕ) → n ≡ k → (r : RunLeft) → r ≡ left_with s all n done → (r, ws') ≡ whole
-    refused k e n h r q =
+  module _ (some : done < length rs) (ws' : List ℕ) where
+    opened : (d : Decided) → d ≡ decided s all len r ws → whole ≡ gone_on done rest s all len d
+    opened d e = m.same ∙ rw (drop-cons rs done [] some, add-one done) (one_more done r (read (drop (suc done) rs)) s all len ws d e)
+
+    pub refused : (k : ℕ) → ◌≡◌ {A = Decided} (Err k, ws') (decided s all len r ws) → (n : ℕ) → n ≡ k → (x : RunLeft) → x ≡ left_with s all n done → (x, ws') ≡ whole
+    refused k e n h x q =
         ap (λ (x : RunLeft). (x, ws')) (q ∙ ap (λ (i : ℕ). left_with s all i done) h) ∙ sym (opened (Err k, ws') e)
 
-    pub goes_on : (out : Outcome) → ◌≡◌ {A = Decided} (Ok out, ws') (decided s all len (record_at file at) ws) → length ws' ≡ length ws → (left' at' : ℕ) → left' ≡ left - 1 → at' ≡ at + 12
-        → Running file s₀ all₀ len ws₀ left₀ at₀ out.station (processes_after all out) ws' left' at' (done + 1)
-    goes_on out e l left' at' el ea = record {
-      there = omega (arith, m.there, el, ea);
-      counted = omega (arith, m.counted, el);
+    pub goes_on : (out : Outcome) → ◌≡◌ {A = Decided} (Ok out, ws') (decided s all len r ws) → length ws' ≡ length ws
+        → Running rs s₀ all₀ len ws₀ out.station (processes_after all out) ws' (done + 1)
+    goes_on out e l = record {
       long = l ∙ m.long;
       same =
-          rw (el, ea) (
           opened (Ok out, ws') e
-          ∙ ap (λ (i : ℕ). records_run i rest out.station (processes_after all out) len ws') (let z : suc done ≡ done + 1 = omega arith in z)
-          );
+          ∙ ap (λ (i : ℕ). records_run i rest out.station (processes_after all out) len ws') (let z : suc done ≡ done + 1 = omega arith in z);
     }
 
-  pub ended : left ≡ 0 → (r : RunLeft) → r ≡ left_with s all 0 done → (r, ws) ≡ whole
-  unfolding records_run records_of
-  ended z r q =
-      ap (λ (x : RunLeft). (x, ws)) q
-      ∙ sym (m.same ∙ ap (λ (k : ℕ). records_run done (records_of k (drop at file)) s all len ws) z)
+  pub ended : length rs ≤ done → (x : RunLeft) → x ≡ left_with s all 0 done → (x, ws) ≡ whole
+  unfolding records_run
+  ended z x q = ap (λ (x : RunLeft). (x, ws)) q ∙ sym (m.same ∙ rw (drop_all done rs z) refl)

@@ -22,10 +22,14 @@ unfoldable pub decided : Station → List StationProcess → ℕ → BoardRecord
 decided s all len r ws =
     station_decided s all len r.process (order_of r.order) 0 (replicate s.w r.value) ws
 
--- a run that ends here: nothing is stored back where nothing was done
+-- a run that ends here
 abbrev pub left_with : Station → List StationProcess → ℕ → ℕ → RunLeft
 left_with s all number done =
-    record { station = s; all = all; stored = cond (eqb done 0) 0 s.n; number = number; done = done }
+    record { station = s; all = all; ran = record { number = number; done = done } }
+
+-- how many process records are stored back: none where nothing was done
+abbrev pub stored_of : RunLeft → ℕ
+stored_of left = cond (eqb left.ran.done 0) 0 left.station.n
 
 abbrev pub processes_after : List StationProcess → Outcome → List StationProcess
 processes_after all out = set all out.at out.process
@@ -50,6 +54,6 @@ file_run file s all len ws =
 -- what a run returns and leaves, once the caller has stored the process records back
 abbrev pub stored_run : List StationProcess → RunLeft × List ℕ → FileRun × StationMemory
 stored_run ps x = (
-  record { number = x.0.number; done = x.0.done },
-  station_memory x.0.station (processes_stored ps x.0.all x.0.stored) x.1,
+  x.0.ran,
+  station_memory x.0.station (processes_stored ps x.0.all (stored_of x.0)) x.1,
 )

@@ -1,11 +1,11 @@
 // A record of a trace file as a command on record 0 of a station.
-ghost use Rattle.std.specs.Prelude.{◌≡◌, ◌+◌, ◌≤◌, length};
-ghost use Rattle.boards.specs.Places.{record_at};
+ghost use Rattle.std.specs.Prelude.{◌≡◌};
+ghost use Rattle.boards.specs.Files.{record_of};
 ghost use Rattle.station_machine.specs.StationDecision.{numbered};
 ghost use Rattle.board_commands.specs.BoardRun.{order_of};
 ghost use Rattle.board_commands.specs.ByValue.{decided};
 
-use boards::numbers::number_at;
+use boards::records::{self, Record};
 use llsc::Order;
 use llsc::refusals::Refusal;
 use station_machine::Outcome;
@@ -26,20 +26,14 @@ fn order_of(byte: u8) -> Order
     }
 }
 
-// The command of the record at a place.
-pub fn decide_at(
-    lent: Gathered,
-    file: &[u8],
-    at: usize,
-    words: &mut [u64],
-) -> Result<Outcome, Refusal>
-    requires { at + 12 ≤ length file.now }
+// The command of a record.
+pub fn decide(lent: Gathered, bytes: &Record, words: &mut [u64]) -> Result<Outcome, Refusal>
     ensures { (numbered result, words.new)
-        ≡ decided lent.station lent.all lent.len (record_at file.now at) words.old }
+        ≡ decided lent.station lent.all lent.len (record_of bytes.now) words.old }
 {
-    let value = repeated(number_at(file, at + 4) as u64);
-    let p = file[at + 8] as usize;
-    let order = order_of(file[at + 9]);
+    let value = repeated(records::value(bytes) as u64);
+    let p = records::process(bytes) as usize;
+    let order = order_of(records::order(bytes));
     // Where W is over 64 a command is refused before its value's words are counted.
     let w = lent.station.w.min(64);
     let command = Command {

@@ -8,9 +8,10 @@ use Rattle.listing.specs.Lines.{space, line_feed, end_line, refused_line}
 use Rattle.listing.specs.Writing.{Room}
 use Rattle.listing.proofs.DecimalLaws.{at_most}
 use Rattle.listing.proofs.Lengths.{joined}
-use Rattle.entry.specs.declared.state.Run.{Run}
-use Rattle.run.specs.Finished.{last_of}
-use Rattle.run.proofs.LastLaws.{last_room_lem}
+use Rattle.llsc.specs.Refusals.{number_told}
+use Rattle.board_listing.specs.declared.ending.Stopped.{Stopped}
+use Rattle.text_runs.specs.Runs.{last_of}
+use Rattle.text_runs.proofs.LastLaws.{last_room_lem}
 use Rattle.board_listing.specs.ListedRun.{Closable}
 
 done_digits : (e : ℕ) → e ≤ 9999999 → length (decimal e) ≤ 7
@@ -32,7 +33,8 @@ refused_length : (c e : ℕ) → c ≤ 99 → e ≤ 9999999 → length (refused_
 unfolding refused_line
 refused_length c e k h = omega (arith, joined (decimal c) (space ∷ (decimal e ++ line_feed ∷ [])) 2 9 (cause_digits c k) (omega (arith, with_feed e h)))
 
-pub closable_room : {r : Run} {l : List ℕ} → Closable r l → Room l r.written (last_of r)
-closable_room {r} x =
-    let short = last_room_lem r 19 (omega (arith, end_length r.entries x.entries)) (refused_length r.stop r.entries x.stop x.entries) in
+pub closable_room : {s : Stopped} {l : List ℕ} → Closable s l → Room l s.run.written (last_of s.run.entries s.outcome)
+closable_room {s} x =
+    let k : ℕ = number_told s.outcome in
+    let short = last_room_lem k s.run.entries 19 (omega (arith, end_length s.run.entries x.entries)) (refused_length k s.run.entries x.stop x.entries) in
     record { fits = omega (arith, x.room, short) }

@@ -6,118 +6,113 @@ use Prim.Native.Nat.{ℕ, ◌≤◌, ◌<◌}
 use native.Mathlib.Omega.{arith}
 use lib.ListN.{length, take, replicate}
 use borrow.Author.Tests.{eq-eqb, ne_eqb, lt-ltb, le-ltb}
-use Rattle.model.specs.declared.Bench.{Bench}
+use Rattle.std.specs.Prelude.{Err}
+use Rattle.llsc.specs.declared.refusals.Refusal.{Refusal}
+use Rattle.llsc.specs.Refusals.{refusal_number, number_told}
+use Rattle.llsc.proofs.RefusalNumbers.{number_some}
+use Rattle.board_listing.specs.declared.ending.Stopped.{Stopped}
 use Rattle.model.specs.Records.{no_process}
 use Rattle.model.specs.Machine.{Memory, Shaped}
 use Rattle.model.specs.SetUp.{at_set_up, set_up_refusal, set_up}
-use Rattle.tables.specs.declared.records.Records.{Records}
-use Rattle.tables.specs.Gathered.{gathered}
+use Rattle.model.specs.declared.Process.{Process}
+use Rattle.lent.specs.Gathered.{gathered}
 use Rattle.setup.specs.SetUpByValue.{set_up_number}
 use Rattle.notation.specs.Grammar.{largest}
-use Rattle.boards.specs.declared.Left.{Left}
 use Rattle.boards.specs.Files.{decode, good_trailer, good_records, file_number}
-use Rattle.boards.specs.Places.{left_of, There}
-use Rattle.boards.proofs.RefusalLaws.{its_records, as_left, they_are_there, they_are_few}
-use Rattle.board_rows.proofs.FileRows.{has_trailer}
+use Rattle.boards.specs.Places.{read, RightFile, WrongFile}
 use Rattle.text_runs.specs.TextRun.{room_needed}
 use Rattle.semantics.specs.TextRun.{Progress, Ended, ended, begun}
+use Rattle.entry.specs.declared.state.Held.{Held}
 use Rattle.entry.specs.declared.state.Run.{Run}
 use Rattle.entry.specs.RunState.{RunState, state_of, progress}
 use Rattle.entry.proofs.FilledLaws.{gathered_filled}
-use Rattle.run.specs.Finished.{fresh_run, memory_of, Lending}
+use Rattle.entry.specs.RunState.{fresh_run}
+use Rattle.text_runs.specs.Runs.{Outcome}
+use Rattle.run.specs.Finished.{memory_of, Lending}
 use Rattle.run.proofs.StartLaws.{set_up_same, first, begun_same, begun_sound}
 use Rattle.text_runs.proofs.TextLaws.{not_begun, is_begun}
 use Rattle.board_listing.specs.BoardListing.{obey_all, run_listed, after_set_up, board_listed}
-use Rattle.board_listing.specs.ListedRun.{Between, Obeys, Closable, closed, end_of, RunsFile}
+use Rattle.board_listing.specs.ListedRun.{Between, Obeys, Closable, refused_with, closed, end_of, RunsFile}
 
-pub fresh_closable : {b : Bench} {all : Records} {k : ℕ} {list : List ℕ} {r : Run} → r ≡ fresh_run b all k false → k ≤ 99
-    → room_needed false ≤ length list → Closable r list
-fresh_closable {b} {all} {k} {list} e h l = subst (λ (x : Run). Closable x list) (sym e) (record { entries = omega arith; stop = h; room = omega (arith, l) })
+pub refused_closable : {held : Held} {f : Refusal} {list : List ℕ} → refusal_number f ≤ 99 → room_needed false ≤ length list → Closable (refused_with held f) list
+refused_closable h l = record { entries = omega arith; stop = h; room = omega (arith, l) }
 
 -- with its last line a run is ended
-closed_ends : {out : Run} {list' : List ℕ} (r : Run) (ws list : List ℕ) → ◌≡◌ {A = Run × List ℕ} (out, list') (closed r list)
-    → end_of out ws list' ≡ ended (progress 16 (state_of r ws list))
-closed_ends r ws list e = ap (λ (x : Run × List ℕ). end_of x.0 ws x.1) e
-
-pub obeyed_closable : {rs : _} {h h' : RunState} → Obeys rs h h' → Closable h'.run h'.listing
-obeyed_closable o = record { entries = o.few; stop = omega (arith, o.stop); room = o.room }
+closed_ends : {out : Stopped} {list' : List ℕ} (s : Stopped) (ws list : List ℕ) → ◌≡◌ {A = Stopped × List ℕ} (out, list') (closed s list)
+    → end_of out ws list' ≡ ended (progress 16 (state_of s.run (number_told s.outcome) ws list))
+closed_ends s ws list e = ap (λ (x : Stopped × List ℕ). end_of x.0 ws x.1) e
 
 -- "25 and 26 also before a run"
-module _ (r : Run) (ws file list : List ℕ) {k : ℕ} (e : k ≡ file_number file) where
+module _ (r : Run) (ws file list : List ℕ) where
   abbrev m : Memory
-  m = memory_of r.bench r.all 16 ws
+  m = memory_of r.held 16 ws
 
   abbrev ran : Bool → Ended
   ran t = cond t (ended (obey_all (decode file) (begun false m list 0))) (ended (begun false m list (file_number file)))
 
-  pub file_refused : (k ≡ 0 → ⊥) → {out : Run} {list' : List ℕ} → ◌≡◌ {A = Run × List ℕ} (out, list') (closed (fresh_run r.bench r.all k false) list)
+  pub file_refused : (f : Refusal) → WrongFile file f → {out : Stopped} {list' : List ℕ} → ◌≡◌ {A = Stopped × List ℕ} (out, list') (closed (refused_with r.held f) list)
       → RunsFile r ws file list out ws list'
   unfolding run_listed
-  file_refused n c = record {
-    same = closed_ends (fresh_run r.bench r.all k false) ws list c ∙ ap (λ (j : ℕ). ended (begun false m list j)) e
-        ∙ sym (ap ran (ne_eqb (file_number file) 0 (λ z. n (e ∙ z))));
+  file_refused f e c = record {
+    same = closed_ends (refused_with r.held f) ws list c ∙ ap (λ (j : ℕ). ended (begun false m list j)) (sym e)
+        ∙ sym (ap ran (ne_eqb (file_number file) 0 (λ z. number_some f (sym e ∙ z))));
     words = refl;
   }
 
-  module _ (z : k ≡ 0) (l : Left) (f : l ≡ its_records file) where
-    pub records_there : There file l
-    records_there = they_are_there file l f (has_trailer file (sym e ∙ z))
-
-    pub records_few : l.count ≤ 9999999
-    records_few = omega (arith, they_are_few file l f (has_trailer file (sym e ∙ z)))
-
-    pub file_run_is : r ≡ fresh_run r.bench r.all 0 false → {done out : Run} {ws' list' last : List ℕ} → Obeys (left_of file l) (state_of r ws list) (state_of done ws' list')
-        → ◌≡◌ {A = Run × List ℕ} (out, last) (closed done list') → RunsFile r ws file list out ws' last
-    unfolding run_listed
-    file_run_is fresh {done} {ws' = ws'} {list' = list'} o c = record {
-      same = closed_ends done ws' list' c ∙ ap ended o.same
-          ∙ ap (λ (x : Run). ended (obey_all (left_of file l) (progress 16 (state_of x ws list)))) fresh
-          ∙ ap (λ rs. ended (obey_all rs (begun false m list 0))) (as_left file l f)
-          ∙ sym (ap ran (eq-eqb (file_number file) 0 (sym e ∙ z)));
-      words = o.words;
-    }
+  pub file_run_is : {bs : List (List ℕ)} → RightFile file bs → r ≡ fresh_run r.held false → {done out : Stopped} {ws' list' last : List ℕ}
+      → Obeys (read bs) (state_of r 0 ws list) (state_of done.run (number_told done.outcome) ws' list')
+      → ◌≡◌ {A = Stopped × List ℕ} (out, last) (closed done list') → RunsFile r ws file list out ws' last
+  unfolding run_listed
+  file_run_is {bs} f fresh {done} {ws' = ws'} {list' = list'} o c = record {
+    same = closed_ends done ws' list' c ∙ ap ended o.same
+        ∙ ap (λ (x : Run). ended (obey_all (read bs) (progress 16 (state_of x 0 ws list)))) fresh
+        ∙ ap (λ rs. ended (obey_all rs (begun false m list 0))) f.reads
+        ∙ sym (ap ran (eq-eqb (file_number file) 0 f.number));
+    words = o.words;
+  }
 
 -- the set-up
-pub lent : {all : Records} (list : List ℕ) → all ≡ gathered (take 16 all.list) no_process 16 → room_needed false ≤ length list → Lending 16 all list
+pub lent : {all : List Process} (list : List ℕ) → all ≡ gathered (take 16 all) no_process 16 → room_needed false ≤ length list → Lending 16 all list
 lent {all} list g l = record { few = omega arith; filled = gathered_filled 16 all g; room = l }
 
-module _ {all : Records} {list : List ℕ} (b : Bench) (ws file : List ℕ) (x : Lending 16 all list) (n w k : ℕ) {j : ℕ} (e : j ≡ set_up_number n w 16 (length ws) w) where
+module _ {list : List ℕ} (held : Held) (ws file : List ℕ) (x : Lending 16 held.all list) (n w k : ℕ) {j : ℕ} (e : j ≡ set_up_number n w 16 (length ws) w) where
   abbrev before : Memory
-  before = memory_of b all 16 ws
+  before = memory_of held 16 ws
 
   abbrev v : List ℕ
   v = replicate w k
 
   same_number : j ≡ set_up_refusal before n w v
-  same_number = e ∙ set_up_same b all 16 ws n w k x.few x.filled
+  same_number = e ∙ set_up_same held 16 ws n w k x.few x.filled
 
-  pub set_up_refused : (j ≡ 0 → ⊥) → {out : Run} {list' : List ℕ} → ◌≡◌ {A = Run × List ℕ} (out, list') (closed (fresh_run b all j false) list)
+  pub set_up_refused : (f : Refusal) → j ≡ refusal_number f → {out : Stopped} {list' : List ℕ} → ◌≡◌ {A = Stopped × List ℕ} (out, list') (closed (refused_with held f) list)
       → end_of out ws list' ≡ after_set_up before file list (set_up before n w v)
   unfolding set_up
-  set_up_refused ne c =
-      closed_ends (fresh_run b all j false) ws list c ∙ ap (λ (i : ℕ). ended (begun false before list i)) same_number
-      ∙ sym (not_begun (set_up_refusal before n w v) (λ y. run_listed y file list) (at_set_up before n w v) before _ (λ z. ne (same_number ∙ z)))
+  set_up_refused f is c =
+      let told : refusal_number f ≡ set_up_refusal before n w v = sym is ∙ same_number in
+      closed_ends (refused_with held f) ws list c ∙ ap (λ (i : ℕ). ended (begun false before list i)) told
+      ∙ sym (not_begun (set_up_refusal before n w v) (λ y. run_listed y file list) (at_set_up before n w v) before _ (λ z. number_some f (told ∙ z)))
 
   module _ (small : k ≤ largest) (z : j ≡ 0) where
     abbrev begins : RunState
-    begins = first false b ws x n w k small (sym e ∙ z)
+    begins = first false held ws x n w k small (sym e ∙ z)
 
-    pub begun_between : Shaped before → {r : Run} {ws₁ : List ℕ} → state_of r ws₁ list ≡ begins → Between (state_of r ws₁ list)
+    pub begun_between : Shaped before → {r : Run} {ws₁ : List ℕ} → state_of r 0 ws₁ list ≡ begins → Between (state_of r 0 ws₁ list)
     begun_between s q = subst Between (sym q) (record {
-      sound = begun_sound false b ws x n w k small (sym e ∙ z) s;
+      sound = begun_sound false held ws x n w k small (sym e ∙ z) s;
       goes = refl;
       none = refl;
       listed = refl;
       room = omega (arith, x.room);
     })
 
-    pub set_up_run : {r out : Run} {ws₁ ws' list' : List ℕ} → state_of r ws₁ list ≡ begins → RunsFile r ws₁ file list out ws' list'
+    pub set_up_run : {r : Run} {out : Stopped} {ws₁ ws' list' : List ℕ} → state_of r 0 ws₁ list ≡ begins → RunsFile r ws₁ file list out ws' list'
         → end_of out ws' list' ≡ after_set_up before file list (set_up before n w v)
     unfolding set_up
     set_up_run q o =
         o.same
         ∙ ap (λ (h : RunState). run_listed (progress 16 h).memory file list) q
-        ∙ ap (λ (s : Progress). run_listed s.memory file list) (begun_same false b ws x n w k small (sym e ∙ z))
+        ∙ ap (λ (s : Progress). run_listed s.memory file list) (begun_same false held ws x n w k small (sym e ∙ z))
         ∙ sym (is_begun (set_up_refusal before n w v) (λ y. run_listed y file list) (at_set_up before n w v) before _ (sym same_number ∙ z))
 
 -- 14 at the start
@@ -139,5 +134,5 @@ file_small file e = rw e (either (good_trailer file) (good_records file))
     either true false = omega arith
     either true true = omega arith
 
-pub as_fresh : {b : Bench} {all : Records} {r : Run} → r ≡ fresh_run b all 0 false → r ≡ fresh_run r.bench r.all 0 false
-as_fresh e = e ∙ ap (λ (x : Run). fresh_run x.bench x.all 0 false) (sym e)
+pub as_fresh : {held : Held} {r : Run} → r ≡ fresh_run held false → r ≡ fresh_run r.held false
+as_fresh e = e ∙ ap (λ (x : Run). fresh_run x.held false) (sym e)

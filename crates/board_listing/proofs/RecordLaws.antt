@@ -113,7 +113,7 @@ module _ {h : RunState} (b : Between h) (e : Entry) (small : Small e) where
   s = progress 16 h
 
   abbrev x : Outcome × List ℕ
-  x = decided h.run.bench h.run.all.list 16 (process_of e) (order_of e) (value_of h.run.bench.w e) h.words
+  x = decided h.run.held.bench h.run.held.all 16 (process_of e) (order_of e) (value_of h.run.held.bench.w e) h.words
 
   module _ (l : room_needed false ≤ length h.listing - h.run.written) where
     ready : Ready h
@@ -135,8 +135,8 @@ module _ {h : RunState} (b : Between h) (e : Entry) (small : Small e) where
     within : (commanded e s).stop ≡ 0 → (commanded e s).written ≤ h.run.written + 713
     within g =
         let z = number g in
-        let did = done h.run.bench h.run.all.list 16 (process_of e) (order_of e) (value_of h.run.bench.w e) h.words b.sound.filled.sixteen
-        (decides h.run.bench h.run.all.list 16 (process_of e) (order_of e) (value_of h.run.bench.w e) h.words b.sound.filled.sixteen (value_every e h.run.bench.w small)) z in
+        let did = done h.run.held.bench h.run.held.all 16 (process_of e) (order_of e) (value_of h.run.held.bench.w e) h.words b.sound.filled.sixteen
+        (decides h.run.held.bench h.run.held.all 16 (process_of e) (order_of e) (value_of h.run.held.bench.w e) h.words b.sound.filled.sixteen (value_every e h.run.held.bench.w small)) z in
         let below : Below _ h.words = record { at = (b.sound.going b.goes).small } in
         let line = answer_line x.0.bench.n x.0.bench.w x.1 (process_of e) x.0.reply in
         let all = cond h.run.traced (trace_line (h.run.entries + 1) s.memory e x.0.reply) [] ++ line in

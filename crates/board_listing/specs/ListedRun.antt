@@ -1,15 +1,21 @@
 -- The run as the code holds it. Each record is an entry of a text run that has done none before it, so that 12 never
 -- strikes; the commands done are counted beside it.
 -- Inner: `RecordLaws` proves that a record so carried out is `BoardListing`'s, and `ListedLaws` puts the parts together.
-use Rattle.std.specs.Prelude.{◌≡◌, ℕ, ◌+◌, ◌≤◌, List, false, length, replicate}
+use Rattle.std.specs.Prelude.{◌≡◌, ℕ, ◌+◌, ◌≤◌, List, false, Err, length, replicate}
+use Rattle.llsc.specs.declared.refusals.Refusal.{Refusal}
+use Rattle.llsc.specs.Refusals.{number_told}
 use Rattle.std.proofs.lemmas.List.Edits.{sets}
 use Rattle.boards.specs.Files.{BoardRecord}
+use Rattle.entry.specs.declared.state.Held.{Held}
 use Rattle.entry.specs.declared.state.Run.{Run}
 use Rattle.entry.specs.RunState.{RunState, progress, Sound}
-use Rattle.run.specs.Finished.{memory_of, last_of}
+use Rattle.run.specs.Finished.{memory_of}
+use Rattle.entry.specs.RunState.{fresh_run}
+use Rattle.text_runs.specs.Runs.{last_of}
 use Rattle.semantics.specs.TextRun.{Progress, Ended}
 use Rattle.model.specs.Machine.{Memory}
 use Rattle.model.specs.SetUp.{set_up}
+use Rattle.board_listing.specs.declared.ending.Stopped.{Stopped}
 use Rattle.board_listing.specs.BoardListing.{obey_all, run_listed, after_set_up}
 
 -- the same with another count of commands done
@@ -17,7 +23,7 @@ abbrev pub recounted : ℕ → Progress → Progress
 recounted k s = record { memory = s.memory; listing = s.listing; written = s.written; entries = k; stop = s.stop; traced = s.traced }
 
 abbrev pub with_entries : Run → ℕ → Run
-with_entries r k = record { bench = r.bench; all = r.all; written = r.written; entries = k; stop = r.stop; traced = r.traced }
+with_entries r k = record { held = r.held; written = r.written; entries = k; traced = r.traced }
 
 -- where 744 bytes were left there are 31 behind an answer line; the longest last line has 19
 abbrev pub last_room : ℕ
@@ -26,7 +32,7 @@ last_room = 31
 -- a run between two records
 pub record Between (h : RunState) : Type 0 where
   pub sound : Sound 16 h
-  pub goes : h.run.stop ≡ 0
+  pub goes : h.stop ≡ 0
   pub none : h.run.entries ≡ 0
   pub listed : h.run.traced ≡ false
   pub room : h.run.written + last_room ≤ length h.listing
@@ -37,29 +43,35 @@ pub record Obeys (rs : List BoardRecord) (h h' : RunState) : Type 0 where
   pub words : length h'.words ≡ length h.words
   pub listing : length h'.listing ≡ length h.listing
   pub room : h'.run.written + last_room ≤ length h'.listing
-  pub stop : h'.run.stop ≤ 15
+  pub stop : h'.stop ≤ 15
   pub few : h'.run.entries ≤ 9999999
 
 -- there is room for the last line
-pub record Closable (r : Run) (list : List ℕ) : Type 0 where
-  pub entries : r.entries ≤ 9999999
-  pub stop : r.stop ≤ 99
-  pub room : r.written + last_room ≤ length list
+pub record Closable (s : Stopped) (list : List ℕ) : Type 0 where
+  pub entries : s.run.entries ≤ 9999999
+  pub stop : number_told s.outcome ≤ 99
+  pub room : s.run.written + last_room ≤ length list
 
 abbrev pub with_written : Run → ℕ → Run
-with_written r k = record { bench = r.bench; all = r.all; written = k; entries = r.entries; stop = r.stop; traced = r.traced }
+with_written r k = record { held = r.held; written = k; entries = r.entries; traced = r.traced }
+
+-- a run that is refused before its first command
+abbrev pub refused_with : Held → Refusal → Stopped
+refused_with held f = record { run = fresh_run held false; outcome = Err f }
 
 -- a run with its last line
-abbrev pub closed : Run → List ℕ → Run × List ℕ
-closed r list = (with_written r (r.written + length (last_of r)), sets list r.written (last_of r))
+abbrev pub closed : Stopped → List ℕ → Stopped × List ℕ
+closed s list =
+    (record { run = with_written s.run (s.run.written + length (last_of s.run.entries s.outcome)); outcome = s.outcome }, sets list s.run.written (last_of s.run.entries s.outcome))
 
 -- what a closed run returns and leaves
-abbrev pub end_of : Run → List ℕ → List ℕ → Ended
-end_of r ws list = record { number = r.stop; entries = r.entries; written = r.written; memory = memory_of r.bench r.all 16 ws; listing = list }
+abbrev pub end_of : Stopped → List ℕ → List ℕ → Ended
+end_of s ws list =
+    record { number = number_told s.outcome; entries = s.run.entries; written = s.run.written; memory = memory_of s.run.held 16 ws; listing = list }
 
 -- the file run after a set-up, and the whole from the set-up on
-pub record RunsFile (r : Run) (ws file list : List ℕ) (r' : Run) (ws' list' : List ℕ) : Type 0 where
-  pub same : end_of r' ws' list' ≡ run_listed (memory_of r.bench r.all 16 ws) file list
+pub record RunsFile (r : Run) (ws file list : List ℕ) (s : Stopped) (ws' list' : List ℕ) : Type 0 where
+  pub same : end_of s ws' list' ≡ run_listed (memory_of r.held 16 ws) file list
   pub words : length ws' ≡ length ws
 
 abbrev pub SetsUp : Memory → ℕ → ℕ → ℕ → List ℕ → List ℕ → Ended → Type 0

@@ -1,23 +1,24 @@
 // A record of a trace file as an entry of a text, and that entry carried out.
-ghost use Rattle.std.specs.Prelude.{◌≡◌, ◌+◌, ◌≤◌, length};
-ghost use Rattle.boards.specs.Places.{record_at};
+ghost use Rattle.std.specs.Prelude.{◌≡◌};
+ghost use Rattle.llsc.specs.Refusals.{number_told};
+ghost use Rattle.boards.specs.Files.{record_of};
 ghost use Rattle.entry.specs.RunState.{state_of, Small, Becomes};
 ghost use Rattle.semantics.specs.TextRun.{carry};
 ghost use Rattle.board_listing.specs.BoardListing.{entry_of};
 ghost use Rattle.board_listing.specs.ListedRun.{with_entries, Between};
 
-use boards::numbers::number_at;
+use boards::records::{self, Record};
 use entry::state::Run;
 use notation::{Entry, entry_words};
+use text_runs::runs::Carried;
 
-// The entry of the record at a place.
-pub fn entry_of(file: &[u8], at: usize) -> Entry
-    requires { at + 12 ≤ length file.now }
-    ensures { (result ≡ entry_of (record_at file.now at)) × (Small result) }
+// The entry of a record.
+pub fn entry_of(bytes: &Record) -> Entry
+    ensures { (result ≡ entry_of (record_of bytes.now)) × (Small result) }
 {
-    let p = file[at + 8] as u64;
-    let value = number_at(file, at + 4) as u64;
-    match file[at + 9] {
+    let p = records::process(bytes) as u64;
+    let value = records::value(bytes) as u64;
+    match records::order(bytes) {
         0 => Entry::Step(p),
         1 => Entry::StartLl(p),
         2 => Entry::StartSc(p, value),
@@ -33,11 +34,12 @@ pub fn with_entries(run: Run, entries: usize) -> Run
 }
 
 // One entry, as the only one of its list.
-pub fn obey(run: Run, e: Entry, words: &mut [u64], list: &mut [u8]) -> Run
-    requires { (Between (state_of run words.old list.old)) × (Small e) }
-    ensures { Becomes 16 (carry e) (state_of run words.old list.old) (state_of result words.new list.new) }
+// Kept: an enum has no ghost field for `Small`, and `carry_out` takes the run, words and list of `Between` one by one.
+pub fn obey(run: Run, e: Entry, words: &mut [u64], list: &mut [u8]) -> Carried<Run>
+    requires { (Between (state_of run 0 words.old list.old)) × (Small e) }
+    ensures { Becomes 16 (carry e) (state_of run 0 words.old list.old)
+        (state_of result.run (number_told result.outcome) words.new list.new) }
 {
     let entries = [entry_words::word_of(e); 1];
-    let carried = carrying::carry_out(run, 16, &entries, 1, words, list);
-    carried.run
+    carrying::carry_out(run, 16, &entries, 1, words, list)
 }

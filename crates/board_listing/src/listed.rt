@@ -1,91 +1,96 @@
 // The whole run: set-up, file, commands, last line.
 ghost use Rattle.std.specs.Prelude.{◌≡◌, ◌≤◌, false, length, take};
+ghost use Rattle.llsc.specs.Refusals.{refusal_number};
 ghost use Rattle.model.specs.Records.{no_process};
-ghost use Rattle.tables.specs.Gathered.{gathered};
+ghost use Rattle.lent.specs.Gathered.{gathered};
 ghost use Rattle.entry.specs.RunState.{state_of};
-ghost use Rattle.run.specs.Finished.{fresh_run, memory_of};
+ghost use Rattle.run.specs.Finished.{memory_of};
 ghost use Rattle.text_runs.specs.TextRun.{room_needed};
+ghost use Rattle.entry.specs.RunState.{fresh_run};
 ghost use Rattle.board_listing.specs.BoardListing.{board_listed};
-ghost use Rattle.board_listing.specs.ListedRun.{Between, closed, end_of, RunsFile, SetsUp};
+ghost use Rattle.board_listing.specs.ListedRun.{Between, closed, refused_with, end_of, RunsFile, SetsUp};
 
+use crate::ending::Stopped;
 use crate::{ending, records};
-use board_rows::file_refusal;
-use boards::trailers::records_of;
-use entry::state::Run;
-use llsc::refusals::{Refusal, number_of};
-use model::Bench;
-use run::{last_line, set_up};
-use tables::records::Records;
+use board_rows::right_records;
+use entry::state::{Held, Run};
+use llsc::refusals::Refusal;
+use run::set_up;
 use text_runs::{limits, lists};
 
 // A run that is refused before its first command.
-fn refused(bench: Bench, all: Records, number: u8, list: &mut [u8]) -> Run
-    requires { (number ≤ 99) × (room_needed false ≤ length list.old) }
-    ensures { (result, list.new) ≡ closed (fresh_run bench all number false) list.old }
+// Kept: the room is a fact on a lent list, tested once in `run_listed`; a struct for it would be undone at each line.
+fn refused(held: Held, cause: Refusal, list: &mut [u8]) -> Stopped
+    requires { (refusal_number cause ≤ 99) × (room_needed false ≤ length list.old) }
+    ensures { (result, list.new) ≡ closed (refused_with held cause) list.old }
 {
-    let run = last_line::fresh(bench, all, number, false);
-    ending::close(run, list)
+    let stopped = Stopped {
+        run: Run::fresh(held, false),
+        outcome: Err(cause),
+    };
+    ending::close(stopped, list)
 }
 
 // The file on a run that has done nothing: "25 and 26 also before a run".
-fn run_file(run: Run, file: &[u8], words: &mut [u64], list: &mut [u8]) -> Run
-    requires { (Between (state_of run words.old list.old)) × (run ≡ fresh_run run.bench run.all 0 false) × (room_needed false ≤ length list.old) }
+// Kept: file, words and list come from the caller one by one, and go on so to three crates.
+fn run_file(run: Run, file: &[u8], words: &mut [u64], list: &mut [u8]) -> Stopped
+    requires { (Between (state_of run 0 words.old list.old)) × (run ≡ fresh_run run.held false) × (room_needed false ≤ length list.old) }
     ensures { RunsFile run words.old file.now list.old result words.new list.new }
 {
-    let number = number_of(file_refusal(file));
-    if number != 0 {
-        return refused(run.bench, run.all, number, list);
+    match right_records(file) {
+        Ok(records) => {
+            let done = records::obey_records(run, records, words, list);
+            ending::close(done, list)
+        }
+        Err(cause) => refused(run.held, cause, list),
     }
-    let from = records_of(file);
-    let done = records::obey_records(run, file, from, words, list);
-    ending::close(done, list)
 }
 
 // The set-up, refused or done, and then the file.
 fn set_up_and_run(
-    bench: Bench,
-    all: Records,
+    held: Held,
     n: usize,
     w: usize,
     initial: u32,
     file: &[u8],
     words: &mut [u64],
     list: &mut [u8],
-) -> Run
-    requires { (all ≡ gathered (take 16 all.list) no_process 16) × (room_needed false ≤ length list.old) }
-    ensures { SetsUp (memory_of bench all 16 words.old) n w initial file.now list.old (end_of result words.new list.new) }
+) -> Stopped
+    requires { (held.all ≡ gathered (take 16 held.all) no_process 16) × (room_needed false ≤ length list.old) }
+    ensures { SetsUp (memory_of held 16 words.old) n w initial file.now list.old (end_of result words.new list.new) }
 {
-    let number = number_of(setup::set_up_refusal(n, w, 16, words.len(), w));
-    if number != 0 {
-        return refused(bench, all, number, list);
+    if let Err(cause) = setup::set_up_refusal(n, w, 16, words.len(), w) {
+        return refused(held, cause, list);
     }
     let value = lists::repeated(initial as u64);
     setup::words_at_set_up(words, n, w, &value[..w]);
-    let begun = setup::bench_at_set_up(bench, n, w);
-    let records = set_up::records_at_set_up(all, n);
-    let run = last_line::fresh(begun, records, 0, false);
+    let bench = setup::bench_at_set_up(held.bench, n, w);
+    let all = set_up::records_at_set_up(held.all, n);
+    let run = Run::fresh(Held { bench, all }, false);
     run_file(run, file, words, list)
 }
 
-// The run as `board_listed` says, over the bench record, sixteen process records and the words that it is given: its
-// number, the commands done and the bytes written, all memory after it and the listing.
+// The run as `board_listed` says, over the bench record, sixteen process records and the words that it is given: why
+// it was refused, if it was, the commands done and the bytes written, all memory after it and the listing.
 // Ruled out: a refused command counted as done, a listing without its last line, the value in word 0 alone, 12 after
 // 60,000 commands.
 pub fn run_listed(
-    bench: Bench,
-    all: Records,
+    held: Held,
     n: usize,
     w: usize,
     initial: u32,
     file: &[u8],
     words: &mut [u64],
     list: &mut [u8],
-) -> Run
-    requires { all ≡ gathered (take 16 all.list) no_process 16 }
-    ensures { end_of result words.new list.new ≡ board_listed (memory_of bench all 16 words.old) n w initial file.now list.old }
+) -> Stopped
+    requires { held.all ≡ gathered (take 16 held.all) no_process 16 }
+    ensures { end_of result words.new list.new ≡ board_listed (memory_of held 16 words.old) n w initial file.now list.old }
 {
     if list.len() < limits::LISTING_ROOM {
-        return last_line::fresh(bench, all, Refusal::NoRoom.number(), false);
+        return Stopped {
+            run: Run::fresh(held, false),
+            outcome: Err(Refusal::NoRoom),
+        };
     }
-    set_up_and_run(bench, all, n, w, initial, file, words, list)
+    set_up_and_run(held, n, w, initial, file, words, list)
 }

@@ -1,29 +1,35 @@
 // The records of a file, one command after the other, up to the first refusal.
-ghost use Rattle.boards.specs.Places.{There, left_of};
+ghost use Rattle.llsc.specs.Refusals.{number_told};
+ghost use Rattle.boards.specs.Places.{read};
 ghost use Rattle.entry.specs.RunState.{state_of};
-ghost use Rattle.std.specs.Prelude.{◌≤◌};
+ghost use Rattle.std.specs.Prelude.{◌≤◌, length};
 ghost use Rattle.board_listing.specs.ListedRun.{Between, Obeys};
 
 use crate::commands;
-use boards::Left;
-use boards::trailers::RECORD_SIZE;
+use crate::ending::Stopped;
+use boards::records::Record;
 use entry::state::Run;
 
 // Each record is the only entry of a run that has done none; the commands done are counted here.
-pub fn obey_records(run: Run, file: &[u8], from: Left, words: &mut [u64], list: &mut [u8]) -> Run
-    requires { (There file.now from) × (Between (state_of run words.old list.old)) × (from.count ≤ 9999999) }
-    ensures { Obeys (left_of file.now from) (state_of run words.old list.old) (state_of result words.new list.new) }
+pub fn obey_records(run: Run, records: &[Record], words: &mut [u64], list: &mut [u8]) -> Stopped
+    requires { (Between (state_of run 0 words.old list.old)) × (length records.now ≤ 9999999) }
+    ensures { Obeys (read records.now) (state_of run 0 words.old list.old)
+        (state_of result.run (number_told result.outcome) words.new list.new) }
 {
     let mut state = run;
-    let mut at = from.at;
-    for done in 0..from.count {
-        let e = commands::entry_of(file, at);
+    for (done, bytes) in records.iter().enumerate() {
+        let e = commands::entry_of(bytes);
         let next = commands::obey(state, e, words, list);
-        if next.stop != 0 {
-            return commands::with_entries(next, done);
+        if let Err(cause) = next.outcome {
+            return Stopped {
+                run: commands::with_entries(next.run, done),
+                outcome: Err(cause),
+            };
         }
-        state = commands::with_entries(next, 0);
-        at += RECORD_SIZE;
+        state = commands::with_entries(next.run, 0);
     }
-    commands::with_entries(state, from.count)
+    Stopped {
+        run: commands::with_entries(state, records.len()),
+        outcome: Ok(()),
+    }
 }

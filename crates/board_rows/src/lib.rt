@@ -2,20 +2,20 @@
 
 #![tactic(auto)]
 
-ghost use Rattle.std.specs.Prelude.{◌≡◌};
-ghost use Rattle.llsc.specs.Refusals.{number_told};
-ghost use Rattle.boards.specs.Files.{file_number};
+ghost use Rattle.std.specs.Prelude.{MatchResult};
+ghost use Rattle.boards.specs.Places.{RightFile, WrongFile};
 
-use boards::records::good_records;
-use boards::trailers::{good_trailer, records_of};
+use boards::records::{Record, good_records};
+use boards::trailers::records_of;
 use llsc::refusals::Refusal;
 
-// "25 and 26 also before a run": refused for the first of them that holds.
-pub fn file_refusal(file: &[u8]) -> Result<(), Refusal>
-    ensures { number_told result ≡ file_number file.now }
+// The records of a file. "25 and 26 also before a run": refused for the first of them that holds.
+pub fn right_records(file: &[u8]) -> Result<&[Record], Refusal>
+    ensures { MatchResult result (λ records. RightFile file.now records.now) (WrongFile file.now) }
 {
-    if !good_trailer(file) {
-        return Err(Refusal::BadTrailer);
+    let records = records_of(file).ok_or(Refusal::BadTrailer)?;
+    if !good_records(records) {
+        return Err(Refusal::BadRecord);
     }
-    Refusal::BadRecord.if_holds(!good_records(file, records_of(file)))
+    Ok(records)
 }

@@ -26,10 +26,6 @@ pub fn run_file(
 {
     let out = running::run_by_value(gather(*station, processes), file, words);
     *station = out.station;
-    // Nothing is stored where nothing was done.
-    lent::store_back(processes, &out.all, station::empty_process(), out.stored);
-    FileRun {
-        number: out.number,
-        done: out.done,
-    }
+    lent::store_back(processes, &out.all, station::empty_process(), out.stored());
+    out.ran
 }

@@ -7,7 +7,7 @@ use native.Mathlib.Omega.{arith}
 use lib.Dec.{eqb}
 use borrow.Author.Tests.{le-leb, eq-eqb}
 use lib.ListN.{length, drop}
-use lib.Seq.{get_or-append-add, get_or-drop, drop-drop}
+use lib.Seq.{get_or-append-add}
 use lib.Pow.{shr-shr}
 use Rattle.llsc.specs.Linearizable.{All}
 use Rattle.laws.proofs.AndLaws.{left, right}
@@ -125,10 +125,3 @@ unfolding records_of good_fronts
 records_good zero bs e = tt
 records_good (suc k) bs e =
     (left (good_record (record_of bs)) _ (left (good_front bs) _ e), records_good k (drop 12 bs) (right (good_front bs) (good_fronts k (drop 12 bs)) e))
-
--- and so are the processes of a slice's records
-pub processes_small : (bs : List ℕ) (at n : ℕ) → ((i : ℕ) → byte_at bs i < 256) → All (λ r. r.process < 256) (records_of n (drop at bs))
-unfolding records_of
-processes_small bs at zero h = tt
-processes_small bs at (suc n) h =
-    (let z = get_or-drop at bs 8 0 in omega (arith, h (at + 8)), rw (drop-drop 12 at bs) (processes_small bs (at + 12) n h))

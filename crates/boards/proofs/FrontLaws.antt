@@ -1,108 +1,112 @@
--- A record's tests, and the records from a place on.
-use mathlib.Core.Path.{◌≡◌, refl, sym, ap, ap₂, subst, ◌∙◌}
-use mathlib.Core.List.{List, ◌∷◌}
-use mathlib.Core.Bool.{Bool, true, false, ◌&&◌, ◌||◌}
-use Prim.Native.Nat.{ℕ, zero, suc, ◌+◌, ◌-◌, ◌*◌, ◌≤◌, ◌<◌}
+-- A file's records, cut into their bytes; their tests, in one pass or in two.
+use mathlib.Core.Path.{◌≡◌, refl, sym, ap, ap₂, ◌∙◌}
+use mathlib.Core.List.{List, [], ◌∷◌}
+use mathlib.Core.Bool.{Bool, true, false, ◌&&◌}
+use Prim.Native.Nat.{ℕ, zero, suc, ◌+◌, ◌*◌, ◌≤◌, ◌<◌}
 use native.Mathlib.Omega.{arith}
 use lib.Dec.{eqb, leb}
+use lib.ListN.{length, get_or, take, drop}
+use native.Mathlib.Numerals.{add-one}
 use borrow.Author.Tests.{le-leb, lt-leb}
-use lib.ListN.{length, drop}
-use lib.Seq.{get_or-drop, drop-drop}
-use Rattle.laws.proofs.AndLaws.{pass, fail}
-use Rattle.boards.specs.Files.{BoardRecord, byte_at, joined, number4, record_of, records_of, good_front, good_fronts, rising}
-use Rattle.boards.specs.Places.{record_at, good_at, good_from}
+use lib.Seq.{drop-cons, get_or-drop}
+use Rattle.std.proofs.lemmas.List.{get_or-take, take-take, drop-take, drop_all}
+use Rattle.std.specs.Simd.{first_chunks}
+use Rattle.boards.specs.Files.{BoardRecord, byte_at, number4, record_of, records_of, good_record, good_front, good_fronts, rising}
+use Rattle.boards.specs.Places.{read, all_good, good_from}
 
--- the front of what is left is what stands at the place
-four_drop : (bs : List ℕ) (at i : ℕ) → number4 (drop at bs) i ≡ number4 bs (at + i)
-four_drop bs at i =
-    ap₂ (λ (a b : ℕ). a + 256 * b + 65536 * byte_at (drop at bs) (i + 2) + 16777216 * byte_at (drop at bs) (i + 3)) (get_or-drop at bs i 0) (there 1)
-    ∙ ap₂ (λ (c d : ℕ). joined (byte_at bs (at + i)) (byte_at bs (at + i + 1)) c d) (there 2) (there 3)
+-- the number at a place is at the front of what is left from there
+pub four_drop : (bs : List ℕ) (at i : ℕ) → number4 (drop at bs) i ≡ number4 bs (at + i)
+four_drop bs at i = rw (get_or-drop at bs i 0, there 1, there 2, there 3) refl
   where
     there : (k : ℕ) → byte_at (drop at bs) (i + k) ≡ byte_at bs (at + i + k)
     there k = get_or-drop at bs (i + k) 0 ∙ ap (byte_at bs) (let e : at + (i + k) ≡ at + i + k = omega arith in e)
 
-tick_drop : (bs : List ℕ) (at : ℕ) → number4 (drop at bs) 0 ≡ number4 bs at
-tick_drop bs at = four_drop bs at 0 ∙ ap (number4 bs) (let e : at + 0 ≡ at = omega arith in e)
+-- the twelve bytes at the front have the record there
+module _ (bs : List ℕ) where
+  byte : (i : ℕ) → i < 12 → byte_at (take 12 bs) i ≡ byte_at bs i
+  byte i h = get_or-take 12 bs i 0 h
 
-front_record : (bs : List ℕ) (at : ℕ) → record_of (drop at bs) ≡ record_at bs at
-front_record bs at =
-    ap₂ (λ (t v : ℕ). record { tick = t; value = v; process = byte_at (drop at bs) 8; order = byte_at (drop at bs) 9 }) (tick_drop bs at) (four_drop bs at 4)
-    ∙ ap₂ (λ (p o : ℕ). record { tick = number4 bs at; value = number4 bs (at + 4); process = p; order = o }) (get_or-drop at bs 8 0) (get_or-drop at bs 9 0)
+  front_record : record_of (take 12 bs) ≡ record_of bs
+  front_record =
+      rw (
+        byte 0 (omega arith),
+        byte 1 (omega arith),
+        byte 2 (omega arith),
+        byte 3 (omega arith),
+        byte 4 (omega arith),
+        byte 5 (omega arith),
+        byte 6 (omega arith),
+        byte 7 (omega arith),
+        byte 8 (omega arith),
+        byte 9 (omega arith),
+      ) refl
 
-pub at_front : (bs : List ℕ) (at : ℕ) → good_front (drop at bs) ≡ good_at bs at
-unfolding good_at
-at_front bs at =
-    ap₂ ◌&&◌ (ap₂ (λ (o v : ℕ). leb o 3 && (eqb o 2 || eqb v 0)) (get_or-drop at bs 9 0) (four_drop bs at 4))
-    (ap₂ (λ (x y : ℕ). eqb x 0 && eqb y 0) (get_or-drop at bs 10 0) (get_or-drop at bs 11 0))
+  front_good : good_front (take 12 bs) ≡ good_front bs
+  front_good =
+      ap₂ (λ (r : BoardRecord) (b : Bool). good_record r && b) front_record
+      (ap₂ (λ (x y : ℕ). eqb x 0 && eqb y 0) (byte 10 (omega arith)) (byte 11 (omega arith)))
 
--- one record more, where some are left
-module _ (bs : List ℕ) (at n : ℕ) (some : 0 < n) where
-  one_more : n ≡ suc (n - 1)
-  one_more = omega arith
+pub read_chunks : (k : ℕ) (bs : List ℕ) → read (first_chunks 12 k bs) ≡ records_of k bs
+unfolding records_of
+read_chunks zero bs = refl
+read_chunks (suc k) bs = ap₂ ◌∷◌ (front_record bs) (read_chunks k (drop 12 bs))
 
-  pub next_record : records_of n (drop at bs) ≡ record_at bs at ∷ records_of (n - 1) (drop (at + 12) bs)
-  unfolding records_of
-  next_record = ap (λ (k : ℕ). records_of k (drop at bs)) one_more ∙ ap₂ (λ (r : BoardRecord) (l : List ℕ). r ∷ records_of (n - 1) l) (front_record bs at) (drop-drop 12 at bs)
+pub good_chunks : (k : ℕ) (bs : List ℕ) → all_good (first_chunks 12 k bs) ≡ good_fronts k bs
+unfolding good_fronts
+good_chunks zero bs = refl
+good_chunks (suc k) bs = ap₂ ◌&&◌ (front_good bs) (good_chunks k (drop 12 bs))
 
-  module _ (t : ℕ) where
-    next_good : good_from t n (drop at bs) ≡ (good_at bs at && (leb t (number4 bs at) && good_from (number4 bs at) (n - 1) (drop (at + 12) bs)))
-    unfolding good_from
-    next_good =
-        ap (λ (k : ℕ). good_from t k (drop at bs)) one_more
-        ∙ ap₂ ◌&&◌ (at_front bs at) (ap₂ (λ (x : ℕ) (l : List ℕ). leb t x && good_from x (n - 1) l) (tick_drop bs at) (drop-drop 12 at bs))
+pub so_many : (k : ℕ) (bs : List ℕ) → length (first_chunks 12 k bs) ≡ k
+so_many zero bs = refl
+so_many (suc k) bs = ap suc (so_many k (drop 12 bs))
 
--- record i of n that begin at a place, as so many left from a place on
-module _ (P : ℕ → ℕ → Type 0) (n at : ℕ) where
-  pub at_first : P n at → P (n - 0) (at + 12 * 0)
-  at_first h = subst (λ k. P (n - 0) k) (let e : at ≡ at + 12 * 0 = omega arith in e) (subst (λ k. P k at) (let e : n ≡ n - 0 = omega arith in e) h)
-
-  pub at_next : (i : ℕ) → P (n - i - 1) (at + 12 * i + 12) → P (n - (i + 1)) (at + 12 * (i + 1))
-  at_next i h =
-      subst (λ k. P (n - (i + 1)) k) (let e : at + 12 * i + 12 ≡ at + 12 * (i + 1) = omega arith in e)
-      (subst (λ k. P k (at + 12 * i + 12)) (let e : n - i - 1 ≡ n - (i + 1) = omega arith in e) h)
-
--- the loop over a file's records: those from the first on are good exactly where those left are, from the last tick on
-pub record Rising (bs : List ℕ) (left₀ at₀ left at tick : ℕ) : Type 0 where
-  pub there : at + 12 * left ≤ length bs
-  pub same : good_from 0 left₀ (drop at₀ bs) ≡ good_from tick left (drop at bs)
-
-module _ {bs : List ℕ} {left₀ at₀ left at tick : ℕ} (m : Rising bs left₀ at₀ left at tick) where
-  abbrev whole : Bool
-  whole = good_from 0 left₀ (drop at₀ bs)
-
-  module _ (h : 0 < left) (r : Bool) (e : r ≡ good_at bs at) where
-    pub record_fails : r ≡ false → false ≡ whole
-    record_fails f = sym (m.same ∙ next_good bs at left h tick ∙ sym (fail (good_at bs at) _ (sym e ∙ f)))
-
-    module _ (t : ℕ) (z : t ≡ number4 bs at) (g : r ≡ true) where
-      on : (leb tick (number4 bs at) && good_from (number4 bs at) (left - 1) (drop (at + 12) bs)) ≡ good_from tick left (drop at bs)
-      on = pass (good_at bs at) (sym e ∙ g) refl ∙ sym (next_good bs at left h tick)
-
-      pub tick_falls : t < tick → false ≡ whole
-      tick_falls l = sym (m.same ∙ sym on ∙ sym (fail (leb tick (number4 bs at)) _ (lt-leb tick (number4 bs at) (omega arith))))
-
-      pub record_passes : tick ≤ t → Rising bs left₀ at₀ (left - 1) (at + 12) t
-      record_passes l = record {
-        there = omega (arith, m.there);
-        same =
-            m.same ∙ sym on ∙ sym (pass (leb tick (number4 bs at)) (le-leb tick (number4 bs at) (omega arith)) refl)
-            ∙ ap (λ (x : ℕ). good_from x (left - 1) (drop (at + 12) bs)) (sym z);
-      }
-
-  pub none_left : left ≡ 0 → true ≡ whole
-  unfolding good_from
-  none_left e = sym (m.same ∙ ap (λ (k : ℕ). good_from tick k (drop at bs)) e)
+-- bytes behind the chunks change nothing
+pub chunks_taken : (k : ℕ) (bs : List ℕ) → first_chunks 12 k (take (k * 12) bs) ≡ first_chunks 12 k bs
+chunks_taken zero bs = refl
+chunks_taken (suc k) bs =
+    let e : suc k * 12 ≡ 12 + k * 12 = omega arith in
+    rw (e, take-take 12 (12 + k * 12) bs (omega arith), drop-take 12 (k * 12) bs) (ap (take 12 bs ∷◌) (chunks_taken k (drop 12 bs)))
 
 -- in one pass, or in two
-pub one_pass : (t k : ℕ) (bs : List ℕ) → good_from t k bs ≡ (good_fronts k bs && rising t (records_of k bs))
-unfolding good_from good_fronts records_of rising
-one_pass t zero bs = refl
-one_pass t (suc k) bs =
-    ap (λ (x : Bool). good_front bs && (leb t (number4 bs 0) && x)) (one_pass (number4 bs 0) k (drop 12 bs))
-    ∙ shuffle (good_front bs) (leb t (number4 bs 0)) (good_fronts k (drop 12 bs)) (rising (number4 bs 0) (records_of k (drop 12 bs)))
+pub one_pass : (t : ℕ) (rs : List (List ℕ)) → good_from t rs ≡ (all_good rs && rising t (read rs))
+unfolding good_from rising
+one_pass t [] = refl
+one_pass t (r ∷ rs) =
+    let next = (record_of r).tick in
+    ap (λ (x : Bool). good_front r && (leb t next && x)) (one_pass next rs)
+    ∙ shuffle (good_front r) (leb t next) (all_good rs) (rising next (read rs))
   where
     shuffle : (a b c d : Bool) → (a && (b && (c && d))) ≡ ((a && c) && (b && d))
     shuffle true true c d = refl
     shuffle true false true d = refl
     shuffle true false false d = refl
     shuffle false b c d = refl
+
+-- the loop over a file's records: those from the first on are good exactly where those left are, from the last tick on
+module _ (rs : List (List ℕ)) (t i : ℕ) (same : good_from 0 rs ≡ good_from t (drop i rs)) where
+  abbrev r : List ℕ
+  r = get_or rs i []
+
+  abbrev rest : ℕ → Bool
+  rest n = good_from n (drop (i + 1) rs)
+
+  abbrev all : Bool
+  all = all_good rs && rising 0 (read rs)
+
+  module _ (h : i < length rs) where
+    next_good : good_from 0 rs ≡ (good_front r && (leb t (record_of r).tick && rest (record_of r).tick))
+    unfolding good_from
+    next_good = same ∙ rw (drop-cons rs i [] h, add-one i) refl
+
+    pub record_fails : good_front r ≡ false → false ≡ all
+    record_fails f = sym (sym (one_pass 0 rs) ∙ next_good ∙ rw f refl)
+
+    pub tick_falls : good_front r ≡ true → (record_of r).tick < t → false ≡ all
+    tick_falls g l = sym (sym (one_pass 0 rs) ∙ next_good ∙ rw (g, lt-leb t (record_of r).tick l) refl)
+
+    pub record_passes : good_front r ≡ true → t ≤ (record_of r).tick → good_from 0 rs ≡ rest (record_of r).tick
+    record_passes g l = next_good ∙ rw (g, le-leb t (record_of r).tick l) refl
+
+  pub all_pass : length rs ≤ i → true ≡ all
+  unfolding good_from
+  all_pass h = sym (sym (one_pass 0 rs) ∙ same ∙ rw (drop_all i rs h) refl)

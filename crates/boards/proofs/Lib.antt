@@ -3,7 +3,7 @@ pub mod FrontLaws
 pub mod ProcessLaws
 pub mod FileLaws
 pub mod MergeLaws
-pub mod RefusalLaws
 pub mod LoopLaws
+pub mod RefusalLaws
 pub mod Theorems
 pub mod Examples

@@ -2,19 +2,21 @@
 use mathlib.Core.Path.{◌≡◌, refl, sym, ap, ap₂, ◌∙◌}
 use mathlib.Core.List.{List, [], ◌∷◌}
 use mathlib.Core.Bool.{Bool, true, false, ◌||◌}
-use Prim.Native.Nat.{ℕ, ◌+◌, ◌-◌, ◌*◌, ◌≤◌, ◌<◌}
+use Prim.Native.Nat.{ℕ, ◌+◌, ◌≤◌, ◌<◌}
+use Rattle.std.proofs.lemmas.List.{drop_all}
 use native.Mathlib.Omega.{arith}
 use lib.Dec.{eqb}
 use borrow.Author.Tests.{eqb-true, eqb-false}
 use lib.ListN.{length, get_or, set, drop, replicate, length-set, length-replicate, get_or-replicate}
-use lib.Seq.{get_or-set_same, get_or-set_other}
+use lib.Seq.{drop-cons, get_or-set_same, get_or-set_other}
+use native.Mathlib.Numerals.{add-one}
 use Rattle.llsc.specs.Rows.{some}
 use Rattle.llsc.specs.Linearizable.{All}
-use Rattle.laws.proofs.AllLaws.{or_left, or_right}
-use Rattle.boards.specs.Files.{BoardRecord, byte_at, records_of}
+use Rattle.laws.proofs.AllLaws.{or_right}
+use Rattle.boards.specs.Files.{BoardRecord, record_of}
 use Rattle.boards.specs.Merging.{share_process}
-use Rattle.boards.specs.Places.{marks, some_marked}
-use Rattle.boards.proofs.FrontLaws.{next_record}
+use Rattle.boards.specs.Places.{read, marks}
+use Rattle.boards.specs.Promises.{of_these}
 
 -- tests over two lists, in either order
 module _ {A : Type 0} where
@@ -59,52 +61,45 @@ marks_at (x ∷ xs) t p h =
     marks_at xs (set t x.process true) p (let z = length-set t x.process true in omega arith)
     ∙ marked_at t x.process p (some (λ z. eqb z.process p) xs) h
 
-pub shared_by_table : (xs ys : List BoardRecord) → All (λ y. y.process < 256) ys → some_marked (marks xs (replicate 256 false)) ys ≡ share_process xs ys
-unfolding some_marked
-shared_by_table xs ys small = alike _ _ (λ y. y.process < 256) at ys small ∙ sym (swap (λ x y. eqb x.process y.process) xs ys)
+-- so the table has the processes of those records, and no other
+pub in_table : (xs : List BoardRecord) (p : ℕ) → p < 256 → get_or (marks xs (replicate 256 false)) p false ≡ some (λ x. eqb x.process p) xs
+in_table xs p h =
+    marks_at xs (replicate 256 false) p (let z = length-replicate 256 false in omega arith)
+    ∙ ap (λ (b : Bool). some (λ x. eqb x.process p) xs || b) (get_or-replicate 256 p false false h)
+    ∙ or_false (some (λ x. eqb x.process p) xs)
   where
     or_false : (a : Bool) → (a || false) ≡ a
     or_false true = refl
     or_false false = refl
 
-    at : (y : BoardRecord) → y.process < 256 → get_or (marks xs (replicate 256 false)) y.process false ≡ some (λ x. eqb x.process y.process) xs
-    at y h =
-        marks_at xs (replicate 256 false) y.process (let z = length-replicate 256 false in omega arith)
-        ∙ ap (λ (b : Bool). some (λ x. eqb x.process y.process) xs || b) (get_or-replicate 256 y.process false false h)
-        ∙ or_false (some (λ x. eqb x.process y.process) xs)
+pub shared : (xs ys : List BoardRecord) → some (of_these xs) ys ≡ share_process xs ys
+shared xs ys = sym (swap (λ x y. eqb x.process y.process) xs ys)
 
--- the loops over a file's records: what is left to be marked, and to be looked at
-pub record Marking (bs : List ℕ) (table₀ : List Bool) (left₀ at₀ : ℕ) (table : List Bool) (left at : ℕ) : Type 0 where
-  pub there : at + 12 * left ≤ length bs
-  pub same : marks (records_of left₀ (drop at₀ bs)) table₀ ≡ marks (records_of left (drop at bs)) table
-
-module _ {bs : List ℕ} {table₀ : List Bool} {left₀ at₀ : ℕ} {table : List Bool} {left at : ℕ} (m : Marking bs table₀ left₀ at₀ table left at) where
-  pub mark_next : 0 < left → Marking bs table₀ left₀ at₀ (set table (byte_at bs (at + 8)) true) (left - 1) (at + 12)
+-- the loop that marks: what is left to be marked
+module _ (rs : List (List ℕ)) (table : List Bool) (i : ℕ) where
+  pub mark_next : i < length rs → {p : ℕ} → p ≡ (record_of (get_or rs i [])).process
+      → marks (read (drop i rs)) table ≡ marks (read (drop (i + 1) rs)) (set table p true)
   unfolding marks
-  mark_next h = record { there = omega (arith, m.there); same = m.same ∙ ap (λ (rs : List BoardRecord). marks rs table) (next_record bs at left h) }
+  mark_next h e = rw (e, drop-cons rs i [] h, add-one i) refl
 
-  pub all_marked : left ≡ 0 → table ≡ marks (records_of left₀ (drop at₀ bs)) table₀
-  unfolding marks records_of
-  all_marked e = sym (m.same ∙ ap (λ (k : ℕ). marks (records_of k (drop at bs)) table) e)
+  pub all_marked : length rs ≤ i → {t : List Bool} → t ≡ marks (read (drop i rs)) table → table ≡ t
+  unfolding marks
+  all_marked h e = sym (e ∙ rw (drop_all i rs h) refl)
 
-pub record Looking (bs : List ℕ) (table : List Bool) (left₀ at₀ left at : ℕ) : Type 0 where
-  pub there : at + 12 * left ≤ length bs
-  pub same : some_marked table (records_of left₀ (drop at₀ bs)) ≡ some_marked table (records_of left (drop at bs))
+-- the loop that looks: what is left to be looked at
+module _ (xs : List BoardRecord) (rs : List (List ℕ)) (i : ℕ) where
+  module _ (h : i < length rs) {t : List Bool} {p : ℕ} (f : t ≡ marks xs (replicate 256 false)) (e : p ≡ (record_of (get_or rs i [])).process) (small : p < 256) where
+    look : some (of_these xs) (read (drop i rs)) ≡ (get_or t p false || some (of_these xs) (read (drop (i + 1) rs)))
+    look =
+        rw (drop-cons rs i [] h, add-one i) refl
+        ∙ ap (λ (b : Bool). b || some (of_these xs) (read (drop (i + 1) rs)))
+        (sym (ap (λ (u : List Bool). get_or u p false) f ∙ in_table xs p small ∙ ap (λ (q : ℕ). some (λ x. eqb x.process q) xs) e))
 
-module _ {bs : List ℕ} {table : List Bool} {left₀ at₀ left at : ℕ} (m : Looking bs table left₀ at₀ left at) where
-  abbrev rest : Bool
-  rest = some_marked table (records_of (left - 1) (drop (at + 12) bs))
+    pub found : get_or t p false ≡ true → some (of_these xs) (read (drop i rs)) ≡ true
+    found g = look ∙ rw g refl
 
-  next_look : 0 < left → some_marked table (records_of left (drop at bs)) ≡ (get_or table (byte_at bs (at + 8)) false || rest)
-  unfolding some_marked
-  next_look h = ap (λ (rs : List BoardRecord). some_marked table rs) (next_record bs at left h)
+    pub look_on : get_or t p false ≡ false → some (of_these xs) (read (drop i rs)) ≡ some (of_these xs) (read (drop (i + 1) rs))
+    look_on g = look ∙ rw g refl
 
-  pub found : 0 < left → get_or table (byte_at bs (at + 8)) false ≡ true → true ≡ some_marked table (records_of left₀ (drop at₀ bs))
-  found h e = sym (m.same ∙ next_look h ∙ or_left rest e)
-
-  pub look_on : 0 < left → get_or table (byte_at bs (at + 8)) false ≡ false → Looking bs table left₀ at₀ (left - 1) (at + 12)
-  look_on h e = record { there = omega (arith, m.there); same = m.same ∙ next_look h ∙ ap (λ (t : Bool). t || rest) e }
-
-  pub none_found : left ≡ 0 → false ≡ some_marked table (records_of left₀ (drop at₀ bs))
-  unfolding some_marked records_of
-  none_found e = sym (m.same ∙ ap (λ (k : ℕ). some_marked table (records_of k (drop at bs))) e)
+  pub none_found : length rs ≤ i → some (of_these xs) (read (drop i rs)) ≡ false
+  none_found h = rw (drop_all i rs h) refl

@@ -3,7 +3,6 @@
 #![tactic(auto)]
 
 pub mod merging;
-pub mod numbers;
 pub mod processes;
 pub mod records;
 pub mod refusals;
@@ -14,14 +13,8 @@ ghost use Rattle.boards.specs.Merging.{told, merge_files};
 
 use llsc::refusals::Refusal;
 
-// The records that are left of a file: `count` of them, from the place `at` on.
-#[derive(Clone, Copy)]
-pub struct Left {
-    pub at: usize,
-    pub count: usize,
-}
-
-// The number of the refusal, 0 for none, and the bytes written. C reads it as it stands (`besklaun`).
+// The number of the refusal, 0 for none, and the bytes written.
+// Kept: C reads it as it stands (`besklaun`), and no enum crosses to C.
 #[repr(C)]
 #[derive(Clone, Copy)]
 pub struct Merged {
@@ -49,8 +42,6 @@ impl From<Result<usize, Refusal>> for Merged {
 pub fn merge(first: &[u8], second: &[u8], out: &mut [u8]) -> Result<usize, Refusal>
     ensures { (told result, out.new) ≡ merge_files first.now second.now out.old }
 {
-    refusals::refusal(first, second, out.len())?;
-    let a = trailers::records_of(first);
-    let b = trailers::records_of(second);
-    Ok(merging::write_merged(first, a, second, b, out))
+    let records = refusals::records_of_both(first, second, out.len())?;
+    Ok(merging::write_merged(records, out))
 }

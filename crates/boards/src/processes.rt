@@ -1,40 +1,29 @@
 // Row 27: a process in both files. The processes of the first are marked in a table.
 ghost use Rattle.std.specs.Prelude.{◌≡◌, false, replicate};
 ghost use Rattle.boards.specs.Merging.{share_process};
-ghost use Rattle.boards.specs.Places.{left_of, There, marks, some_marked};
+ghost use Rattle.boards.specs.Places.{read, marks};
 
-use crate::Left;
-use crate::trailers::RECORD_SIZE;
+use crate::records::{Record, process};
 
 // The processes of these records, marked.
-fn marked(s: &[u8], from: Left) -> [bool; 256]
-    requires { There s.now from }
-    ensures { result ≡ marks (left_of s.now from) (replicate 256 false) }
+fn marked(records: &[Record]) -> [bool; 256]
+    ensures { result ≡ marks (read records.now) (replicate 256 false) }
 {
     let mut table = [false; 256];
-    for i in 0..from.count {
-        table[s[from.at + RECORD_SIZE * i + 8] as usize] = true;
+    for record in records {
+        table[process(record) as usize] = true;
     }
     table
 }
 
-// Whether one of these records has a process that is marked.
-fn some_marked(s: &[u8], from: Left, table: &[bool; 256]) -> bool
-    requires { There s.now from }
-    ensures { result ≡ some_marked table.now (left_of s.now from) }
+pub fn share_process(first: &[Record], second: &[Record]) -> bool
+    ensures { result ≡ share_process (read first.now) (read second.now) }
 {
-    for i in 0..from.count {
-        if table[s[from.at + RECORD_SIZE * i + 8] as usize] {
+    let table = marked(first);
+    for record in second {
+        if table[process(record) as usize] {
             return true;
         }
     }
     false
-}
-
-pub fn share_process(first: &[u8], a: Left, second: &[u8], b: Left) -> bool
-    requires { (There first.now a) × (There second.now b) }
-    ensures { result ≡ share_process (left_of first.now a) (left_of second.now b) }
-{
-    let table = marked(first, a);
-    some_marked(second, b, &table)
 }

@@ -1,54 +1,75 @@
-// Records: which are good, and one copied.
-ghost use Rattle.std.specs.Prelude.{◌≡◌, [], ◌+◌, ◌≤◌, length, drop};
-ghost use Rattle.std.proofs.lemmas.List.Edits.{sets};
-ghost use Rattle.boards.specs.Files.{record_bytes};
-ghost use Rattle.boards.specs.Places.{record_at, good_at, good_from, There};
+// Records, each its twelve bytes: what they say, and which are good.
+ghost use Rattle.std.specs.Prelude.{◌≡◌, ◌&&◌};
+ghost use Rattle.boards.specs.Files.{number4, record_of, good_front, rising};
+ghost use Rattle.boards.specs.Places.{all_good, read};
 
-use crate::Left;
-use crate::numbers::{number_at, put_twelve};
-use crate::trailers::RECORD_SIZE;
+pub const RECORD_SIZE: usize = 12;
+
+pub type Record = [u8; RECORD_SIZE];
 
 // CR 12: "order (1: 0 step, 1 LL, 2 SC, 3 VL)".
+// Kept: the order of a record may be any byte, and row 26 refuses those over 3.
 const ORDER_SC: u8 = 2;
 
 const ORDER_VL: u8 = 3;
 
-// A good record at a place: its value is 0 unless the order is SC.
-#[tactic(auto, unfolding(crate::specs::Places::good_at))]
-fn good_at(s: &[u8], at: usize) -> bool
-    requires { at + 12 ≤ length s.now }
-    ensures { result ≡ good_at s.now at }
+// The two numbers with which a record begins, and a trailer too.
+pub fn two_numbers(bytes: &[u8; 12]) -> (u32, u32)
+    ensures { result ≡ (number4 bytes.now 0, number4 bytes.now 4) }
 {
-    let order = s[at + 9];
+    let [a, b, c, d, e, f, g, h, ..] = *bytes;
+    (
+        u32::from_le_bytes([a, b, c, d]),
+        u32::from_le_bytes([e, f, g, h]),
+    )
+}
+
+pub fn tick(bytes: &Record) -> u32
+    ensures { result ≡ (record_of bytes.now).tick }
+{
+    two_numbers(bytes).0
+}
+
+pub fn value(bytes: &Record) -> u32
+    ensures { result ≡ (record_of bytes.now).value }
+{
+    two_numbers(bytes).1
+}
+
+pub fn process(bytes: &Record) -> u8
+    ensures { result ≡ (record_of bytes.now).process }
+{
+    bytes[8]
+}
+
+pub fn order(bytes: &Record) -> u8
+    ensures { result ≡ (record_of bytes.now).order }
+{
+    bytes[9]
+}
+
+// Its value is 0 unless the order is SC.
+fn is_good(bytes: &Record) -> bool
+    ensures { result ≡ good_front bytes.now }
+{
+    let order = order(bytes);
     order <= ORDER_VL
-        && (order == ORDER_SC || number_at(s, at + 4) == 0)
-        && s[at + 10] == 0
-        && s[at + 11] == 0
+        && (order == ORDER_SC || value(bytes) == 0)
+        && bytes[10] == 0
+        && bytes[11] == 0
 }
 
 // What row 26 asks of a file: good records, whose ticks never fall.
-pub fn good_records(s: &[u8], from: Left) -> bool
-    requires { There s.now from }
-    ensures { result ≡ good_from 0 from.count (drop from.at s.now) }
+pub fn good_records(records: &[Record]) -> bool
+    ensures { result ≡ (all_good records.now && rising 0 (read records.now)) }
 {
-    let mut tick = 0;
-    for i in 0..from.count {
-        let at = from.at + RECORD_SIZE * i;
-        let next = number_at(s, at);
-        if !good_at(s, at) || next < tick {
+    let mut last = 0;
+    for record in records {
+        let next = tick(record);
+        if !is_good(record) || next < last {
             return false;
         }
-        tick = next;
+        last = next;
     }
     true
-}
-
-// The record at a place, written from another place on.
-pub fn copy_record(s: &[u8], at: usize, out: &mut [u8], to: usize)
-    requires { (at + 12 ≤ length s.now) × (to + 12 ≤ length out.old) }
-    ensures { out.new ≡ sets out.old to (record_bytes (record_at s.now at) []) }
-{
-    let tick = number_at(s, at);
-    let value = number_at(s, at + 4);
-    put_twelve(out, to, tick, value, [s[at + 8], s[at + 9], 0, 0]);
 }

@@ -1,37 +1,42 @@
 // The causes for which a merge is refused, and their order: 25, 26, 27, 28.
-ghost use Rattle.std.specs.Prelude.{◌≡◌, ◌≤◌};
-ghost use Rattle.llsc.specs.Refusals.{number_told};
-ghost use Rattle.boards.specs.Files.{largest};
-ghost use Rattle.boards.specs.Merging.{file_size, too_large, merge_number};
+ghost use Rattle.std.specs.Prelude.{◌≡◌, ◌≤◌, MatchResult};
+ghost use Rattle.boards.specs.Merging.{file_size, too_large};
+ghost use Rattle.boards.specs.Merged.{Both, RefusedWith};
 
+use crate::merging::Left;
 use crate::processes::share_process;
-use crate::records::good_records;
-use crate::trailers::{LARGEST, RECORD_SIZE, TRAILER_SIZE, good_trailer, records_of};
+use crate::records::{RECORD_SIZE, good_records};
+use crate::trailers::{LARGEST, TRAILER_SIZE, records_of};
 use llsc::refusals::Refusal;
 
 // Row 28, for so many records.
 fn too_large(count: usize, room: usize) -> bool
-    requires { count ≤ largest }
+    requires { count ≤ 2796202 }
     ensures { result ≡ too_large (file_size count) room }
 {
     let size = RECORD_SIZE * count + TRAILER_SIZE;
     room < size || LARGEST < size
 }
 
-// Refused for the first cause that holds.
-pub fn refusal(first: &[u8], second: &[u8], room: usize) -> Result<(), Refusal>
-    ensures { number_told result ≡ merge_number first.now second.now room }
+// The records of two files that may be merged; refused for the first cause that holds.
+pub fn records_of_both<'a>(
+    first: &'a [u8],
+    second: &'a [u8],
+    room: usize,
+) -> Result<Left<'a>, Refusal>
+    ensures { MatchResult result (Both first.now second.now room) (RefusedWith first.now second.now room) }
 {
-    if !good_trailer(first) || !good_trailer(second) {
-        return Err(Refusal::BadTrailer);
-    }
-    let a = records_of(first);
-    let b = records_of(second);
-    if !good_records(first, a) || !good_records(second, b) {
+    let first = records_of(first).ok_or(Refusal::BadTrailer)?;
+    let second = records_of(second).ok_or(Refusal::BadTrailer)?;
+    if !good_records(first) || !good_records(second) {
         return Err(Refusal::BadRecord);
     }
-    if share_process(first, a, second, b) {
+    if share_process(first, second) {
         return Err(Refusal::ProcessInBoth);
     }
-    Refusal::TooLittleRoom.if_holds(too_large(a.count + b.count, room))
+    let both = Left { first, second };
+    if too_large(both.count(), room) {
+        return Err(Refusal::TooLittleRoom);
+    }
+    Ok(both)
 }

@@ -35,7 +35,7 @@ ends : {len at : ℕ} {es : List Entry} {h h' : RunState} → Over figure2 es (p
 ends o k = record { becomes = record { same = o.same; kept = k }; index = o.index }
 
 -- before the first entry
-pub carrying_none : {len : ℕ} {h : RunState} (es : List Entry) → Sound len h → h.run.stop ≡ 0 → Carrying len es h 0 h
+pub carrying_none : {len : ℕ} {h : RunState} (es : List Entry) → Sound len h → h.stop ≡ 0 → Carrying len es h 0 h
 carrying_none {len} {h} es s z = record { middle = middle_none figure2 es (progress len h); kept = stays s; goes = z }
 
 -- behind the last
@@ -47,10 +47,10 @@ module _ {len at : ℕ} {es : List Entry} {h h₁ h' : RunState} (c : Carrying l
   abbrev kept_both : Kept len h h'
   kept_both = kept_then c.kept b.kept
 
-  pub ends_refused : (h'.run.stop ≡ 0 → ⊥) → Carries len es h h' at
+  pub ends_refused : (h'.stop ≡ 0 → ⊥) → Carries len es h h' at
   ends_refused n = ends (middle_refused figure2 c.middle c.goes l d b.same n) kept_both
 
-  module _ (z : h'.run.stop ≡ 0) {line : ℕ} (r : (record_at (progress len h').memory.records (record { 0 = process_of (get_or es at d) })).line ≡ line) where
+  module _ (z : h'.stop ≡ 0) {line : ℕ} (r : (record_at (progress len h').memory.records (record { 0 = process_of (get_or es at d) })).line ≡ line) where
     by_line : (t : Bool) → stays_at (get_or es at d) line ≡ t → gone_on figure2 (get_or es at d) (progress len h') ≡ t
     by_line t q = goes_by_line (get_or es at d) (progress len h') z r ∙ q
 

@@ -11,7 +11,6 @@ use borrow.Author.Tests.{ltb-true}
 use Rattle.std.specs.Prelude.{Result, Ok, Err}
 use Rattle.llsc.specs.declared.refusals.Refusal.{Refusal}
 use Rattle.llsc.specs.Refusals.{refusal_number, number_told}
-use Rattle.rows.proofs.Refused.{number_some}
 use Rattle.model.specs.declared.SequenceNumber.{SequenceNumber}
 use Rattle.llsc.specs.declared.ProcessNumber.{ProcessNumber}
 use Rattle.model.specs.declared.Bench.{Bench}
@@ -22,7 +21,6 @@ use Rattle.model.specs.Tables.{no_bank, no_help}
 use Rattle.model.specs.Points.{point_of}
 use Rattle.lines.specs.Ranges.{Sized}
 use Rattle.taken.specs.declared.Taken.{Taken}
-use Rattle.tables.specs.declared.records.Records.{Records}
 use Rattle.taken.specs.Ranges.{Ready}
 use Rattle.taken.specs.Taken.{bank_index, help_index, taken_at, put_taken}
 use Rattle.taken.proofs.IndexLaws.{bank_index_small, help_index_small}
@@ -30,12 +28,13 @@ use Rattle.notation.specs.declared.Entry.{Entry}
 use Rattle.notation.specs.declared.Entry.TheVariants.{StartLl, StartVl, StartSc, Step, Finish}
 use Rattle.notation.specs.Grammar.{largest}
 use Rattle.notation.specs.EntryWords.{entry_in, entry_of_kind, kind_in, process_in, number_in}
+use Rattle.entry.specs.declared.state.Held.{Held}
 use Rattle.entry.specs.declared.state.Run.{Run}
 use Rattle.listing.specs.declared.Writer.{Writer}
 use Rattle.entry.specs.declared.turn.Turn.{Turn}
 use Rattle.text_runs.specs.TextRun.{room_needed, process_of, order_of}
 use Rattle.semantics.specs.TextRun.{single}
-use Rattle.entry.specs.RunState.{RunState, state_of, stopped_run, Sound, Becomes, Small}
+use Rattle.entry.specs.RunState.{RunState, state_of, Sound, Becomes, Small}
 use Rattle.entry.specs.Turned.{refusal_of, place_of, Turnable, Turns, stays_at}
 use Rattle.text_runs.specs.KeptEntries.{entries_in}
 use Rattle.carrying.specs.Carried.{Carrying, Carries}
@@ -46,9 +45,6 @@ use Rattle.carrying.proofs.CarryingLaws.{carrying_none, carrying_all, ends_refus
 pub not_refused : (r : Result (Unit {0}) Refusal) {k : ℕ} → number_told r ≡ k → ((x : Refusal) → r ≡ Err x → ⊥) → k ≡ 0
 not_refused (Ok x) e n = sym e
 not_refused (Err x) e n = absurd (n x refl)
-
-pub is_refused : (r : Refusal) {k : ℕ} → k ≡ refusal_number r → k ≡ 0 → ⊥
-is_refused r e z = number_some r (sym e ∙ z)
 
 -- the numbers of a kept entry are small
 either_small : (t : Bool) (a b : Entry) → Small a → Small b → Small (cond t a b)
@@ -84,37 +80,32 @@ entry_at : (count at : ℕ) (entries : List ℕ) → at < count → get_or (entr
 entry_at count at entries t = get_or-map entry_in (take count entries) at 0 ∙ ap entry_in (get_or-take count entries at 0 t)
 
 -- a run that goes on, as the loop has it
-abbrev pub going_run : Bench → Records → ℕ → ℕ → Bool → Run
-going_run b all written done traced = record { bench = b; all = all; written = written; entries = done; stop = 0; traced = traced }
+abbrev pub going_run : Bench → List Process → ℕ → ℕ → Bool → Run
+going_run b all written done traced = record { held = record { bench = b; all = all }; written = written; entries = done; traced = traced }
 
 -- at the head of the loop, after what h was before it
 pub record Head (count : ℕ) (entries : List ℕ) (len n w needed : ℕ) (h : RunState) (at : ℕ) (h₁ : RunState) : Type 0 where
   pub fits : count ≤ length entries
   pub carrying : Carrying len (entries_in count entries) h at h₁
-  pub n_is : n ≡ h₁.run.bench.n
-  pub w_is : w ≡ h₁.run.bench.w
+  pub n_is : n ≡ h₁.run.held.bench.n
+  pub w_is : w ≡ h₁.run.held.bench.w
   pub w_most : w ≤ 64
   pub needed_is : needed ≡ room_needed h₁.run.traced
 
--- a run is the one that goes on
-pub from_run : {len : ℕ} {r : Run} {ws list : List ℕ} {es : List Entry} {h : RunState} {at : ℕ} → r.stop ≡ 0
-    → Carries len es (state_of (going_run r.bench r.all r.written r.entries r.traced) ws list) h at → Carries len es (state_of r ws list) h at
-from_run {len} {r} {ws} {list} {es} {h} {at} z x = subst (λ (k : ℕ). Carries len es (state_of (stopped_run r k) ws list) h at) (sym z) x
-
 -- the bytes after the loop are those that the writer had
-pub in_list : {len : ℕ} {r : Run} {ws l l' : List ℕ} {es : List Entry} {h : RunState} {at : ℕ} → l' ≡ l
-    → Carries len es h (state_of r ws l) at → Carries len es h (state_of r ws l') at
-in_list {len} {r} {ws} {es = es} {h = h} {at = at} e x = subst (λ (k : List ℕ). Carries len es h (state_of r ws k) at) (sym e) x
+pub in_list : {len k : ℕ} {r : Run} {ws l l' : List ℕ} {es : List Entry} {h : RunState} {at : ℕ} → l' ≡ l
+    → Carries len es h (state_of r k ws l) at → Carries len es h (state_of r k ws l') at
+in_list {len} {k} {r} {ws} {es = es} {h = h} {at = at} e x = subst (λ (y : List ℕ). Carries len es h (state_of r k ws y) at) (sym e) x
 
-pub first_head : {len count n w needed : ℕ} {entries : List ℕ} {r : Run} {ws list : List ℕ} → let h = state_of (going_run r.bench r.all r.written r.entries r.traced) ws list in
-    count ≤ length entries → Sound len (state_of r ws list) → r.stop ≡ 0 → n ≡ r.bench.n → w ≡ r.bench.w
+pub first_head : {len count n w needed : ℕ} {entries : List ℕ} {r : Run} {ws list : List ℕ} → let h = state_of (going_run r.held.bench r.held.all r.written r.entries r.traced) 0 ws list in
+    count ≤ length entries → Sound len (state_of r 0 ws list) → n ≡ r.held.bench.n → w ≡ r.held.bench.w
     → needed ≡ room_needed r.traced → Head count entries len n w needed h 0 h
-first_head {len} {count} {entries = entries} {r = r} {ws = ws} {list = list} l s z en ew er = record {
+first_head {count = count} {entries = entries} l s en ew er = record {
   fits = l;
-  carrying = carrying_none (entries_in count entries) (subst (λ (k : ℕ). Sound len (state_of (stopped_run r k) ws list)) z s) refl;
+  carrying = carrying_none (entries_in count entries) s refl;
   n_is = en;
   w_is = ew;
-  w_most = omega (arith, ew, (s.going z).width);
+  w_most = omega (arith, ew, (s.going refl).width);
   needed_is = er;
 }
 
@@ -129,22 +120,22 @@ pub record Looking (count : ℕ) (entries : List ℕ) (len n w needed : ℕ) (h 
   pub entry_is : e ≡ entry_in (get_or entries at 0)
   pub process_is : p ≡ process_of e
   pub number_is : k ≡ record { 0 = place_of p }
-  pub record_is : q ≡ get_or h₁.run.all.list k.0 no_process
+  pub record_is : q ≡ get_or h₁.run.held.all k.0 no_process
   pub order_is : o ≡ order_of e
 
 pub looking : {count : ℕ} {entries : List ℕ} {len n w needed at p place : ℕ} {k : ProcessNumber} {h h₁ : RunState} {e : Entry} {o : Order}
     → Head count entries len n w needed h at h₁ → at < count → e ≡ entry_in (get_or entries at 0) → p ≡ process_of e → k ≡ record { 0 = place_of p } → place ≡ k.0
-    → o ≡ order_of e → Looking count entries len n w needed h at h₁ e p k (get_or h₁.run.all.list place no_process) o
+    → o ≡ order_of e → Looking count entries len n w needed h at h₁ e p k (get_or h₁.run.held.all place no_process) o
 looking {h₁ = h₁} x m a b c d o =
-    record { head = x; more = m; entry_is = a; process_is = b; number_is = c; record_is = ap (λ (i : ℕ). get_or h₁.run.all.list i no_process) d; order_is = o }
+    record { head = x; more = m; entry_is = a; process_is = b; number_is = c; record_is = ap (λ (i : ℕ). get_or h₁.run.held.all i no_process) d; order_is = o }
 
 module _ {count : ℕ} {entries : List ℕ} {len n w needed at p : ℕ} {k : ProcessNumber} {h h₁ : RunState} {e : Entry} {q : Process} {o : Order}
     (x : Looking count entries len n w needed h at h₁ e p k q o) where
   abbrev b : Bench
-  b = h₁.run.bench
+  b = h₁.run.held.bench
 
   abbrev list : List Process
-  list = h₁.run.all.list
+  list = h₁.run.held.all
 
   abbrev c : Carrying len (entries_in count entries) h at h₁
   c = x.head.carrying
@@ -177,7 +168,7 @@ module _ {count : ℕ} {entries : List ℕ} {len n w needed at p : ℕ} {k : Pro
   same_refusal : refusal ≡ looked
   same_refusal = rw (x.order_is, x.record_is, x.number_is, x.process_is, x.head.n_is)
 
-  pub loop_refused : {stop : ℕ} → stop ≡ refusal → (stop ≡ 0 → ⊥) → Carries len es h (state_of (stopped_run h₁.run stop) h₁.words h₁.listing) at
+  pub loop_refused : {stop : ℕ} → stop ≡ refusal → (stop ≡ 0 → ⊥) → Carries len es h (state_of h₁.run stop h₁.words h₁.listing) at
   loop_refused {stop} f y = ends_refused c inside (entry_in 0) (this (entry_refused e small s c.goes x.head.needed_is stop (f ∙ same_refusal) y)) y
 
   module _ (f : refusal ≡ 0) where
@@ -231,13 +222,11 @@ module _ {count : ℕ} {entries : List ℕ} {len n w needed at p : ℕ} {k : Pro
           -- the run with one entry more, its record stored at a place
           abbrev after_at : ℕ → RunState
           after_at m = state_of (record {
-            bench = put_taken b i j r.taken;
-            all = record { list = set list m r.process };
+            held = record { bench = put_taken b i j r.taken; all = set list m r.process };
             written = to'.written;
             entries = h₁.run.entries + 1;
-            stop = 0;
             traced = h₁.run.traced;
-          }) ws to'.list.now
+          }) 0 ws to'.list.now
 
           stored : (P : RunState → Type 0) → P (after_at (process_of e)) → P (after_at k.0)
           stored P x = subst (λ (m : ℕ). P (after_at m)) (sym own_place) x

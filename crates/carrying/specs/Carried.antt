@@ -17,4 +17,4 @@ pub record Carries (len : ℕ) (es : List Entry) (h h' : RunState) (at : ℕ) : 
 pub record Carrying (len : ℕ) (es : List Entry) (h : RunState) (at : ℕ) (h' : RunState) : Type 0 where
   pub middle : Middle figure2 es (progress len h) at (progress len h')
   pub kept : Kept len h h'
-  pub goes : h'.run.stop ≡ 0
+  pub goes : h'.stop ≡ 0

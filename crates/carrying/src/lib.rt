@@ -2,23 +2,18 @@
 
 #![tactic(auto)]
 
-ghost use Rattle.std.specs.Prelude.{◌≤◌, ◌≡◌, length};
+ghost use Rattle.std.specs.Prelude.{◌≤◌, length};
+ghost use Rattle.llsc.specs.Refusals.{number_told};
 ghost use Rattle.entry.specs.RunState.{state_of, Sound};
 ghost use Rattle.text_runs.specs.KeptEntries.{entries_in};
 ghost use Rattle.carrying.specs.Carried.{Carries};
 
-use entry::state::Run;
+use entry::state::{Held, Run};
 use entry::{entries, refusals, turn};
 use listing::Writer;
 use notation::entry_words;
+use text_runs::runs::Carried;
 use text_runs::{entries as text_entries, limits};
-
-// The run after its list, and its place in it: that of the entry that stopped the run, or the end.
-#[derive(Clone, Copy)]
-pub struct Carried {
-    pub run: Run,
-    pub at: usize,
-}
 
 // Bench and records are worked on where they stand in this function: passed to another and back, they would be copied
 // for each entry. An entry that is refused stops the run; `!` stays at its place in the list until its call answers.
@@ -29,34 +24,35 @@ pub fn carry_out(
     count: usize,
     words: &mut [u64],
     list: &mut [u8],
-) -> Carried
-    requires { (count ≤ length entries.now) × (Sound len (state_of run words.old list.old)) × (run.stop ≡ 0) }
-    ensures { Carries len (entries_in count entries.now) (state_of run words.old list.old) (state_of result.run words.new list.new) result.at }
+) -> Carried<Run>
+    requires { (count ≤ length entries.now) × (Sound len (state_of run 0 words.old list.old)) }
+    ensures { Carries len (entries_in count entries.now) (state_of run 0 words.old list.old)
+        (state_of result.run (number_told result.outcome) words.new list.new) result.at }
 {
-    let n = run.bench.n;
-    let w = run.bench.w;
+    let n = run.held.bench.n;
+    let w = run.held.bench.w;
     let traced = run.traced;
     let needed = limits::room_needed(traced);
-    let mut bench = run.bench;
-    let mut all = run.all;
+    let mut bench = run.held.bench;
+    let mut all = run.held.all;
     // The writer goes on where the run's listing ends.
     let mut to = Writer {
         list,
         written: run.written,
     };
     let mut done = run.entries;
-    let mut stop = 0;
+    let mut outcome = Ok(());
     let mut at = 0;
     // Kept: a `!` stays at its place, so that the place does not rise with each turn of the loop.
     while at < count {
         let e = entry_words::entry_in(entries[at]);
         let p = text_entries::process_of(e);
         let k = entries::process_number(p);
-        let process = all.list[k.record_place()];
+        let process = all[k.record_place()];
         let order = text_entries::order_of(e);
         let room = to.list.len() - to.written;
         if let Err(refusal) = refusals::refusal(order, done, room, needed, n, p, process) {
-            stop = refusal.number();
+            outcome = Err(refusal);
             break;
         }
         let i = taken::bank_index(n, process);
@@ -74,19 +70,18 @@ pub fn carry_out(
         bench.x = x;
         bench.bank[tables::bank_place(i)] = bank;
         bench.help[tables::help_place(j)] = help;
-        all.list[k.record_place()] = next;
+        all[k.record_place()] = next;
         if entries::stays(e, next.line) {
             continue;
         }
         at += 1;
     }
+    let held = Held { bench, all };
     let run = Run {
-        bench,
-        all,
+        held,
         written: to.written,
         entries: done,
-        stop,
         traced,
     };
-    Carried { run, at }
+    Carried { run, at, outcome }
 }

@@ -16,11 +16,10 @@ use Rattle.model.specs.Machine.{obey}
 use Rattle.llsc.specs.Rows.{Row, first, every}
 use Rattle.model.specs.Refusals.{rows_of}
 use Rattle.model.specs.Command.{command}
-use Rattle.tables.specs.declared.records.Records.{Records}
 use Rattle.taken.specs.Ranges.{Obeyable}
 use Rattle.rows.specs.CommandRows.{ranges_ok, decision_number}
 use Rattle.machine.specs.Decision.{Outcome, refused_outcome, obeyed_at, decided, stored_back}
-use Rattle.tables.specs.Gathered.{gathered}
+use Rattle.lent.specs.Gathered.{gathered}
 use Rattle.laws.proofs.AndLaws.{left, right}
 use Rattle.rows.proofs.RowLaws.{Cleared, none_holds}
 use Rattle.machine.proofs.ObeyLaws.{obeyable, refused_law, obeyed_law}
@@ -73,8 +72,8 @@ module _ (b : Bench) (list : List Process) (len p : ℕ) (o : Order) (v ws : Lis
   -- stored back, it is the command
   pub decided_command : len ≤ 16 → Filled len list → stored_back (take len list) (decided b list len p o v ws) ≡ command (record { bench = b; records = take len list; words = ws }) p o v
   decided_command h f =
-      let g : list ≡ (gathered (take len list) no_process 16).list = ap (λ (x : Records). x.list) (filled_gathered len (record { list = list }) f) in
+      let g : list ≡ gathered (take len list) no_process 16 = filled_gathered len list f in
       let l : length (take len list) ≡ len = lent_length h f in
       ap (λ (x : List Process). stored_back (take len list) (decided b x len p o v ws)) g ∙
-      ap (λ (x : ℕ). stored_back (take len list) (decided b (gathered (take len list) no_process 16).list x p o v ws)) (sym l) ∙
+      ap (λ (x : ℕ). stored_back (take len list) (decided b (gathered (take len list) no_process 16) x p o v ws)) (sym l) ∙
       decision_law b (take len list) ws p o v

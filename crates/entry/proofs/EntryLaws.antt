@@ -38,7 +38,7 @@ use Rattle.listing.proofs.WritingLaws.{wrote, same}
 use Rattle.entry.specs.declared.turn.Turn.{Turn}
 use Rattle.text_runs.specs.TextRun.{most_entries, room_needed, process_of, order_of, value_of}
 use Rattle.semantics.specs.TextRun.{trace_line, single}
-use Rattle.entry.specs.RunState.{RunState, state_of, progress, stopped_run, Sound, Ready as Going, Becomes, Small, answer_line}
+use Rattle.entry.specs.RunState.{RunState, state_of, progress, Sound, Ready as Going, Becomes, Small, answer_line}
 use Rattle.entry.specs.Turned.{refusal_of, place_of, turned, turn_lines, Turnable, Turns}
 use Rattle.entry.proofs.ObeyLaws.{order_obeyed, plain_none}
 use Rattle.entry.proofs.OrderLaws.{in_order, enough, most_processes}
@@ -57,12 +57,12 @@ no_row_8 (Finish p) w = refl
 abbrev rows_of : Order → ℕ → ℕ → Process → ℕ
 rows_of o n p q = first (row4 n p ∷ row5 o q ∷ row6 o q ∷ row7 o q ∷ [])
 
-module _ {len : ℕ} {h : RunState} (e : Entry) (small : Small e) (s : Sound len h) (z : h.run.stop ≡ 0) where
+module _ {len : ℕ} {h : RunState} (e : Entry) (small : Small e) (s : Sound len h) (z : h.stop ≡ 0) where
   abbrev b : Bench
-  b = h.run.bench
+  b = h.run.held.bench
 
   abbrev list : List Process
-  list = h.run.all.list
+  list = h.run.held.all
 
   abbrev p : ℕ
   p = process_of e
@@ -101,7 +101,7 @@ module _ {len : ℕ} {h : RunState} (e : Entry) (small : Small e) (s : Sound len
   refusal needed = refusal_of o h.run.entries room needed b.n p seen
 
   abbrev stopped_by : ℕ → RunState
-  stopped_by k = state_of (stopped_run h.run k) h.words h.listing
+  stopped_by k = state_of h.run k h.words h.listing
 
   module _ {needed : ℕ} (en : needed ≡ room_needed h.run.traced) where
     -- refused: 12, 14, or a row
@@ -200,13 +200,11 @@ module _ {len : ℕ} {h : RunState} (e : Entry) (small : Small e) (s : Sound len
           module _ {r : Turn} {ws : List ℕ} {to' : Writer} (turn : Turns h.run.traced (h.run.entries + 1) e b.n b.w t q h.words to r ws to') where
             abbrev after : RunState
             after = state_of (record {
-              bench = put_taken b i j r.taken;
-              all = record { list = set list p r.process };
+              held = record { bench = put_taken b i j r.taken; all = set list p r.process };
               written = to'.written;
               entries = h.run.entries + 1;
-              stop = 0;
               traced = h.run.traced;
-            }) ws to'.list.now
+            }) 0 ws to'.list.now
 
             pub entry_made : Becomes len (single e) h after
             entry_made =

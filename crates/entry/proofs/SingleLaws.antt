@@ -21,7 +21,7 @@ use Rattle.semantics.specs.Reached.{Reached}
 use Rattle.text_runs.specs.TextRun.{most_entries, room_needed, process_of, order_of, value_of}
 use Rattle.text_runs.specs.TextRun as TR
 use Rattle.semantics.specs.TextRun.{Progress, line_of, trace_line, lines_of, counted, replied, commanded, single}
-use Rattle.entry.specs.RunState.{RunState, state_of, progress, stopped_run, Sound, Ready, Kept, Becomes, Small, answer_line}
+use Rattle.entry.specs.RunState.{RunState, state_of, progress, Sound, Ready, Kept, Becomes, Small, answer_line}
 use Rattle.entry.proofs.WordLaws.{Below, Every, every_replicate, every_none}
 use Rattle.entry.proofs.FilledLaws.{filled_set}
 use Rattle.semantics.proofs.ReachedLaws.{reached_command}
@@ -44,7 +44,7 @@ line_same m p (ScAnswered t k) = refl
 line_same m p (VlAnswered t k) = refl
 
 -- a run that stops stays sound
-pub stops : {len : ℕ} {h : RunState} (k : ℕ) → (k ≡ 0 → ⊥) → k ≤ 15 → Sound len h → Kept len h (state_of (stopped_run h.run k) h.words h.listing)
+pub stops : {len : ℕ} {h : RunState} (k : ℕ) → (k ≡ 0 → ⊥) → k ≤ 15 → Sound len h → Kept len h (state_of h.run k h.words h.listing)
 stops k n l s = record {
   sound = record { few = s.few; filled = s.filled; entries = s.entries; stop = l; room = s.room; going = λ z. absurd (n z) };
   words = refl;
@@ -55,34 +55,34 @@ pub stays : {len : ℕ} {h : RunState} → Sound len h → Kept len h h
 stays s = record { sound = s; words = refl; listing = refl }
 
 module _ {len : ℕ} {h : RunState} (e : Entry) (out : Outcome) (ws : List ℕ) (small : Small e) (s : Sound len h) (r : Ready h)
-    (d : ◌≡◌ {A = Outcome × List ℕ} (out, ws) (decided h.run.bench h.run.all.list len (process_of e) (order_of e) (value_of h.run.bench.w e) h.words)) where
+    (d : ◌≡◌ {A = Outcome × List ℕ} (out, ws) (decided h.run.held.bench h.run.held.all len (process_of e) (order_of e) (value_of h.run.held.bench.w e) h.words)) where
   abbrev m : Memory
   m = (progress len h).memory
 
   abbrev v : List ℕ
-  v = value_of h.run.bench.w e
+  v = value_of h.run.held.bench.w e
 
-  cases : Decides h.run.bench h.run.all.list len (process_of e) (order_of e) v h.words (out, ws)
-  cases = subst (Decides h.run.bench h.run.all.list len (process_of e) (order_of e) v h.words) (sym d)
-      (decides h.run.bench h.run.all.list len (process_of e) (order_of e) v h.words s.filled.sixteen (value_every e h.run.bench.w small))
+  cases : Decides h.run.held.bench h.run.held.all len (process_of e) (order_of e) v h.words (out, ws)
+  cases = subst (Decides h.run.held.bench h.run.held.all len (process_of e) (order_of e) v h.words) (sym d)
+      (decides h.run.held.bench h.run.held.all len (process_of e) (order_of e) v h.words s.filled.sixteen (value_every e h.run.held.bench.w small))
 
-  stored : stored_back (take len h.run.all.list) (out, ws) ≡ command m (process_of e) (order_of e) v
-  stored = ap (stored_back (take len h.run.all.list)) d ∙ decided_command h.run.bench h.run.all.list len (process_of e) (order_of e) v h.words s.few s.filled
+  stored : stored_back (take len h.run.held.all) (out, ws) ≡ command m (process_of e) (order_of e) v
+  stored = ap (stored_back (take len h.run.held.all)) d ∙ decided_command h.run.held.bench h.run.held.all len (process_of e) (order_of e) v h.words s.few s.filled
 
   -- refused: the run stops, and nothing changes
-  pub refused_becomes : (number_of out.reply ≡ 0 → ⊥) → Becomes len (commanded e) h (state_of (stopped_run h.run (number_of out.reply)) ws h.listing)
+  pub refused_becomes : (number_of out.reply ≡ 0 → ⊥) → Becomes len (commanded e) h (state_of h.run (number_of out.reply) ws h.listing)
   refused_becomes n =
-      let u = unchanged h.run.bench h.run.all.list len (process_of e) (order_of e) v h.words s.filled.sixteen cases n in
+      let u = unchanged h.run.held.bench h.run.held.all len (process_of e) (order_of e) v h.words s.filled.sixteen cases n in
       rw u.words (record {
         same = sym (ap (replied (progress len h) e) (sym stored) ∙ simp (ne_eqb (number_of out.reply) 0 n));
         kept = stops (number_of out.reply) n u.few s;
       })
 
   module _ (z : number_of out.reply ≡ 0) where
-    did : Done h.run.bench h.run.all.list len (process_of e) (order_of e) v h.words (out, ws)
-    did = done h.run.bench h.run.all.list len (process_of e) (order_of e) v h.words s.filled.sixteen cases z
+    did : Done h.run.held.bench h.run.held.all len (process_of e) (order_of e) v h.words (out, ws)
+    did = done h.run.held.bench h.run.held.all len (process_of e) (order_of e) v h.words s.filled.sixteen cases z
 
-    below : Below (5 * h.run.bench.n * h.run.bench.w) h.words
+    below : Below (5 * h.run.held.bench.n * h.run.held.bench.w) h.words
     below = record { at = (s.going r.goes).small }
 
     -- the trace's line, and then the line of the answer
@@ -106,25 +106,23 @@ module _ {len : ℕ} {h : RunState} (e : Entry) (out : Outcome) (ws : List ℕ) 
       abbrev after : RunState
       after =
           state_of (record {
-            bench = out.bench;
-            all = record { list = set h.run.all.list out.at out.process };
+            held = record { bench = out.bench; all = set h.run.held.all out.at out.process };
             written = next;
             entries = h.run.entries + 1;
-            stop = 0;
             traced = h.run.traced;
-          }) ws list
+          }) 0 ws list
 
       lent_place : out.at < len
       lent_place = let x = did in omega (arith, x.place, x.process, x.records)
 
       abbrev left : Memory
-      left = record { bench = out.bench; records = set (take len h.run.all.list) out.at out.process; words = ws }
+      left = record { bench = out.bench; records = set (take len h.run.held.all) out.at out.process; words = ws }
 
       after_same : progress len after ≡ counted (progress len h) left (lines_of (progress len h) e (out.reply, left))
       after_same =
-          let t : take len (set h.run.all.list out.at out.process)
-          ≡ set (take len h.run.all.list) out.at out.process
-          = take-set-lt len h.run.all.list out.at out.process lent_place in
+          let t : take len (set h.run.held.all out.at out.process)
+          ≡ set (take len h.run.held.all) out.at out.process
+          = take-set-lt len h.run.held.all out.at out.process lent_place in
           let l : line ≡ line_of left (process_of e) out.reply = line_same left (process_of e) out.reply in
           let p = w.place in
           let q = w.list in
@@ -155,15 +153,15 @@ module _ {len : ℕ} {h : RunState} (e : Entry) (out : Outcome) (ws : List ℕ) 
 
 -- "before each entry 12, then 14"
 module _ {len : ℕ} {h : RunState} (e : Entry) (s : Sound len h) where
-  pub single_12 : h.run.stop ≡ 0 → most_entries ≤ h.run.entries → Becomes len (single e) h (state_of (stopped_run h.run 12) h.words h.listing)
+  pub single_12 : h.stop ≡ 0 → most_entries ≤ h.run.entries → Becomes len (single e) h (state_of h.run 12 h.words h.listing)
   unfolding TR.single
-  single_12 z m = record { same = simp (eq-eqb h.run.stop 0 z, le-leb most_entries h.run.entries m); kept = stops 12 (λ y. omega arith) (omega arith) s }
+  single_12 z m = record { same = simp (eq-eqb h.stop 0 z, le-leb most_entries h.run.entries m); kept = stops 12 (λ y. omega arith) (omega arith) s }
 
-  module _ (z : h.run.stop ≡ 0) (m : h.run.entries < most_entries) where
-    pub single_14 : length h.listing - h.run.written < room_needed h.run.traced → Becomes len (single e) h (state_of (stopped_run h.run 14) h.words h.listing)
+  module _ (z : h.stop ≡ 0) (m : h.run.entries < most_entries) where
+    pub single_14 : length h.listing - h.run.written < room_needed h.run.traced → Becomes len (single e) h (state_of h.run 14 h.words h.listing)
     unfolding TR.single
     single_14 l = record {
-      same = simp (eq-eqb h.run.stop 0 z, lt-leb most_entries h.run.entries m, lt-ltb (length h.listing - h.run.written) (room_needed h.run.traced) l);
+      same = simp (eq-eqb h.stop 0 z, lt-leb most_entries h.run.entries m, lt-ltb (length h.listing - h.run.written) (room_needed h.run.traced) l);
       kept = stops 14 (λ y. omega arith) (omega arith) s;
     }
 
@@ -173,6 +171,6 @@ module _ {len : ℕ} {h : RunState} (e : Entry) (s : Sound len h) where
     pub single_commanded : {h' : RunState} → room_needed h.run.traced ≤ length h.listing - h.run.written → Becomes len (commanded e) h h' → Becomes len (single e) h h'
     unfolding TR.single
     single_commanded l b = record {
-      same = b.same ∙ simp (eq-eqb h.run.stop 0 z, lt-leb most_entries h.run.entries m, le-ltb (length h.listing - h.run.written) (room_needed h.run.traced) l);
+      same = b.same ∙ simp (eq-eqb h.stop 0 z, lt-leb most_entries h.run.entries m, le-ltb (length h.listing - h.run.written) (room_needed h.run.traced) l);
       kept = b.kept;
     }

@@ -51,24 +51,24 @@ entry_fits k a (Finish p) r h s x = step_length k p a (answers r) h s x
 
 -- all sixteen records that a run holds
 abbrev pub state_memory : RunState → Memory
-state_memory h = record { bench = h.run.bench; records = h.run.all.list; words = h.words }
+state_memory h = record { bench = h.run.held.bench; records = h.run.held.all; words = h.words }
 
-module _ {len : ℕ} {h : RunState} (s : Sound len h) (z : h.run.stop ≡ 0) where
+module _ {len : ℕ} {h : RunState} (s : Sound len h) (z : h.stop ≡ 0) where
   abbrev m : Memory
   m = (progress len h).memory
 
   abbrev b : Bench
-  b = h.run.bench
+  b = h.run.held.bench
 
   -- of a process of N, a start or a step is refused for nothing, so an access of it keeps to the lent memory
   module _ (p : ℕ) where
     abbrev q : Process
-    q = record_at h.run.all.list (record { 0 = p })
+    q = record_at h.run.held.all (record { 0 = p })
 
-    by_order : (o : Order) → late_number b.n b.w h.run.all.list p o 0 ≡ 0 → Ready b.n b.w q (record { 0 = p }) h.words
+    by_order : (o : Order) → late_number b.n b.w h.run.held.all p o 0 ≡ 0 → Ready b.n b.w q (record { 0 = p }) h.words
     by_order o e =
-        (obeyable b h.run.all.list len p o [] h.words s.filled.sixteen
-        (sym (late_decides b h.run.all.list len p o 0 (length h.words) (in_order s z)) ∙ e)).ready
+        (obeyable b h.run.held.all len p o [] h.words s.filled.sixteen
+        (sym (late_decides b h.run.held.all len p o 0 (length h.words) (in_order s z)) ∙ e)).ready
 
     by_idle : p < b.n → (t : Bool) → is_idle q ≡ t → Ready b.n b.w q (record { 0 = p }) h.words
     unfolding late_number
@@ -79,8 +79,8 @@ module _ {len : ℕ} {h : RunState} (s : Sound len h) (z : h.run.stop ≡ 0) whe
     own_ready n = by_idle n (is_idle q) refl
 
   module _ {p : ℕ} (n : p < b.n) where
-    pub same_record : record_at h.run.all.list (record { 0 = p }) ≡ record_at m.records (record { 0 = p })
-    same_record = sym (get_or-take len h.run.all.list p no_process (omega (arith, enough s z)))
+    pub same_record : record_at h.run.held.all (record { 0 = p }) ≡ record_at m.records (record { 0 = p })
+    same_record = sym (get_or-take len h.run.held.all p no_process (omega (arith, enough s z)))
 
     same_access : access_now (state_memory h) p ≡ access_now m p
     same_access = ap (λ (x : Process). access_of (point_of x.line) (record { 0 = p }) b x h.words) same_record
@@ -93,7 +93,7 @@ module _ {len : ℕ} {h : RunState} (s : Sound len h) (z : h.run.stop ≡ 0) whe
   -- the line that the code shows of an entry, from the places taken out for it
   module _ (e : Entry) (r : Reply) (n : process_of e < b.n) where
     abbrev own : Process
-    own = record_at h.run.all.list (number_of e)
+    own = record_at h.run.held.all (number_of e)
 
     pub shown_same : {i : SequenceNumber} {j : ProcessNumber} {t : Taken} (k : ℕ)
         → i ≡ bank_index (point_of own.line) b.n own

@@ -1,6 +1,6 @@
 -- The run as the code holds it, what holds of it at every moment, and what its inner functions promise of it.
 -- Inner: `progress` gives `TextRun`'s run of it, and `RunLaws` (crate `run`) puts the promises together to that run.
-use Rattle.std.specs.Prelude.{◌≡◌, ℕ, ◌+◌, ◌≤◌, ◌<◌, List, [], Option, Some, None, length, get_or, take}
+use Rattle.std.specs.Prelude.{◌≡◌, ℕ, ◌+◌, ◌≤◌, ◌<◌, List, [], Bool, Option, Some, None, length, get_or, take, replicate}
 use Rattle.model.specs.declared.Process.{Process}
 use Rattle.model.specs.declared.Reply.{Reply}
 use Rattle.model.specs.declared.Reply.TheVariants.{Refused, Accepted, LlAnswered, ScAnswered, VlAnswered}
@@ -8,6 +8,7 @@ use Rattle.model.specs.Sizes.{lent_words}
 use Rattle.model.specs.Words.{return_area}
 use Rattle.model.specs.Records.{no_process}
 use Rattle.model.specs.Machine.{Memory}
+use Rattle.model.specs.SetUp.{empty_bench}
 use Rattle.notation.specs.declared.Entry.{Entry}
 use Rattle.notation.specs.Grammar.{largest}
 use Rattle.notation.specs.Stretches as S
@@ -15,33 +16,41 @@ use Rattle.listing.specs.Lines.{letter_s, letter_v, ll_line, truth_line}
 use Rattle.listing.specs.declared.Writer.{Writer}
 use Rattle.listing.specs.Writing.{Fits}
 use Rattle.access.specs.declared.Access.{Access}
+use Rattle.entry.specs.declared.state.Held.{Held}
 use Rattle.entry.specs.declared.state.Run.{Run}
 use Rattle.text_runs.specs.TextRun.{most_entries, room_needed}
+use Rattle.text_runs.specs.Runs.{last_room}
 use Rattle.semantics.specs.TextRun.{Progress, entry_line}
 use Rattle.semantics.specs.Reached.{Reached}
 
--- the run, the lent words and the listing
+-- an empty bench, and sixteen records that stand for none
+abbrev pub empty_held : Held
+empty_held = record { bench = empty_bench; all = replicate 16 no_process }
+
+-- before the first entry nothing is written and no entry done
+abbrev pub fresh_run : Held → Bool → Run
+fresh_run held t = record { held = held; written = 0; entries = 0; traced = t }
+
+-- the run, the number of the refusal that stopped it, 0 while it goes on, the lent words and the listing
 pub record RunState : Type 0 where
   pub run : Run
+  pub stop : ℕ
   pub words : List ℕ
   pub listing : List ℕ
 
-abbrev pub state_of : Run → List ℕ → List ℕ → RunState
-state_of r words listing = record { run = r; words = words; listing = listing }
+abbrev pub state_of : Run → ℕ → List ℕ → List ℕ → RunState
+state_of r k words listing = record { run = r; stop = k; words = words; listing = listing }
 
 -- what that is as a run in progress, where `len` records are lent
 abbrev pub progress : ℕ → RunState → Progress
 progress len h = record {
-  memory = record { bench = h.run.bench; records = take len h.run.all.list; words = h.words };
+  memory = record { bench = h.run.held.bench; records = take len h.run.held.all; words = h.words };
   listing = h.listing;
   written = h.run.written;
   entries = h.run.entries;
-  stop = h.run.stop;
+  stop = h.stop;
   traced = h.run.traced;
 }
-
-abbrev pub stopped_run : Run → ℕ → Run
-stopped_run r k = record { bench = r.bench; all = r.all; written = r.written; entries = r.entries; stop = k; traced = r.traced }
 
 -- sixteen records, with the filler from `len` on
 pub record Filled (len : ℕ) (list : List Process) : Type 0 where
@@ -54,22 +63,18 @@ pub record Fit (m : Memory) : Type 0 where
   pub width : m.bench.w ≤ 64
   pub small : (i : ℕ) → i < lent_words m.bench.n m.bench.w → get_or m.words i 0 ≤ largest
 
--- the longest last line has 17 bytes
-abbrev pub last_room : ℕ
-last_room = 17
-
 -- what holds of a run at every moment
 pub record Sound (len : ℕ) (h : RunState) : Type 0 where
   pub few : len ≤ 16
-  pub filled : Filled len h.run.all.list
+  pub filled : Filled len h.run.held.all
   pub entries : h.run.entries ≤ most_entries
-  pub stop : h.run.stop ≤ 15
+  pub stop : h.stop ≤ 15
   pub room : h.run.written + last_room ≤ length h.listing
-  pub going : h.run.stop ≡ 0 → Fit (progress len h).memory
+  pub going : h.stop ≡ 0 → Fit (progress len h).memory
 
 -- it goes on, and neither 12 nor 14 holds
 pub record Ready (h : RunState) : Type 0 where
-  pub goes : h.run.stop ≡ 0
+  pub goes : h.stop ≡ 0
   pub entries : h.run.entries < most_entries
   pub room : h.run.written + room_needed h.run.traced ≤ length h.listing
 

@@ -10,12 +10,10 @@ use lib.ListN.{length, get_or, set, drop, replicate, drop_of_length-le}
 use lib.Seq.{sets, sets-eq, drop-cons}
 use borrow.Author.Tests.{eq-eqb, ne_eqb}
 use Rattle.std.specs.Prelude.{Option, Some, None}
-use Rattle.enumeration.specs.declared.turns.Chosen.{Chosen}
-use Rattle.enumeration.specs.declared.turns.Taken.{Taken}
 use Rattle.ways.specs.Ways.{ways}
 use Rattle.dictionary.specs.Schedules.{is_schedule, schedule_for, number_for}
 use Rattle.enumeration.specs.Replies.{padded}
-use Rattle.enumeration.specs.Turns.{chosen, taken, placed}
+use Rattle.enumeration.specs.Turns.{Choice, Taking, chosen, taken, placed}
 use Rattle.enumeration.proofs.ScheduleFacts.{turns_length, schedule_built}
 use Rattle.enumeration.proofs.TurnLaws.{ways_edge, Begins, begins, Fits, Takes, takes}
 
@@ -71,7 +69,7 @@ fill_begins a b number ha hb h =
     }
 
 module _ (a b number : ℕ) (turns : List ℕ) (i x y k : ℕ) (v : Filling a b number turns i x y k) where
-  pub fill_goes_on : 0 < x + y → (r : Chosen) → r ≡ chosen x y k
+  pub fill_goes_on : 0 < x + y → (r : Choice) → r ≡ chosen x y k
       → Filling a b number (set turns i r.turn) (i + 1) r.a r.b r.number
   fill_goes_on some r e =
       let z = begins x y k some v.below in
@@ -132,7 +130,7 @@ module _ (a b : ℕ) (turns : List ℕ) (i x y k : ℕ) (v : Counting a b turns 
     next : suc i ≡ i + 1
     next = omega arith
 
-    module _ (r : Taken) (e : Some r ≡ taken x y (get_or turns i 0)) where
+    module _ (r : Taking) (e : Some r ≡ taken x y (get_or turns i 0)) where
       one : Fits x y (get_or turns i 0) r
       one = subst (Takes x y (get_or turns i 0)) (sym e) (takes x y (get_or turns i 0))
 

@@ -11,11 +11,9 @@ use borrow.Author.Tests.{eq-eqb, ne_eqb, ltb-true, ltb-false, lt-ltb, le-ltb, lt
 use Rattle.std.specs.Prelude.{Option, Some, None}
 use Rattle.llsc.specs.Rows.{every}
 use Rattle.laws.proofs.Updates.{by_test}
-use Rattle.enumeration.specs.declared.turns.Chosen.{Chosen}
-use Rattle.enumeration.specs.declared.turns.Taken.{Taken}
 use Rattle.ways.specs.Ways.{ways}
 use Rattle.dictionary.specs.Schedules.{turns_of, is_schedule, schedule_for, number_for}
-use Rattle.enumeration.specs.Turns.{zero_first, chosen, taken}
+use Rattle.enumeration.specs.Turns.{Choice, Taking, zero_first, chosen, taken}
 
 -- at an edge there is one way, and its number is 0
 ways_0 : (b : ℕ) → ways 0 b ≡ 1
@@ -32,7 +30,7 @@ unfolding ways
 ways_sum a b = refl
 
 -- The turn chosen for number k, and what is left.
-pub record Begins (a b k : ℕ) (r : Chosen) : Type 0 where
+pub record Begins (a b k : ℕ) (r : Choice) : Type 0 where
   pub begins : schedule_for a b k ≡ r.turn ∷ schedule_for r.a r.b r.number
   pub below : r.number < ways r.a r.b
   pub less_a : r.a ≤ a
@@ -117,14 +115,14 @@ one_there (suc a) zero k zeros z l p h = absurd (omega (arith, zero_first_lem a 
 one_there a (suc b) k zeros z l p h = omega arith
 
 -- The turn t taken from a list, or one with which no schedule begins.
-pub record Fits (a b t : ℕ) (r : Taken) : Type 0 where
+pub record Fits (a b t : ℕ) (r : Taking) : Type 0 where
   pub fits : (ts : List ℕ) → is_schedule a b (t ∷ ts) ≡ is_schedule r.a r.b ts
   pub number : (ts : List ℕ) → number_for a b (t ∷ ts) ≡ r.skipped + number_for r.a r.b ts
   pub below : r.skipped + ways r.a r.b ≤ ways a b
   pub less_a : r.a ≤ a
   pub less_b : r.b ≤ b
 
-abbrev pub Takes : ℕ → ℕ → ℕ → Option Taken → Type 0
+abbrev pub Takes : ℕ → ℕ → ℕ → Option Taking → Type 0
 Takes a b t (Some r) = Fits a b t r
 Takes a b t None = (ts : List ℕ) → is_schedule a b (t ∷ ts) ≡ false
 

@@ -4,14 +4,14 @@
 #![tactic(auto)]
 
 mod numbering;
+mod totals;
 mod turns;
 
 ghost use Rattle.std.specs.Prelude.{◌≡◌};
 ghost use Rattle.enumeration.specs.Replies.{found_for, numbered_for, following_for};
 
 use llsc::refusals::Refusal;
-
-const MOST_TURNS: usize = 32;
+use totals::Totals;
 
 // The turns of a schedule, each the number of its process; 0 behind them.
 // Kept: 64 places with a count beside them, for the library under C has no heap.
@@ -25,32 +25,29 @@ pub struct Schedule {
 pub fn schedule_for(a: usize, b: usize, number: u64) -> Result<Schedule, Refusal>
     ensures { result ≡ found_for a b number }
 {
-    if a > MOST_TURNS || b > MOST_TURNS {
-        return Err(Refusal::TooManyTurns);
-    }
-    if number >= ways::entry(a, b) {
+    let totals = Totals::new(a, b)?;
+    if number >= totals.schedules() {
         return Err(Refusal::NoSuchNumber);
     }
-    Ok(numbering::schedule_at(a, b, number))
+    Ok(numbering::schedule_at(totals, number))
 }
 
 // The number for a schedule.
 pub fn number_for(a: usize, b: usize, turns: &[u8]) -> Result<u64, Refusal>
     ensures { result ≡ numbered_for a b turns.now }
 {
-    if a > MOST_TURNS || b > MOST_TURNS {
-        return Err(Refusal::TooManyTurns);
-    }
-    numbering::number_of(a, b, turns).ok_or(Refusal::NotASchedule)
+    let totals = Totals::new(a, b)?;
+    numbering::number_of(totals, turns).ok_or(Refusal::NotASchedule)
 }
 
 // The schedule after a given one; none where it was the last.
 pub fn schedule_after(a: usize, b: usize, turns: &[u8]) -> Result<Option<Schedule>, Refusal>
     ensures { result ≡ following_for a b turns.now }
 {
+    let totals = Totals::new(a, b)?;
     let next = number_for(a, b, turns)? + 1;
-    if next >= ways::entry(a, b) {
+    if next >= totals.schedules() {
         return Ok(None);
     }
-    Ok(Some(numbering::schedule_at(a, b, next)))
+    Ok(Some(numbering::schedule_at(totals, next)))
 }

@@ -1,49 +1,43 @@
 // Both translations, where nothing is refused but the turns themselves.
-ghost use Rattle.std.specs.Prelude.{◌≡◌, ◌≤◌, ◌<◌};
+ghost use Rattle.std.specs.Prelude.{◌≡◌, ◌<◌};
 ghost use Rattle.ways.specs.Ways.{ways};
 ghost use Rattle.dictionary.specs.Schedules.{schedule_for};
 ghost use Rattle.enumeration.specs.Replies.{kept};
 ghost use Rattle.enumeration.specs.Turns.{placed};
 
+use crate::totals::Totals;
 use crate::{Schedule, turns};
 
 // The schedule with this number.
-pub fn schedule_at(a: usize, b: usize, number: u64) -> Schedule
-    requires { (a ≤ 32) × (b ≤ 32) × (number < ways a b) }
-    ensures { result ≡ kept a b (schedule_for a b number) }
+pub fn schedule_at(totals: Totals, number: u64) -> Schedule
+    requires { number < ways totals.a totals.b }
+    ensures { result ≡ kept totals.a totals.b (schedule_for totals.a totals.b number) }
 {
+    let count = totals.a + totals.b;
     let mut turns = [0; 64];
-    let mut x = a;
-    let mut y = b;
+    let mut left = totals;
     let mut k = number;
-    for i in 0..a + b {
-        let c = turns::choose(x, y, k);
+    for i in 0..count {
+        let c = turns::choose(left, k);
         turns[i] = c.turn;
-        x = c.a;
-        y = c.b;
+        left = c.left;
         k = c.number;
     }
-    Schedule {
-        count: a + b,
-        turns,
-    }
+    Schedule { count, turns }
 }
 
 // The number for the turns; none where they are no schedule.
-pub fn number_of(a: usize, b: usize, turns: &[u8]) -> Option<u64>
-    requires { (a ≤ 32) × (b ≤ 32) }
-    ensures { result ≡ placed a b turns.now }
+pub fn number_of(totals: Totals, turns: &[u8]) -> Option<u64>
+    ensures { result ≡ placed totals.a totals.b turns.now }
 {
-    let mut x = a;
-    let mut y = b;
+    let mut left = totals;
     let mut k = 0;
     for turn in turns {
-        let t = turns::take(x, y, *turn)?;
-        x = t.a;
-        y = t.b;
+        let t = turns::take(left, *turn)?;
+        left = t.left;
         k += t.skipped;
     }
-    if x + y > 0 {
+    if left.a + left.b > 0 {
         return None;
     }
     Some(k)

@@ -1,1 +1,2 @@
 pub mod RowOrder
+pub mod RefusalNumbers

@@ -18,11 +18,11 @@ use Rattle.model.specs.Refusals.{in_range, bench_ok, process_ok, row3, row5, row
 use Rattle.model.specs.Command.{refusal, command}
 use Rattle.rows.specs.CommandRows.{decision_number}
 use Rattle.machine.specs.Decision.{decided, obeyed_at}
-use Rattle.tables.specs.Gathered.{gathered}
+use Rattle.lent.specs.Gathered.{gathered}
 use Rattle.machine.specs.Decision.{stored_back}
 use Rattle.rows.proofs.RowLaws.{n_in, neither, none_holds}
 use Rattle.machine.proofs.ObeyLaws.{refused_law, obeyed_law}
-use Rattle.tables.proofs.GatheredLaws.{gathered_at, gathered_take}
+use Rattle.lent.proofs.GatheredLaws.{gathered_here, gathered_take}
 
 -- two tables with the same first three rows, and then the same number where those do not hold
 later : (a c d : Bool) (x y : ℕ) → (a ≡ false → d ≡ false → x ≡ y) → cond a 1 (cond c 2 (cond d 3 x)) ≡ cond a 1 (cond c 2 (cond d 3 y))
@@ -37,7 +37,7 @@ same_row false k x y f = f refl
 
 module _ (b : Bench) (rs : List Process) (ws : List ℕ) (p : ℕ) (o : Order) (v : List ℕ) where
   abbrev list : List Process
-  list = (gathered rs no_process 16).list
+  list = gathered rs no_process 16
 
   abbrev m : Memory
   m = record { bench = b; records = rs; words = ws }
@@ -47,7 +47,7 @@ module _ (b : Bench) (rs : List Process) (ws : List ℕ) (p : ℕ) (o : Order) (
 
   same_range : b.n ≤ 16 → b.n ≤ length rs → in_range (record { bench = b; records = list; words = [] }) ≡ in_range m
   unfolding in_range
-  same_range h k = ap (λ (l : List Process). bench_ok b && every (process_ok b.n b.w) l) (gathered_take rs b.n h k)
+  same_range h k = ap (λ (l : List Process). bench_ok b && every (process_ok b.n b.w) l) (gathered_take rs no_process no_process b.n h k)
 
   abbrev calls : Process → ℕ
   calls q = cond (row8 o b.w (length v)).holds 8 (cond (row5 o q).holds 5 (cond (row6 o q).holds 6 (cond (row7 o q).holds 7 0)))
@@ -67,13 +67,13 @@ module _ (b : Bench) (rs : List Process) (ws : List ℕ) (p : ℕ) (o : Order) (
       ap (λ (t : Bool). from_9 t (get_or list p no_process)) (same_range h k) ∙
       same_row (not (in_range m)) 9 _ _ (λ r. same_row (row4 b.n p).holds 4 _ _ (λ s.
       let l = leb-false b.n p s in
-      ap calls (gathered_at rs no_process 16 p (omega arith) (omega arith)))))
+      ap calls (gathered_here rs no_process 16 p (omega arith) (omega arith)))))
 
   by_number : (k : ℕ) → number ≡ k → stored_back rs (decided b list (length rs) p o v ws) ≡ command m p o v
   unfolding command
   by_number zero e =
       let h = none_holds b list (length rs) p o (length v) (length ws) e in
-      let q : get_or list p no_process ≡ get_or rs p no_process = gathered_at rs no_process 16 p (omega arith) (omega (arith, h.process, h.n_most)) in
+      let q : get_or list p no_process ≡ get_or rs p no_process = gathered_here rs no_process 16 p (omega arith) (omega (arith, h.process, h.n_most)) in
       ap (stored_back rs) (sym (obeyed_law b list (length rs) p o v ws (obey o (record { 0 = p }) v b (get_or list p no_process) ws) e refl)) ∙
       ap (λ (r : Process). stored_back rs (obeyed_at p (obey o (record { 0 = p }) v b r ws))) q ∙
       simp (eq-eqb (refusal m p o v) 0 (sym same_number ∙ e))
@@ -83,5 +83,5 @@ module _ (b : Bench) (rs : List Process) (ws : List ℕ) (p : ℕ) (o : Order) (
       ap (stored_back rs) (sym (refused_law b list (length rs) p o v ws number refl n)) ∙
       simp (out, same_number, ne_eqb (refusal m p o v) 0 (λ z. n (same_number ∙ z)))
 
-  pub decision_law : stored_back rs (decided b (gathered rs no_process 16).list (length rs) p o v ws) ≡ command (record { bench = b; records = rs; words = ws }) p o v
+  pub decision_law : stored_back rs (decided b (gathered rs no_process 16) (length rs) p o v ws) ≡ command (record { bench = b; records = rs; words = ws }) p o v
   decision_law = by_number number refl

@@ -6,14 +6,13 @@ use crate::Left;
 use crate::calls::{Call, Figure, Kind, Moves};
 use lines::points;
 use model::Process;
-use tables::records::Records;
 
 // The calls of the processes with these records.
-pub fn left(all: Records) -> Left
+pub fn left(all: [Process; 16]) -> Left
     ensures figure { result.figure ≡ Figure.Two }
-    ensures calls { result.calls ≡ map call_of all.list }
+    ensures calls { result.calls ≡ map call_of all }
 {
-    let calls = all.list.map(|process| call_of(process));
+    let calls = all.map(|process| call_of(process));
     Left {
         figure: Figure::Two,
         calls,

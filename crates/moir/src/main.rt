@@ -12,7 +12,7 @@ fn main(rt: HostRuntime) -> ExitCode {
     let mut list = console::large_buffer();
     let out = moir_run::texts::run_text(given, false, &mut list);
     let ended = messages::Ended {
-        number: out.number,
+        outcome: out.outcome,
         entries: out.entries,
         report: out.report,
         text: given,
@@ -22,6 +22,6 @@ fn main(rt: HostRuntime) -> ExitCode {
         &mut rt.stderr(),
         list.get(..out.written),
         ended,
-        moir_messages::left(out.all),
+        moir_messages::left(out.held),
     )
 }

@@ -6,7 +6,7 @@ use Prim.Native.Nat.{ℕ, zero, suc, ◌+◌, ◌-◌, ◌*◌, ◌≤◌}
 use native.Mathlib.Nat.{mul-le-mul_right, one-mul}
 use native.Mathlib.Omega.{arith}
 use lib.Dec.{eqb, ltb}
-use lib.ListN.{length, set, replicate, length-append, length-replicate}
+use lib.ListN.{length, replicate, length-append, length-replicate}
 use lib.Seq.{sets}
 use borrow.Author.Tests.{eq-eqb, ne_eqb, eqb-true, ltb-false, not-false}
 use Rattle.llsc.specs.Rows.{row1, row2, row8always}
@@ -51,10 +51,10 @@ four_runs ws value a b c d n w l h e el ea eb ec ed =
     ap (λ (x : List ℕ). sets x (n * w + w) (replicate ((3 * n + 1) * w - (n * w + w)) 0))
     (ec ∙ ap (λ (x : List ℕ). sets x (n * w) value) (eb ∙ ap (λ (x : List ℕ). sets x w (replicate (n * w - w) 0)) ea)) ∙ words_set ws value n w h e
 
--- where the number is 0, the set-up fits what is lent
-pub set_up_fits : (n w len words value : ℕ) → set_up_number n w len words value ≡ 0 → Accepted n w words value
+-- where the number is 0, the set-up fits what is lent: words and records
+fits_lent : (n w len words value : ℕ) → set_up_number n w len words value ≡ 0 → Accepted n w words value × (n ≤ len)
 unfolding set_up_number
-set_up_fits n w len words value e =
+fits_lent n w len words value e =
     let r8 : ℕ = cond (row8always w value).holds 8 0 in
     let r3 : ℕ = cond (row3 n w len words).holds 3 r8 in
     let r2 : ℕ = cond (row2 w).holds 2 r3 in
@@ -62,25 +62,22 @@ set_up_fits n w len words value e =
     let c2 = cleared (row2 w).holds 1 r3 c1.1 in
     let c3 = cleared (row3 n w len words).holds 2 r8 c2.1 in
     let c8 = cleared (row8always w value).holds 7 0 c3.1 in
-    record {
-      n_most = (n_in n c1.0).1;
-      w_most = (w_in w c2.0).1;
-      n_some = (n_in n c1.0).0;
-      words_lent = ltb-false words ((3 * n + 1) * w) (neither (ltb words ((3 * n + 1) * w)) (ltb len n) c3.0).0;
-      value_words = eqb-true value w (not-false (eqb value w) c8.0);
-    }
+    let few = neither (ltb words ((3 * n + 1) * w)) (ltb len n) c3.0 in (
+      record {
+        n_most = (n_in n c1.0).1;
+        w_most = (w_in w c2.0).1;
+        n_some = (n_in n c1.0).0;
+        words_lent = ltb-false words ((3 * n + 1) * w) few.0;
+        value_words = eqb-true value w (not-false (eqb value w) c8.0);
+      },
+      ltb-false len n few.1,
+    )
 
--- and records
+pub set_up_fits : (n w len words value : ℕ) → set_up_number n w len words value ≡ 0 → Accepted n w words value
+set_up_fits n w len words value e = (fits_lent n w len words value e).0
+
 pub records_fit : (n w len words value : ℕ) → set_up_number n w len words value ≡ 0 → n ≤ len
-unfolding set_up_number
-records_fit n w len words value e =
-    let r8 : ℕ = cond (row8always w value).holds 8 0 in
-    let r3 : ℕ = cond (row3 n w len words).holds 3 r8 in
-    let r2 : ℕ = cond (row2 w).holds 2 r3 in
-    let c1 = cleared (row1 n).holds 0 r2 e in
-    let c2 = cleared (row2 w).holds 1 r3 c1.1 in
-    let c3 = cleared (row3 n w len words).holds 2 r8 c2.1 in
-    ltb-false len n (neither (ltb words ((3 * n + 1) * w)) (ltb len n) c3.0).1
+records_fit n w len words value e = (fits_lent n w len words value e).1
 
 -- the two answers of a set-up
 module _ (b : Bench) (len n w : ℕ) (value ws : List ℕ) where

@@ -1,6 +1,5 @@
 pub mod FarLaws
 pub mod EntryLaws
-pub mod LastLaws
 pub mod TurnLaws
 pub mod LoopLaws
 pub mod StartLaws

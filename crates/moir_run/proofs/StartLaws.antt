@@ -23,6 +23,8 @@ use Rattle.moir_model.specs.Records.{no_process}
 use Rattle.moir_model.specs.Machine.{Memory}
 use Rattle.moir_model.specs.Refusals.{set_up_rows_of}
 use Rattle.moir_model.specs.SetUp.{empty_bench, bench_at_set_up, words_at_set_up, at_set_up, set_up_refusal, set_up}
+use Rattle.std.specs.Prelude.{Err}
+use Rattle.llsc.specs.declared.refusals.Refusal.TheVariants.{NoRoom}
 use Rattle.llsc.specs.Refusals.{number_told}
 use Rattle.moir_machine.specs.SetUpByValue.{set_up_number, set_up_number_lem, Accepted}
 use Rattle.moir_machine.proofs.SetUpLaws.{set_up_fits}
@@ -30,26 +32,27 @@ use Rattle.moir_semantics.specs.TextRun.{figure6, Progress}
 use Rattle.moir_semantics.proofs.SmallWords.{Small, small_at_set_up}
 use Rattle.listing.specs.declared.Writer.{Writer}
 use Rattle.moir_run.specs.declared.turns.Run.{Run}
-use Rattle.moir_run.specs.declared.entry_loop.Carried.{Carried}
-use Rattle.moir_run.specs.declared.texts.Finished.{Finished}
+use Rattle.text_runs.specs.declared.runs.Carried.{Carried}
+use Rattle.text_runs.specs.declared.runs.Finished.{Finished}
+use Rattle.text_runs.specs.Runs.{Outcome, finished_of, closed, Closable}
 use Rattle.moir_run.specs.RunState.{progress, Sound}
 use Rattle.moir_run.specs.TextRan.{at_start, seen, returned, TextRan}
-use Rattle.moir_run.specs.Finished.{fresh_run, finished_of, closed, Closable, Carries, Roomy}
+use Rattle.moir_run.specs.Finished.{fresh_run, Carries, Roomy}
 use Rattle.moir_run.proofs.EntryLaws.{first_words}
 use Rattle.moir_run.proofs.TurnLaws.{first_small}
 
 -- a sound run has room for its last line
-pub sound_closable : {r : Run} {k : ℕ} {ws : List ℕ} {to : Writer} → Sound (progress r k ws to) → Closable r k to
-sound_closable s = record { entries = s.entries; stop = s.stop; room = s.room }
+pub sound_closable : {r : Run} {o : Outcome} {ws : List ℕ} {to : Writer} → Sound (progress r (number_told o) ws to) → Closable r.entries o to
+sound_closable s = record { few = s.entries; stop = s.stop; room = s.room }
 
 -- with its last line a run is ended
-pub closed_seen : {report : StopReport} {list' : List ℕ} {out : Finished} (r : Run) (k : ℕ) (ws : List ℕ) (to : Writer)
-    → ◌≡◌ {A = Finished × List ℕ} (out, list') (closed r k report to) → returned out list' ≡ seen (ended figure6 (progress r k ws to))
-closed_seen r k ws to e = ap (λ (x : Finished × List ℕ). returned x.0 x.1) e
+pub closed_seen : {report : StopReport} {list' : List ℕ} {out : Finished (List Process)} (r : Run) (o : Outcome) (ws : List ℕ) (to : Writer)
+    → ◌≡◌ {A = Finished (List Process) × List ℕ} (out, list') (closed r.all r.entries o report to) → returned out list' ≡ seen (ended figure6 (progress r (number_told o) ws to))
+closed_seen r o ws to e = ap (λ (x : Finished (List Process) × List ℕ). returned x.0 x.1) e
 
-pub closed_report : {report : StopReport} {l l' : List ℕ} {out : Finished} {at : ℕ} (r : Run) (k : ℕ)
-    → ◌≡◌ {A = Finished × List ℕ} (out, l') (finished_of r k report at, l) → out.report ≡ report
-closed_report r k e = ap (λ (x : Finished × List ℕ). x.0.report) e
+pub closed_report : {report : StopReport} {l l' : List ℕ} {out : Finished (List Process)} {at : ℕ} (r : Run) (o : Outcome)
+    → ◌≡◌ {A = Finished (List Process) × List ℕ} (out, l') (finished_of r.all r.entries o report at, l) → out.report ≡ report
+closed_report r o e = ap (λ (x : Finished (List Process) × List ℕ). x.0.report) e
 
 pub number_few : (n w : ℕ) {k : ℕ} → k ≡ set_up_number n w 16 3136 w → k ≤ 15
 unfolding set_up_number
@@ -73,11 +76,11 @@ pub room_left : (t : Bool) (list : List ℕ) {k : ℕ} → k ≡ room_needed t �
 room_left t list e l = omega (arith, e, l)
 
 -- "A refusal 14 at the start writes nothing."
-pub no_room : {r : Finished} {run : Run} {b : Bench} (t : Bool) (text list : List ℕ) → r ≡ finished_of run 14 NotRead 0 → run ≡ fresh_run b t
-    → length list < room_needed t → TextRan t text list r list
-no_room {r} t text list er eu l = record {
-  same = ap (λ (x : Finished). returned x list) er ∙ ap (λ (x : Run). returned (finished_of x 14 NotRead 0) list) eu ∙ ap seen (run_14 figure6 t at_start text list l);
-  stops = subst (StopsAt figure6 t at_start text list) (sym (ap (λ (x : Finished). x.report) er)) (stops_14 figure6 l);
+pub no_room : {run : Run} {b : Bench} (t : Bool) (text list : List ℕ) → run ≡ fresh_run b t
+    → length list < room_needed t → TextRan t text list (finished_of run.all 0 (Err NoRoom) NotRead 0) list
+no_room t text list eu l = record {
+  same = ap (λ (x : Run). returned (finished_of x.all 0 (Err NoRoom) NotRead 0) list) eu ∙ ap seen (run_14 figure6 t at_start text list l);
+  stops = stops_14 figure6 l;
 }
 
 -- the records are at their set-up from the start
@@ -176,10 +179,10 @@ module _ (t : Bool) (n w v : ℕ) (list : List ℕ) where
 
 -- the entries carried out, with the last line
 pub carried_closed : (t : Bool) (n w v : ℕ) (list ps : List ℕ) → 0 ≡ set_up_number n w 16 3136 w
-    → {kept ws ws' l l' : List ℕ} {to to' : Writer} {count j : ℕ} {run : Run} {out : Carried} {report : StopReport} {fin : Finished}
-    → Carries kept count run ws to out ws' to' → progress run 0 ws to ≡ first_state t n w v list → j ≡ number_told out.outcome
-    → ◌≡◌ {A = Finished × List ℕ} (fin, l) (closed out.run j report to') → l' ≡ l
+    → {kept ws ws' l l' : List ℕ} {to to' : Writer} {count : ℕ} {run : Run} {out : Carried Run} {report : StopReport} {fin : Finished (List Process)}
+    → Carries kept count run ws to out ws' to' → progress run 0 ws to ≡ first_state t n w v list
+    → ◌≡◌ {A = Finished (List Process) × List ℕ} (fin, l) (closed out.run.all out.run.entries out.outcome report to') → l' ≡ l
     → returned fin l' ≡ seen (started_with figure6 t n w v (entries_in count kept) at_start list)
-carried_closed t n w v list ps e {kept = kept} {ws' = ws'} {to' = to'} {count = count} {j = j} {out = out} {fin = fin} x q m c el =
-    ap (returned fin) el ∙ closed_seen out.run j ws' to' c ∙ ap (λ (i : ℕ). seen (ended figure6 (progress out.run i ws' to'))) m
+carried_closed t n w v list ps e {kept = kept} {ws' = ws'} {to' = to'} {count = count} {out = out} {fin = fin} x q c el =
+    ap (returned fin) el ∙ closed_seen out.run out.outcome ws' to' c
     ∙ carried_start t n w v list (entries_in count kept) ps e refl q x.over

@@ -1,14 +1,11 @@
 -- The whole text run on Moir's bench as the code holds it: what its parts are given and what they answer.
 -- Inner: `StartLaws`, and `TextLaws` and `StopLaws` of `text_runs`, put the parts together to `TextRan`.
 use Rattle.std.specs.Prelude.{◌≡◌, Bool, false, ℕ, ◌+◌, ◌≤◌, List, length, replicate}
-use Rattle.std.proofs.lemmas.List.Edits.{sets}
 use Rattle.notation.specs.EntryWords.{largest_place}
 use Rattle.notation.specs.declared.First.{First}
 use Rattle.notation.specs.Readers as R
 use Rattle.llsc.specs.Refusals.{number_told}
-use Rattle.positions.specs.declared.StopReport.{StopReport}
-use Rattle.text_runs.specs.TextRun.{most_entries, room_needed}
-use Rattle.text_runs.specs.Parts.{last_text}
+use Rattle.text_runs.specs.TextRun.{room_needed}
 use Rattle.text_runs.proofs.MiddleLaws.{Over}
 use Rattle.text_runs.specs.KeptEntries.{entries_in}
 use Rattle.moir_model.specs.declared.Bench.{Bench}
@@ -16,29 +13,14 @@ use Rattle.moir_model.specs.Records.{no_process}
 use Rattle.moir_semantics.specs.TextRun.{figure6}
 use Rattle.listing.specs.declared.Writer.{Writer}
 use Rattle.moir_run.specs.declared.turns.Run.{Run}
-use Rattle.moir_run.specs.declared.entry_loop.Carried.{Carried}
-use Rattle.moir_run.specs.declared.texts.Finished.{Finished}
-use Rattle.moir_run.specs.RunState.{progress, Sound, last_room}
+use Rattle.text_runs.specs.declared.runs.Carried.{Carried}
+use Rattle.moir_run.specs.RunState.{progress, Sound}
 
 abbrev pub fresh_run : Bench → Bool → Run
 fresh_run b t = record { bench = b; all = replicate 16 no_process; entries = 0; traced = t }
 
-abbrev pub finished_of : Run → ℕ → StopReport → ℕ → Finished
-finished_of r k report written = record { all = r.all; number = k; entries = r.entries; written = written; report = report }
-
--- what a run that stops with the number k comes to with its last line
-abbrev pub closed : Run → ℕ → StopReport → Writer → Finished × List ℕ
-closed r k report to =
-    (finished_of r k report (to.written + length (last_text k r.entries)), sets to.list.now to.written (last_text k r.entries))
-
--- there is room for the last line
-pub record Closable (r : Run) (k : ℕ) (to : Writer) : Type 0 where
-  pub entries : r.entries ≤ most_entries
-  pub stop : k ≤ 15
-  pub room : to.written + last_room ≤ length to.list.now
-
 -- the list of entries carried out, up to its end or to the entry at `at` that is refused
-pub record Carries (kept : List ℕ) (count : ℕ) (r : Run) (words : List ℕ) (to : Writer) (out : Carried) (words' : List ℕ) (to' : Writer) : Type 0 where
+pub record Carries (kept : List ℕ) (count : ℕ) (r : Run) (words : List ℕ) (to : Writer) (out : Carried Run) (words' : List ℕ) (to' : Writer) : Type 0 where
   pub over : Over figure6 (entries_in count kept) (progress r 0 words to) out.at (progress out.run (number_told out.outcome) words' to')
   pub sound : Sound (progress out.run (number_told out.outcome) words' to')
   pub same : to'.list.ghost_name ≡ to.list.ghost_name

@@ -5,6 +5,7 @@ use Rattle.llsc.specs.declared.refusals.Refusal.{Refusal}
 use Rattle.llsc.specs.Refusals.{refusal_number}
 use Rattle.notation.specs.declared.Entry.{Entry}
 use Rattle.text_runs.specs.TextRun.{most_entries, lines_of}
+use Rattle.text_runs.specs.Runs.{last_room}
 use Rattle.text_runs.proofs.SingleEntries.{outcome}
 use Rattle.moir_semantics.specs.TextRun.{figure6, Progress}
 use Rattle.moir_semantics.proofs.SmallWords.{Small}
@@ -26,10 +27,6 @@ progress r k words to = record {
 abbrev pub turned : Run → Result Run Refusal → List ℕ → Writer → Progress
 turned r (Ok next) words to = progress next 0 words to
 turned r (Err f) words to = progress r (refusal_number f) words to
-
--- the longest last line has 17 bytes
-abbrev pub last_room : ℕ
-last_room = 17
 
 -- what holds of a run at every moment
 pub record Sound (s : Progress) : Type 0 where

@@ -8,7 +8,8 @@ use Rattle.moir_model.specs.Records.{no_process}
 use Rattle.moir_model.specs.Machine.{Memory}
 use Rattle.moir_model.specs.SetUp.{empty_bench}
 use Rattle.moir_semantics.specs.TextRun.{figure6, Ended}
-use Rattle.moir_run.specs.declared.texts.Finished.{Finished}
+use Rattle.llsc.specs.Refusals.{number_told}
+use Rattle.text_runs.specs.declared.runs.Finished.{Finished}
 
 -- The memory that a run begins with: an empty bench, sixteen records and as many words as the largest N and W need.
 abbrev pub at_start : Memory
@@ -26,11 +27,11 @@ abbrev pub seen : Ended → Seen
 seen e = record { number = e.number; entries = e.entries; written = e.written; records = e.memory.records; listing = e.listing }
 
 -- what a run returns, with the listing after it
-abbrev pub returned : Finished → List ℕ → Seen
-returned r list = record { number = r.number; entries = r.entries; written = r.written; records = r.all; listing = list }
+abbrev pub returned : Finished (List Process) → List ℕ → Seen
+returned r list = record { number = number_told r.outcome; entries = r.entries; written = r.written; records = r.held; listing = list }
 
 -- What a text run answers (02, CR 8): it is the text run of `text_runs` on the machine of Figure 6, in the listing's style
 -- or the trace's, and it stopped where the report says.
-pub record TextRan (t : Bool) (text list : List ℕ) (r : Finished) (list' : List ℕ) : Type 0 where
+pub record TextRan (t : Bool) (text list : List ℕ) (r : Finished (List Process)) (list' : List ℕ) : Type 0 where
   pub same : returned r list' ≡ seen (T.run_with figure6 reader t at_start text list)
   pub stops : StopsAt figure6 t at_start text list r.report

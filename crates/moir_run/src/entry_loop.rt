@@ -6,16 +6,8 @@ ghost use Rattle.moir_run.specs.Finished.{Carries};
 use crate::turns::Run;
 use crate::{entries, turns};
 use listing::Writer;
-use llsc::refusals::Refusal;
 use notation::entry_words;
-
-// The run after its list, its place in it, that of the entry that was refused, or the end; and why it was refused.
-#[derive(Clone, Copy)]
-pub struct Carried {
-    pub run: Run,
-    pub at: usize,
-    pub outcome: Result<(), Refusal>,
-}
+use text_runs::runs::Carried;
 
 // An entry that is refused stops the run; `!` stays at its place in the list until its call answers.
 pub fn carry_out(
@@ -24,7 +16,7 @@ pub fn carry_out(
     count: usize,
     words: &mut [u64],
     to: &mut Writer<'_>,
-) -> Carried
+) -> Carried<Run>
     requires { (count ≤ length kept.now) × (Sound (progress run 0 words.old to.old)) }
     ensures { Carries kept.now count run words.old to.old result words.new to.new }
 {

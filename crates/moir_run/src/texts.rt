@@ -7,30 +7,19 @@ ghost use Rattle.text_runs.specs.StopPlaces.{StopInText};
 ghost use Rattle.text_runs.specs.KeptEntries.{entries_in, places_in, refused_with, started_with, report_with, says_after};
 ghost use Rattle.moir_semantics.specs.TextRun.{figure6};
 ghost use Rattle.moir_run.specs.TextRan.{at_start, seen, returned, TextRan};
-ghost use Rattle.moir_run.specs.Finished.{fresh_run, finished_of, closed, Closable, Headed, Roomy};
+ghost use Rattle.moir_run.specs.Finished.{fresh_run, Headed, Roomy};
 
 use crate::entry_loop;
 use crate::turns::Run;
 use listing::Writer;
-use llsc::refusals;
 use llsc::refusals::Refusal;
 use moir_machine::setting_up;
 use moir_model::{Bench, Process};
 use notation::items::Items;
 use notation::{First, items};
 use positions::{Sizes, StopReport};
-use text_runs::{last_lines, limits, lists, reports};
-
-// What a text run leaves of the records, and what it returns: its number, 0 at `end`, the entries done, the bytes written
-// of the listing or of the trace, and where it stopped.
-#[derive(Clone, Copy)]
-pub struct Finished {
-    pub all: [Process; 16],
-    pub number: u8,
-    pub entries: usize,
-    pub written: usize,
-    pub report: StopReport,
-}
+use text_runs::runs::Finished;
+use text_runs::{limits, lists, reports, runs};
 
 // A run before its first entry, or one that a refusal keeps from it.
 fn fresh(bench: Bench, traced: bool) -> Run
@@ -44,39 +33,16 @@ fn fresh(bench: Bench, traced: bool) -> Run
     }
 }
 
-// What a run returns that ends with a number and has written so many bytes.
-fn returned(run: Run, number: u8, report: StopReport, written: usize) -> Finished
-    ensures { result ≡ finished_of run number report written }
-{
-    let all = run.all;
-    Finished {
-        all,
-        number,
-        entries: run.entries,
-        written,
-        report,
-    }
-}
-
-// A run with its last line.
-fn ended(run: Run, number: u8, report: StopReport, to: &mut Writer<'_>) -> Finished
-    requires { Closable run number to.old }
-    ensures is { (result, to.new.list.now) ≡ closed run number report to.old }
-    ensures same_list { to.new.list.ghost_name ≡ to.old.list.ghost_name }
-{
-    last_lines::write(number, run.entries, to);
-    returned(run, number, report, to.written)
-}
-
 // A run that is refused before its set-up, in either style.
-fn refused(refusal: Refusal, report: StopReport, list: &mut [u8]) -> Finished
+// Kept: `Roomy` is one bound on the list that each of three functions is lent; a type for it would be that list again.
+fn refused(refusal: Refusal, report: StopReport, list: &mut [u8]) -> Finished<[Process; 16]>
     requires { (Roomy list.old) × (refusal_number refusal ≤ 15) }
     ensures { (returned result list.new ≡ seen (refused_with figure6 (refusal_number refusal) at_start list.old)) ×
         (result.report ≡ report) }
 {
     let run = fresh(moir_model::empty_bench(), false);
     let mut to = Writer { list, written: 0 };
-    ended(run, refusal.number(), report, &mut to)
+    runs::ended(run.all, run.entries, Err(refusal), report, &mut to)
 }
 
 // The words of the largest N and W.
@@ -88,7 +54,13 @@ fn no_words() -> [u64; 3136]
 
 // "then 1, 2, 3, then the set-up, then the entries": those of the list, up to `count`. The records are at their set-up from
 // the start.
-fn started(traced: bool, first: First, kept: &[u64], count: usize, list: &mut [u8]) -> Finished
+fn started(
+    traced: bool,
+    first: First,
+    kept: &[u64],
+    count: usize,
+    list: &mut [u8],
+) -> Finished<[Process; 16]>
     requires { (Roomy list.old) × (first.initial ≤ largest) × (count ≤ length kept.now) }
     ensures { (returned result list.new ≡ seen (started_with figure6 traced first.n first.w first.initial (entries_in count kept.now) at_start list.old)) ×
         (result.report ≡ report_with figure6 traced first.n first.w first.initial (entries_in count kept.now) (places_in count kept.now) at_start list.old) }
@@ -111,15 +83,16 @@ fn started(traced: bool, first: First, kept: &[u64], count: usize, list: &mut [u
             let run = fresh(bench, traced);
             let mut to = Writer { list, written: 0 };
             let carried = entry_loop::carry_out(run, kept, count, &mut words, &mut to);
-            let number = refusals::number_of(carried.outcome);
-            let report = reports::stop_report(first.n, first.w, number, kept, carried.at);
-            ended(carried.run, number, report, &mut to)
+            let outcome = carried.outcome;
+            let report = reports::stop_report(first.n, first.w, outcome, kept, carried.at);
+            let run = carried.run;
+            runs::ended(run.all, run.entries, outcome, report, &mut to)
         }
     }
 }
 
 // "then 10 and 11 over the whole text": its items are read once, into the list of its entries.
-fn checked(traced: bool, first: First, text: &[u8], list: &mut [u8]) -> Finished
+fn checked(traced: bool, first: First, text: &[u8], list: &mut [u8]) -> Finished<[Process; 16]>
     requires { (Roomy list.old) × (Headed text.now first) }
     ensures { (returned result list.new ≡ seen (says_after figure6 traced text.now first.n first.w first.initial first.items at_start list.old)) ×
         StopInText figure6 traced at_start text.now list.old result.report }
@@ -135,12 +108,19 @@ fn checked(traced: bool, first: First, text: &[u8], list: &mut [u8]) -> Finished
 }
 
 // The whole run, with a listing or a trace.
-pub fn run_text(text: &[u8], traced: bool, list: &mut [u8]) -> Finished
+pub fn run_text(text: &[u8], traced: bool, list: &mut [u8]) -> Finished<[Process; 16]>
     ensures { TextRan traced text.now list.old result list.new }
 {
     if list.len() < limits::room_needed(traced) {
         let run = fresh(moir_model::empty_bench(), traced);
-        return returned(run, Refusal::NoRoom.number(), StopReport::NotRead, 0);
+        let held = run.all;
+        return Finished {
+            held,
+            outcome: Err(Refusal::NoRoom),
+            entries: 0,
+            written: 0,
+            report: StopReport::NotRead,
+        };
     }
     if limits::LONGEST_TEXT < text.len() {
         return refused(Refusal::TooMuch, StopReport::NotRead, list);

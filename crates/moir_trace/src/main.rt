@@ -14,7 +14,7 @@ fn main(rt: HostRuntime) -> Result<ExitCode, AllocError> {
     let mut list = vec![in rt.alloc(); 0; 3145728]?;
     let out = moir_run::texts::run_text(given, true, &mut list);
     let ended = messages::Ended {
-        number: out.number,
+        outcome: out.outcome,
         entries: out.entries,
         report: out.report,
         text: given,
@@ -24,7 +24,7 @@ fn main(rt: HostRuntime) -> Result<ExitCode, AllocError> {
         &mut rt.stderr(),
         list.get(..out.written),
         ended,
-        moir_messages::left(out.all),
+        moir_messages::left(out.held),
     );
     Ok(status)
 }

@@ -1,5 +1,4 @@
 pub mod RecordLaws
-pub mod LastLaws
 pub mod SetUpLaws
 pub mod StartLaws
 pub mod RunLaws

@@ -10,15 +10,15 @@ use lib.Seq.{take_all}
 use borrow.Author.Tests.{ltb-true, ltb-false}
 use Rattle.model.specs.declared.Process.{Process}
 use Rattle.model.specs.Records.{no_process}
-use Rattle.tables.specs.declared.records.Records.{Records}
-use Rattle.tables.specs.Gathered.{gathered}
-use Rattle.entry.specs.RunState.{Filled}
+use Rattle.lent.specs.Gathered.{gathered}
+use Rattle.entry.specs.declared.state.Held.{Held}
+use Rattle.entry.specs.RunState.{Filled, empty_held}
 use Rattle.run.specs.Finished.{at_most_sixteen}
 
--- sixteen fillers, as a program hands them over
-pub fillers : (q : Process) (all : Records) → q ≡ no_process → all ≡ record { list = replicate 16 q } → all ≡ gathered (take 16 all.list) no_process 16
+-- where no process is lent, the filler stands as gathering leaves it
+pub fillers : (held : Held) → held ≡ empty_held → held.all ≡ gathered (take 16 held.all) no_process 16
 unfolding gathered
-fillers q all e f = rw (f, e) refl
+fillers held e = rw e refl
 
 -- of more than sixteen, sixteen are looked at
 pub sixteen_most : (len : ℕ) → at_most_sixteen len ≤ 16

@@ -2,23 +2,24 @@
 use mathlib.Core.Path.{◌≡◌, sym, ap, subst, ◌∙◌}
 use mathlib.Core.Bool.{Bool, true, false}
 use mathlib.Core.List.{List}
-use Prim.Native.Nat.{ℕ, ◌≤◌}
+use Prim.Native.Nat.{ℕ, ◌+◌, ◌≤◌}
 use native.Mathlib.Omega.{arith}
 use lib.ListN.{length, take, replicate}
+use lib.Seq.{sets}
 use Rattle.model.specs.declared.Bench.{Bench}
 use Rattle.model.specs.declared.Process.{Process}
 use Rattle.model.specs.Records.{no_process}
 use Rattle.model.specs.Machine.{Memory}
 use Rattle.model.specs.SetUp.{at_set_up, set_up_refusal, set_up}
-use Rattle.tables.specs.declared.records.Records.{Records}
-use Rattle.tables.specs.Gathered.{gathered}
+use Rattle.lent.specs.Gathered.{gathered}
 use Rattle.setup.specs.SetUpByValue.{set_up_number}
 use Rattle.notation.specs.declared.Entry.{Entry}
 use Rattle.notation.specs.Grammar.{largest, deepest}
 use Rattle.notation.specs.Groups.{ItemsEnded}
 use Rattle.notation.specs.Listed.{Keeps}
+use Rattle.entry.specs.declared.state.Held.{Held}
 use Rattle.entry.specs.declared.state.Run.{Run}
-use Rattle.run.specs.declared.last_line.Finished.{Finished}
+use Rattle.text_runs.specs.declared.runs.Finished.{Finished}
 use Rattle.notation.specs.declared.First.{First}
 use Rattle.text_runs.specs.TextRun.{room_needed}
 use Rattle.semantics.specs.TextRun.{figure2, Ended, ended, begun, carry_all, run_with}
@@ -26,7 +27,10 @@ use Rattle.positions.specs.declared.StopReport.{StopReport}
 use Rattle.semantics.specs.StopPlaces.{StopsAt}
 use Rattle.entry.specs.RunState.{RunState, state_of, progress, Filled, Sound, Kept, Becomes}
 use Rattle.text_runs.specs.KeptEntries.{entries_in}
-use Rattle.run.specs.Finished.{closed, Closable, memory_of, at_most_sixteen, end_of, Answers, Lending, TextRan, refused_with, started_with, says_after}
+use Rattle.listing.specs.declared.Writer.{Writer}
+use Rattle.text_runs.specs.Runs.{Outcome, Closable, finished_of, last_of}
+use Rattle.llsc.specs.Refusals.{number_told}
+use Rattle.run.specs.Finished.{memory_of, at_most_sixteen, end_of, Answers, Lending, TextRan, refused_with, started_with, says_after}
 use Rattle.entry.proofs.FilledLaws.{gathered_filled, filled_gathered}
 use Rattle.run.proofs.RecordLaws.{sixteen_most, take_sixteen, filled_sixteen, sixteen_filled}
 use Rattle.text_runs.proofs.TextLaws as T
@@ -35,25 +39,29 @@ use Rattle.semantics.proofs.FarLaws.{far_refused}
 use Rattle.run.proofs.StartLaws.{set_up_same, first, begun_same}
 
 -- a sound run has room for its last line
-pub sound_closable : {len : ℕ} {h : RunState} → Sound len h → Closable h.run h.listing
-sound_closable s = record { entries = s.entries; stop = s.stop; room = s.room }
+pub sound_closable : {len : ℕ} {r : Run} {o : Outcome} {ws : List ℕ} {to : Writer} → to.written ≡ r.written → Sound len (state_of r (number_told o) ws to.list.now) → Closable r.entries o to
+sound_closable e s = record { few = s.entries; stop = s.stop; room = omega (arith, e, s.room) }
+
+-- what a run comes to with its last line
+abbrev closed_run : Run → Outcome → StopReport → List ℕ → Finished Held × List ℕ
+closed_run r o report list = (finished_of r.held r.entries o report (r.written + length (last_of r.entries o)), sets list r.written (last_of r.entries o))
 
 -- with its last line a run is ended
-pub closed_answers : {len : ℕ} {report : StopReport} {list' : List ℕ} {out : Finished} (r : Run) (ws list : List ℕ) → Filled len r.all.list
-    → ◌≡◌ {A = Finished × List ℕ} (out, list') (closed r report list) → Answers len out ws list' (ended (progress len (state_of r ws list)))
-closed_answers {len} {report} {out = out} r ws list f e = record {
-  same = ap (λ (x : Finished × List ℕ). record { number = x.0.number; entries = x.0.entries; written = x.0.written; memory = memory_of x.0.bench x.0.all len ws; listing = x.1 }) e;
-  filled = subst (λ (x : Finished). Filled len x.all.list) (sym same) f;
+pub closed_answers : {len : ℕ} {report : StopReport} {l l' : List ℕ} {out : Finished Held} (r : Run) (o : Outcome) (ws list : List ℕ) → Filled len r.held.all
+    → ◌≡◌ {A = Finished Held × List ℕ} (out, l) (closed_run r o report list) → l' ≡ l → Answers len out ws l' (ended (progress len (state_of r (number_told o) ws list)))
+closed_answers {len} {report} {out = out} r o ws list f e q = record {
+  same = ap (λ (y : List ℕ). end_of len out ws y) q ∙ ap (λ (x : Finished Held × List ℕ). end_of len x.0 ws x.1) e;
+  filled = subst (λ (x : Finished Held). Filled len x.held.all) (sym same) f;
 }
   where
-    same : out ≡ (closed r report list).0
-    same = ap (λ (x : Finished × List ℕ). x.0) e
+    same : out ≡ (closed_run r o report list).0
+    same = ap (λ (x : Finished Held × List ℕ). x.0) e
 
-pub closed_report : {report : StopReport} {list' : List ℕ} {out : Finished} (r : Run) (list : List ℕ)
-    → ◌≡◌ {A = Finished × List ℕ} (out, list') (closed r report list) → out.report ≡ report
-closed_report r list e = ap (λ (x : Finished × List ℕ). x.0.report) e
+pub closed_report : {report : StopReport} {l : List ℕ} {out : Finished Held} (r : Run) (o : Outcome) (list : List ℕ)
+    → ◌≡◌ {A = Finished Held × List ℕ} (out, l) (closed_run r o report list) → out.report ≡ report
+closed_report r o list e = ap (λ (x : Finished Held × List ℕ). x.0.report) e
 
-pub answers_as : {len : ℕ} {out : Finished} {ws list : List ℕ} {a b : Ended} → Answers len out ws list a → a ≡ b → Answers len out ws list b
+pub answers_as : {len : ℕ} {out : Finished Held} {ws list : List ℕ} {a b : Ended} → Answers len out ws list a → a ≡ b → Answers len out ws list b
 answers_as x e = record { same = x.same ∙ e; filled = x.filled }
 
 -- a right text, by what its list keeps
@@ -69,17 +77,17 @@ pub record Carried (len : ℕ) (h h' : RunState) (e : Ended) : Type 0 where
   pub same : ended (progress len h') ≡ e
 
 -- "then 1, 2, 3, then the set-up, then the entries"
-module _ {len : ℕ} {all : Records} {list : List ℕ} (t : Bool) (f : First) (es : List Entry) (b : Bench)
-    (ws : List ℕ) (x : Lending len all list) {k : ℕ} (e : k ≡ set_up_number f.n f.w len (length ws) f.w)
+module _ {len : ℕ} {list : List ℕ} (t : Bool) (f : First) (es : List Entry) (held : Held)
+    (ws : List ℕ) (x : Lending len held.all list) {k : ℕ} (e : k ≡ set_up_number f.n f.w len (length ws) f.w)
   where
     abbrev lent : Memory
-    lent = memory_of b all len ws
+    lent = memory_of held len ws
 
     abbrev value : List ℕ
     value = replicate f.w f.initial
 
     same_number : k ≡ set_up_refusal lent f.n f.w value
-    same_number = e ∙ set_up_same b all len ws f.n f.w f.initial x.few x.filled
+    same_number = e ∙ set_up_same held len ws f.n f.w f.initial x.few x.filled
 
     pub refused_start : (k ≡ 0 → ⊥) → refused_with k lent list ≡ started_with t f es lent list
     unfolding set_up
@@ -90,12 +98,12 @@ module _ {len : ℕ} {all : Records} {list : List ℕ} (t : Bool) (f : First) (e
         (λ z. n (same_number ∙ z)))
 
     pub carried_start : {h h' : RunState} (small : f.initial ≤ largest) (z : k ≡ 0)
-        → h ≡ first t b ws x f.n f.w f.initial small (sym e ∙ z) → Becomes len (carry_all es) h h'
+        → h ≡ first t held ws x f.n f.w f.initial small (sym e ∙ z) → Becomes len (carry_all es) h h'
         → Carried len h h' (started_with t f es lent list)
     unfolding set_up
     carried_start {h} {h'} small z q i = record {
       kept = i.kept;
-      same = ap ended (i.same ∙ ap (λ (g : RunState). carry_all es (progress len g)) q ∙ ap (carry_all es) (begun_same t b ws x f.n f.w f.initial small (sym e ∙ z)))
+      same = ap ended (i.same ∙ ap (λ (g : RunState). carry_all es (progress len g)) q ∙ ap (carry_all es) (begun_same t held ws x f.n f.w f.initial small (sym e ∙ z)))
           ∙ sym (is_begun (set_up_refusal lent f.n f.w value) (λ m. ended (carry_all es (begun t m list 0)))
           (at_set_up lent f.n f.w value) lent (refused_with (set_up_refusal lent f.n f.w value) lent list)
           (sym same_number ∙ z));
@@ -106,33 +114,34 @@ room_most : (t : Bool) {k : ℕ} → room_needed t ≤ k → room_needed false �
 room_most true l = omega arith
 room_most false l = l
 
-pub lending_sixteen : {k : ℕ} {all : Records} {list : List ℕ} (t : Bool) (len : ℕ) → k ≡ at_most_sixteen len
-    → all ≡ gathered (take len all.list) no_process 16 → room_needed t ≤ length list → Lending k all list
+pub lending_sixteen : {k : ℕ} {all : List Process} {list : List ℕ} (t : Bool) (len : ℕ) → k ≡ at_most_sixteen len
+    → all ≡ gathered (take len all) no_process 16 → room_needed t ≤ length list → Lending k all list
 lending_sixteen {all = all} t len e g l = rw e (record { few = sixteen_most len; filled = filled_sixteen (gathered_filled len all g); room = room_most t l })
 
 -- over all lent records
-pub answered : {k : ℕ} {out : Finished} {ws' list' : List ℕ} (len : ℕ) (b : Bench) (all : Records) (ws : List ℕ)
-    (g : Memory → Ended) → k ≡ at_most_sixteen len → all ≡ gathered (take len all.list) no_process 16
-    → Answers k out ws' list' (g (memory_of b all k ws))
-    → (end_of len out ws' list' ≡ g (memory_of b all len ws)) × (out.all ≡ gathered (take len out.all.list) no_process 16)
-answered {k} {out} {ws'} {list'} len b all ws g e q x =
-    let f : Filled (at_most_sixteen len) out.all.list = subst (λ (j : ℕ). Filled j out.all.list) e x.filled in
-    let a : take k all.list ≡ take len all.list = ap (λ (j : ℕ). take j all.list) e ∙ take_sixteen len all.list (gathered_filled len all q).sixteen in
-    let o : take len out.all.list ≡ take k out.all.list = sym (ap (λ (j : ℕ). take j out.all.list) e ∙ take_sixteen len out.all.list f.sixteen) in (
+pub answered : {k : ℕ} {out : Finished Held} {ws' list' : List ℕ} (len : ℕ) (held : Held) (ws : List ℕ)
+    (g : Memory → Ended) → k ≡ at_most_sixteen len → held.all ≡ gathered (take len held.all) no_process 16
+    → Answers k out ws' list' (g (memory_of held k ws))
+    → (end_of len out ws' list' ≡ g (memory_of held len ws)) × (out.held.all ≡ gathered (take len out.held.all) no_process 16)
+answered {k} {out} {ws'} {list'} len held ws g e q x =
+    let all : List Process = held.all in
+    let f : Filled (at_most_sixteen len) out.held.all = subst (λ (j : ℕ). Filled j out.held.all) e x.filled in
+    let a : take k all ≡ take len all = ap (λ (j : ℕ). take j all) e ∙ take_sixteen len all (gathered_filled len all q).sixteen in
+    let o : take len out.held.all ≡ take k out.held.all = sym (ap (λ (j : ℕ). take j out.held.all) e ∙ take_sixteen len out.held.all f.sixteen) in (
       ap (λ (l : List Process). record {
-        number = out.number;
+        number = number_told out.outcome;
         entries = out.entries;
         written = out.written;
-        memory = record { bench = out.bench; records = l; words = ws' };
+        memory = record { bench = out.held.bench; records = l; words = ws' };
         listing = list';
       }) o ∙ x.same
-          ∙ ap (λ (l : List Process). g (record { bench = b; records = l; words = ws })) a,
-      filled_gathered len out.all (sixteen_filled f),
+          ∙ ap (λ (l : List Process). g (record { bench = held.bench; records = l; words = ws })) a,
+      filled_gathered len out.held.all (sixteen_filled f),
     )
 
 -- with where the run stopped
-pub ended_as : {t : Bool} {b : Bench} {all : Records} {len : ℕ} {ws text list : List ℕ} {r : Finished} {ws' list' : List ℕ} {e : Ended}
-    → (end_of len r ws' list' ≡ e) × (r.all ≡ gathered (take len r.all.list) no_process 16)
-    → e ≡ run_with t (memory_of b all len ws) text list → StopsAt t (memory_of b all len ws) text list r.report
-    → TextRan t b all len ws text list r ws' list'
+pub ended_as : {t : Bool} {held : Held} {len : ℕ} {ws text list : List ℕ} {r : Finished Held} {ws' list' : List ℕ} {e : Ended}
+    → (end_of len r ws' list' ≡ e) × (r.held.all ≡ gathered (take len r.held.all) no_process 16)
+    → e ≡ run_with t (memory_of held len ws) text list → StopsAt t (memory_of held len ws) text list r.report
+    → TextRan t held len ws text list r ws' list'
 ended_as x e s = record { same = x.0 ∙ e; again = x.1; stops = s }

@@ -9,30 +9,20 @@ use lib.ListN.{length, set}
 use lib.Seq.{sets}
 use Rattle.model.specs.declared.Process.{Process}
 use Rattle.model.specs.SetUp.{numbers, process_at_set_up, records_at_set_up}
-use Rattle.tables.specs.declared.records.Records.{Records}
+use Rattle.setup.proofs.SetUpLaws.{mapped_next, mapped_length}
 use Rattle.laws.proofs.ListLaws.{sets_append}
 
 -- the first p of n records set up
 abbrev pub records_set : List Process → ℕ → ℕ → List Process
 records_set list n p = sets list 0 (map process_at_set_up (numbers (2 * n) p))
 
-mapped_next : (a k : ℕ) → map process_at_set_up (numbers a (suc k)) ≡ map process_at_set_up (numbers a k) ++ (process_at_set_up (a + k) ∷ [])
-mapped_next a zero = ap (λ (j : ℕ). process_at_set_up j ∷ []) (sym (add-zero a))
-mapped_next a (suc k) =
-    ap (λ (l : List Process). process_at_set_up a ∷ l) (mapped_next (suc a) k
-    ∙ ap (λ (j : ℕ). map process_at_set_up (numbers (suc a) k) ++ (process_at_set_up j ∷ [])) (suc-add a k ∙ sym (add-suc a k)))
-
-pub mapped_length : (a k : ℕ) → length (map process_at_set_up (numbers a k)) ≡ k
-mapped_length a zero = refl
-mapped_length a (suc k) = ap suc (mapped_length (suc a) k)
-
 records_next : (list : List Process) (n p : ℕ) → set (records_set list n p) p (process_at_set_up (2 * n + p)) ≡ records_set list n (p + 1)
 records_next list n p =
-    sym (rw (add-one p, mapped_next (2 * n) p, sets_append list 0 (map process_at_set_up (numbers (2 * n) p)) (process_at_set_up (2 * n + p) ∷ []), mapped_length (2 * n) p, zero-add p))
+    sym (rw (add-one p, mapped_next process_at_set_up (2 * n) p, sets_append list 0 (map process_at_set_up (numbers (2 * n) p)) (process_at_set_up (2 * n + p) ∷ []), mapped_length process_at_set_up (2 * n) p, zero-add p))
 
-module _ (list : List Process) (n p : ℕ) {next : Records} (e : next ≡ record { list = records_set list n p }) where
-  pub records_again : {out : Records} {q : Process} → q ≡ process_at_set_up (2 * n + p) → out ≡ record { list = set next.list p q } → out ≡ record { list = records_set list n (p + 1) }
-  records_again f o = o ∙ rw (e, f) (ap (λ (l : List Process). record { list = l }) (records_next list n p))
+module _ (list : List Process) (n p : ℕ) {next : List Process} (e : next ≡ records_set list n p) where
+  pub records_again : {out : List Process} {q : Process} → q ≡ process_at_set_up (2 * n + p) → out ≡ set next p q → out ≡ records_set list n (p + 1)
+  records_again f o = o ∙ rw (e, f) (records_next list n p)
 
-  pub records_all : p ≤ n → n ≤ p → next ≡ record { list = records_at_set_up list n }
-  records_all l m = let same : p ≡ n = omega arith in e ∙ ap (λ (k : ℕ). record { list = records_set list n k }) same
+  pub records_all : p ≤ n → n ≤ p → next ≡ records_at_set_up list n
+  records_all l m = let same : p ≡ n = omega arith in e ∙ ap (records_set list n) same

@@ -4,32 +4,30 @@ use mathlib.Core.Bool.{Bool, cond}
 use mathlib.Core.List.{List, [], ◌∷◌, ◌++◌, map}
 use Prim.Native.Nat.{ℕ, zero, suc, ◌+◌, ◌-◌, ◌*◌, ◌≤◌, ◌<◌}
 use native.Mathlib.Omega.{arith}
-use lib.Dec.{ltb}
 use lib.ListN.{length, get_or, set, take, drop, replicate, length-append, length-replicate, get_or-append}
 use lib.Seq.{sets, sets-eq, take-set-lt}
-use borrow.Author.Tests.{ltb-false}
 use Rattle.model.specs.declared.Bench.{Bench}
 use Rattle.model.specs.declared.Process.{Process}
 use Rattle.llsc.specs.Rows.{row1, row2}
 use Rattle.model.specs.SetUp.{numbers, process_at_set_up, records_at_set_up, words_at_set_up, bench_at_set_up, at_set_up, set_up_refusal, set_up}
 use Rattle.model.specs.Machine.{Memory, Shaped}
-use Rattle.tables.specs.declared.records.Records.{Records}
 use Rattle.llsc.specs.Rows.{row8always}
 use Rattle.model.specs.Refusals.{row3}
 use Rattle.setup.specs.SetUpByValue.{set_up_number, set_up_number_lem, Accepted}
-use Rattle.rows.proofs.RowLaws.{cleared, neither}
-use Rattle.setup.proofs.SetUpLaws.{first_row_lem, set_up_fits}
+use Rattle.rows.proofs.RowLaws.{begins_in_order}
+use Rattle.setup.proofs.SetUpLaws.{first_row_lem, set_up_fits, mapped_length}
 use Rattle.notation.specs.Grammar.{largest}
 use Rattle.entry.specs.RunState.{RunState, state_of, progress, Filled, Sound}
 use Rattle.semantics.specs.Reached.{Reached}
 use Rattle.semantics.specs.TextRun.{Progress, begun}
-use Rattle.run.specs.Finished.{fresh_run, memory_of, Lending}
+use Rattle.entry.specs.RunState.{fresh_run}
+use Rattle.run.specs.Finished.{memory_of, Lending}
+use Rattle.entry.specs.declared.state.Held.{Held}
 use Rattle.entry.specs.declared.state.Run.{Run}
 use Rattle.entry.proofs.WordLaws.{Every, every_replicate, take_replicate}
 use Rattle.entry.proofs.FilledLaws.{filled_set, lent_length}
 use Rattle.semantics.proofs.ReachedLaws.{reached_set_up}
 use Rattle.entry.proofs.CommandLaws.{first_small}
-use Rattle.run.proofs.SetUpLaws.{mapped_length}
 
 pub number_small : (n w len words value : ℕ) → set_up_number n w len words value ≤ 9
 unfolding set_up_number
@@ -38,22 +36,15 @@ number_small n w len words value = first_small (row1 n ∷ row2 w ∷ row3 n w l
 -- row 3 leaves enough records
 records_lent : (n w len words value : ℕ) → set_up_number n w len words value ≡ 0 → n ≤ len
 unfolding set_up_number
-records_lent n w len words value e =
-    let r8 : ℕ = cond (row8always w value).holds 8 0 in
-    let r3 : ℕ = cond (row3 n w len words).holds 3 r8 in
-    let r2 : ℕ = cond (row2 w).holds 2 r3 in
-    let c1 = cleared (row1 n).holds 0 r2 e in
-    let c2 = cleared (row2 w).holds 1 r3 c1.1 in
-    let c3 = cleared (row3 n w len words).holds 2 r8 c2.1 in
-    ltb-false len n (neither (ltb words (5 * n * w)) (ltb len n) c3.0).1
+records_lent n w len words value e = (begins_in_order n w len words (cond (row8always w value).holds 8 0) e).0.records_lent
 
 -- the number that the code finds is the set-up's
-pub set_up_same : (b : Bench) (all : Records) (len : ℕ) (ws : List ℕ) (n w k : ℕ) → len ≤ 16 → Filled len all.list
-    → set_up_number n w len (length ws) w ≡ set_up_refusal (memory_of b all len ws) n w (replicate w k)
-set_up_same b all len ws n w k h f =
+pub set_up_same : (held : Held) (len : ℕ) (ws : List ℕ) (n w k : ℕ) → len ≤ 16 → Filled len held.all
+    → set_up_number n w len (length ws) w ≡ set_up_refusal (memory_of held len ws) n w (replicate w k)
+set_up_same held len ws n w k h f =
     ap (λ (j : ℕ). set_up_number n w j (length ws) w) (sym (lent_length h f)) ∙
-    ap (set_up_number n w (length (take len all.list)) (length ws)) (sym (length-replicate w k)) ∙
-    set_up_number_lem (memory_of b all len ws) n w (replicate w k)
+    ap (set_up_number n w (length (take len held.all)) (length ws)) (sym (length-replicate w k)) ∙
+    set_up_number_lem (memory_of held len ws) n w (replicate w k)
 
 -- records stored in lent places
 filled_sets : {len : ℕ} (list : List Process) (i : ℕ) (vs : List Process) → i + length vs ≤ len → Filled len list → Filled len (sets list i vs)
@@ -82,7 +73,7 @@ words_small ws n w k a h i l =
     rw (sets-eq u ws 0 (omega (arith, a.words_lent)), get_or-append u (drop (0 + length u) ws) 0 i (omega arith))
     ((every_append (replicate w k) rest (every_replicate w k h) (every_replicate (5 * n * w - w) 0 (omega arith))).at i)
 
-module _ {len : ℕ} {all : Records} {list : List ℕ} (t : Bool) (b : Bench) (ws : List ℕ) (x : Lending len all list) where
+module _ {len : ℕ} {list : List ℕ} (t : Bool) (held : Held) (ws : List ℕ) (x : Lending len held.all list) where
   module _ (n w k : ℕ) (small : k ≤ largest) (z : set_up_number n w len (length ws) w ≡ 0) where
     pub accepted : Accepted n w (length ws) w
     accepted = set_up_fits n w len (length ws) w z
@@ -91,32 +82,32 @@ module _ {len : ℕ} {all : Records} {list : List ℕ} (t : Bool) (b : Bench) (w
     new_records = map process_at_set_up (numbers (2 * n) n)
 
     in_lent : 0 + length new_records ≤ len
-    in_lent = omega (arith, mapped_length (2 * n) n, records_lent n w len (length ws) w z)
+    in_lent = omega (arith, mapped_length process_at_set_up (2 * n) n, records_lent n w len (length ws) w z)
 
     abbrev pub first : RunState
-    first = state_of (fresh_run (bench_at_set_up b n w) (record { list = records_at_set_up all.list n }) 0 t) (words_at_set_up ws n w (replicate w k)) list
+    first = state_of (fresh_run (record { bench = bench_at_set_up held.bench n w; all = records_at_set_up held.all n }) t) 0 (words_at_set_up ws n w (replicate w k)) list
 
-    pub begun_same : progress len first ≡ begun t (at_set_up (memory_of b all len ws) n w (replicate w k)) list 0
+    pub begun_same : progress len first ≡ begun t (at_set_up (memory_of held len ws) n w (replicate w k)) list 0
     begun_same =
         ap (λ (l : List Process).
-        begun t (record { bench = bench_at_set_up b n w; records = l; words = words_at_set_up ws n w (replicate w k) }) list 0)
-        (take_sets len all.list 0 new_records in_lent)
+        begun t (record { bench = bench_at_set_up held.bench n w; records = l; words = words_at_set_up ws n w (replicate w k) }) list 0)
+        (take_sets len held.all 0 new_records in_lent)
 
-    set_up_done : set_up (memory_of b all len ws) n w (replicate w k) ≡ (0, at_set_up (memory_of b all len ws) n w (replicate w k))
+    set_up_done : set_up (memory_of held len ws) n w (replicate w k) ≡ (0, at_set_up (memory_of held len ws) n w (replicate w k))
     unfolding set_up
-    set_up_done = let e : set_up_refusal (memory_of b all len ws) n w (replicate w k) ≡ 0 = sym (set_up_same b all len ws n w k x.few x.filled) ∙ z in rw e
+    set_up_done = let e : set_up_refusal (memory_of held len ws) n w (replicate w k) ≡ 0 = sym (set_up_same held len ws n w k x.few x.filled) ∙ z in rw e
 
-    begun_reached : Shaped (memory_of b all len ws) → Reached (progress len first).memory
+    begun_reached : Shaped (memory_of held len ws) → Reached (progress len first).memory
     begun_reached shaped =
-        let m = memory_of b all len ws in
+        let m = memory_of held len ws in
         let r : Reached (set_up m n w (replicate w k)).1 = reached_set_up m shaped n w (replicate w k) (ap (λ (o : ℕ × Memory). o.0) set_up_done) in
         subst Reached (ap (λ (o : ℕ × Memory). o.1) set_up_done ∙ sym (ap (λ (s : Progress). s.memory) begun_same)) r
 
     -- and so is one after its set-up
-    pub begun_sound : Shaped (memory_of b all len ws) → Sound len first
+    pub begun_sound : Shaped (memory_of held len ws) → Sound len first
     begun_sound shaped = record {
       few = x.few;
-      filled = filled_sets all.list 0 new_records in_lent x.filled;
+      filled = filled_sets held.all 0 new_records in_lent x.filled;
       entries = omega arith;
       stop = omega arith;
       room = omega (arith, x.room);
@@ -124,8 +115,8 @@ module _ {len : ℕ} {all : Records} {list : List ℕ} (t : Bool) (b : Bench) (w
     }
 
     -- what the code holds after its set-up
-    pub first_state_is : {r : Run} {b' : Bench} {all' : Records} {ws' value : List ℕ} → r ≡ fresh_run b' all' 0 t → b' ≡ bench_at_set_up b n w → all' ≡ record { list = records_at_set_up all.list n }
-        → ws' ≡ words_at_set_up ws n w (take w value) → value ≡ replicate 64 k → state_of r ws' list ≡ first
+    pub first_state_is : {r : Run} {b' : Bench} {all' : List Process} {ws' value : List ℕ} → r ≡ fresh_run (record { bench = b'; all = all' }) t → b' ≡ bench_at_set_up held.bench n w → all' ≡ records_at_set_up held.all n
+        → ws' ≡ words_at_set_up ws n w (take w value) → value ≡ replicate 64 k → state_of r 0 ws' list ≡ first
     first_state_is {value = value} er eb ea ew ev =
         let v : take w value ≡ replicate w k = ap (take w) ev ∙ take_replicate w 64 k accepted.w_most in
         rw (er, eb, ea, ew, v)

@@ -5,13 +5,12 @@ use mathlib.Core.List.{List}
 use Prim.Native.Nat.{ℕ, ◌≤◌, ◌<◌}
 use lib.Dec.{eqb}
 use lib.ListN.{length, get_or, take, replicate}
-use Rattle.model.specs.declared.Bench.{Bench}
+use Rattle.entry.specs.declared.state.Held.{Held}
 use Rattle.model.specs.declared.Process.{Process}
 use Rattle.model.specs.Records.{no_process}
 use Rattle.model.specs.Machine.{Memory}
 use Rattle.model.specs.SetUp.{at_set_up, set_up_refusal, set_up}
-use Rattle.tables.specs.declared.records.Records.{Records}
-use Rattle.tables.specs.Gathered.{gathered}
+use Rattle.lent.specs.Gathered.{gathered}
 use Rattle.setup.specs.SetUpByValue.{set_up_number}
 use Rattle.notation.specs.declared.Entry.{Entry}
 use Rattle.notation.specs.Grammar.{largest}
@@ -32,28 +31,28 @@ use Rattle.run.proofs.StartLaws.{set_up_same, first, begun_same}
 use Rattle.text_runs.proofs.TextLaws.{not_begun, is_begun}
 
 -- what the loop leaves
-module _ {len count at : ℕ} (entries : List ℕ) {h h' : RunState} (fits : count ≤ length entries) (z : h.run.stop ≡ 0) (x : Carries len (entries_in count entries) h h' at) where
+module _ {len count at : ℕ} (entries : List ℕ) {h h' : RunState} (fits : count ≤ length entries) (z : h.stop ≡ 0) (x : Carries len (entries_in count entries) h h' at) where
   abbrev over : Over figure2 (entries_in count entries) (progress len h) at (progress len h')
   over = record { same = x.becomes.same; index = x.index }
 
-  pub stop_within : (h'.run.stop ≡ 0 → ⊥) → at < length entries
+  pub stop_within : (h'.stop ≡ 0 → ⊥) → at < length entries
   stop_within n = S.stop_within figure2 entries fits z over n
 
-  pub item_read : (n w : ℕ) → cond (eqb h'.run.stop 0) (at_no_item n w) (word_report n w (get_or entries at 0))
+  pub item_read : (n w : ℕ) → cond (eqb h'.stop 0) (at_no_item n w) (word_report n w (get_or entries at 0))
       ≡ item_report n w (entries_in count entries) (places_in count entries) (progress len h)
   item_read n w = S.item_read figure2 entries fits z over n w
 
 -- "then 1, 2, 3, then the set-up, then the entries"
-module _ {len : ℕ} {all : Records} {list : List ℕ} (t : Bool) (f : First) (es : List Entry) (ps : List ℕ) (b : Bench) (ws : List ℕ) (x : Lending len all list)
+module _ {len : ℕ} {list : List ℕ} (t : Bool) (f : First) (es : List Entry) (ps : List ℕ) (held : Held) (ws : List ℕ) (x : Lending len held.all list)
     {k : ℕ} (e : k ≡ set_up_number f.n f.w len (length ws) f.w) where
   abbrev lent : Memory
-  lent = memory_of b all len ws
+  lent = memory_of held len ws
 
   abbrev value : List ℕ
   value = replicate f.w f.initial
 
   same_number : k ≡ set_up_refusal lent f.n f.w value
-  same_number = e ∙ set_up_same b all len ws f.n f.w f.initial x.few x.filled
+  same_number = e ∙ set_up_same held len ws f.n f.w f.initial x.few x.filled
 
   abbrev reported : Progress → StopReport
   reported = item_report f.n f.w es ps
@@ -66,18 +65,19 @@ module _ {len : ℕ} {all : Records} {list : List ℕ} (t : Bool) (f : First) (e
   refused_report n =
       sym (not_begun (set_up_refusal lent f.n f.w value) (λ m. reported (begun t m list 0)) (at_set_up lent f.n f.w value) lent nowhere (λ z. n (same_number ∙ z)))
 
-  pub begun_report : {h : RunState} (small : f.initial ≤ largest) (z : k ≡ 0) → h ≡ first t b ws x f.n f.w f.initial small (sym e ∙ z)
+  pub begun_report : {h : RunState} (small : f.initial ≤ largest) (z : k ≡ 0) → h ≡ first t held ws x f.n f.w f.initial small (sym e ∙ z)
       → reported (progress len h) ≡ report_with t f es ps lent list
   unfolding set_up
   begun_report {h} small z q =
       ap (λ (g : RunState). reported (progress len g)) q
-      ∙ ap reported (begun_same t b ws x f.n f.w f.initial small (sym e ∙ z))
+      ∙ ap reported (begun_same t held ws x f.n f.w f.initial small (sym e ∙ z))
       ∙ sym (is_begun (set_up_refusal lent f.n f.w value) (λ m. reported (begun t m list 0)) (at_set_up lent f.n f.w value) lent nowhere (sym same_number ∙ z))
 
 -- over all lent records
-pub report_sixteen : {k : ℕ} {report : StopReport} {t : Bool} {text list : List ℕ} (len : ℕ) (b : Bench) (all : Records) (ws : List ℕ)
-    → k ≡ at_most_sixteen len → all ≡ gathered (take len all.list) no_process 16
-    → StopInText t (memory_of b all k ws) text list report → StopInText t (memory_of b all len ws) text list report
-report_sixteen {k} {report} {t} {text} {list} len b all ws e q x =
-    let a : take k all.list ≡ take len all.list = ap (λ (j : ℕ). take j all.list) e ∙ take_sixteen len all.list (gathered_filled len all q).sixteen in
-    subst (λ (l : List Process). StopInText t (record { bench = b; records = l; words = ws }) text list report) a x
+pub report_sixteen : {k : ℕ} {report : StopReport} {t : Bool} {text list : List ℕ} (len : ℕ) (held : Held) (ws : List ℕ)
+    → k ≡ at_most_sixteen len → held.all ≡ gathered (take len held.all) no_process 16
+    → StopInText t (memory_of held k ws) text list report → StopInText t (memory_of held len ws) text list report
+report_sixteen {k} {report} {t} {text} {list} len held ws e q x =
+    let all : List Process = held.all in
+    let a : take k all ≡ take len all = ap (λ (j : ℕ). take j all) e ∙ take_sixteen len all (gathered_filled len all q).sixteen in
+    subst (λ (l : List Process). StopInText t (record { bench = held.bench; records = l; words = ws }) text list report) a x

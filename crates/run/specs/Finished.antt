@@ -5,72 +5,52 @@ use Rattle.std.proofs.lemmas.List.Edits.{sets}
 use Rattle.model.specs.declared.Bench.{Bench}
 use Rattle.model.specs.Records.{no_process}
 use Rattle.model.specs.Machine.{Memory}
-use Rattle.tables.specs.declared.records.Records.{Records}
-use Rattle.tables.specs.Gathered.{gathered}
+use Rattle.model.specs.declared.Process.{Process}
+use Rattle.lent.specs.Gathered.{gathered}
+use Rattle.llsc.specs.Refusals.{number_told}
 use Rattle.notation.specs.declared.Entry.{Entry}
 use Rattle.notation.specs.EntryWords.{largest_place}
 use Rattle.notation.specs.Readers as R
 use Rattle.listing.specs.Lines.{end_line, refused_line}
-use Rattle.entry.specs.declared.state.Run.{Run}
-use Rattle.run.specs.declared.last_line.Finished.{Finished}
+use Rattle.entry.specs.declared.state.Held.{Held}
+use Rattle.text_runs.specs.declared.runs.Finished.{Finished}
 use Rattle.notation.specs.declared.First.{First}
 use Rattle.positions.specs.declared.StopReport.{StopReport}
 use Rattle.text_runs.specs.TextRun.{most_entries, room_needed}
 use Rattle.text_runs.specs.KeptEntries as K
 use Rattle.semantics.specs.TextRun.{figure2, Ended, run_with}
 use Rattle.semantics.specs.StopPlaces.{StopsAt}
-use Rattle.entry.specs.RunState.{Filled, last_room}
-
-abbrev pub fresh_run : Bench → Records → ℕ → Bool → Run
-fresh_run b all k t = record { bench = b; all = all; written = 0; entries = 0; stop = k; traced = t }
-
-abbrev pub finished_of : Run → StopReport → ℕ → Finished
-finished_of r report written =
-    record { bench = r.bench; all = r.all; number = r.stop; entries = r.entries; written = written; report = report }
-
--- the last line of a run
-abbrev pub last_of : Run → List ℕ
-last_of r = cond (eqb r.stop 0) (end_line r.entries) (refused_line r.stop r.entries)
-
--- what a run comes to with its last line
-abbrev pub closed : Run → StopReport → List ℕ → Finished × List ℕ
-closed r report list = (finished_of r report (r.written + length (last_of r)), sets list r.written (last_of r))
-
--- there is room for the last line
-pub record Closable (r : Run) (list : List ℕ) : Type 0 where
-  pub entries : r.entries ≤ most_entries
-  pub stop : r.stop ≤ 15
-  pub room : r.written + last_room ≤ length list
+use Rattle.entry.specs.RunState.{Filled}
 
 -- the lent memory, with `len` records
-abbrev pub memory_of : Bench → Records → ℕ → List ℕ → Memory
-memory_of b all len words = record { bench = b; records = take len all.list; words = words }
+abbrev pub memory_of : Held → ℕ → List ℕ → Memory
+memory_of held len words = record { bench = held.bench; records = take len held.all; words = words }
 
 -- of the lent records at most sixteen are looked at
 abbrev pub at_most_sixteen : ℕ → ℕ
 at_most_sixteen len = cond (ltb 16 len) 16 len
 
 -- what a run returns and leaves, with the words and the listing after it
-abbrev pub end_of : ℕ → Finished → List ℕ → List ℕ → Ended
-end_of len r ws list = record { number = r.number; entries = r.entries; written = r.written; memory = memory_of r.bench r.all len ws; listing = list }
+abbrev pub end_of : ℕ → Finished Held → List ℕ → List ℕ → Ended
+end_of len r ws list = record { number = number_told r.outcome; entries = r.entries; written = r.written; memory = memory_of r.held len ws; listing = list }
 
 -- what a part of a text run answers, with the memory and the listing after it
-pub record Answers (len : ℕ) (r : Finished) (ws list : List ℕ) (e : Ended) : Type 0 where
+pub record Answers (len : ℕ) (r : Finished Held) (ws list : List ℕ) (e : Ended) : Type 0 where
   pub same : end_of len r ws list ≡ e
-  pub filled : Filled len r.all.list
+  pub filled : Filled len r.held.all
 
 -- what is lent to a part of a text run
-pub record Lending (len : ℕ) (all : Records) (list : List ℕ) : Type 0 where
+pub record Lending (len : ℕ) (all : List Process) (list : List ℕ) : Type 0 where
   pub few : len ≤ 16
-  pub filled : Filled len all.list
+  pub filled : Filled len all
   pub room : room_needed false ≤ length list
 
--- what a whole text run answers, in one of the two styles, where `all` holds the first sixteen of `len` lent records:
+-- what a whole text run answers, in one of the two styles, where `held` has the first sixteen of `len` lent records:
 -- the run of `semantics`, at any lent memory, with the filler in its place again, and where it stopped
-pub record TextRan (t : Bool) (b : Bench) (all : Records) (len : ℕ) (ws text list : List ℕ) (r : Finished) (ws' list' : List ℕ) : Type 0 where
-  pub same : end_of len r ws' list' ≡ run_with t (memory_of b all len ws) text list
-  pub again : r.all ≡ gathered (take len r.all.list) no_process 16
-  pub stops : StopsAt t (memory_of b all len ws) text list r.report
+pub record TextRan (t : Bool) (held : Held) (len : ℕ) (ws text list : List ℕ) (r : Finished Held) (ws' list' : List ℕ) : Type 0 where
+  pub same : end_of len r ws' list' ≡ run_with t (memory_of held len ws) text list
+  pub again : r.held.all ≡ gathered (take len r.held.all) no_process 16
+  pub stops : StopsAt t (memory_of held len ws) text list r.report
 
 -- the first line is read
 pub record Headed (s : List ℕ) (f : First) : Type 0 where

@@ -3,6 +3,5 @@
 
 #![tactic(auto)]
 
-pub mod last_line;
 pub mod set_up;
 pub mod text_run;

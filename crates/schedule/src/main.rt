@@ -3,6 +3,7 @@
 
 #![tactic(auto)]
 
+use entry::state::Held;
 use std::process::ExitCode;
 
 fn main(rt: HostRuntime) -> ExitCode {
@@ -11,11 +12,10 @@ fn main(rt: HostRuntime) -> ExitCode {
     let given = &text[..got];
     let mut list = console::large_buffer();
     let mut words = [0; 5120];
-    let bench = model::empty_bench();
-    let all = tables::records::records_of(tables::records::no_process());
-    let out = run::text_run::run_by_value(bench, all, 16, &mut words, given, &mut list);
+    let held = Held::empty();
+    let out = run::text_run::run_by_value(held, 16, &mut words, given, &mut list);
     let ended = messages::Ended {
-        number: out.number,
+        outcome: out.outcome,
         entries: out.entries,
         report: out.report,
         text: given,
@@ -25,6 +25,6 @@ fn main(rt: HostRuntime) -> ExitCode {
         &mut rt.stderr(),
         list.get(..out.written),
         ended,
-        messages::figure2::left(out.all),
+        messages::figure2::left(out.held.all),
     )
 }

@@ -15,8 +15,8 @@ use Rattle.model.specs.Replies.{number_of}
 use Rattle.model.specs.Words.{return_area, return_word}
 use Rattle.model.specs.Machine.{Memory}
 use Rattle.model.specs.Command.{command}
-use Rattle.tables.specs.Gathered.{gathered}
-use Rattle.tables.proofs.GatheredLaws.{gathered_length}
+use Rattle.lent.specs.Gathered.{gathered}
+use Rattle.lent.proofs.GatheredLaws.{gathered_length}
 use Rattle.words.proofs.WordLaws.{within}
 use Rattle.machine.specs.Decision.{Outcome, obeyed_at, stored_back}
 use Rattle.machine.proofs.DecisionLaws.{decision_law}
@@ -83,7 +83,7 @@ module _ (m : Memory) (p : ℕ) (o : Order) (v : List ℕ) (e : Every v) (small 
   W = m.bench.w
 
   abbrev list : List Process
-  list = (gathered m.records no_process 16).list
+  list = gathered m.records no_process 16
 
   abbrev len : ℕ
   len = length m.records

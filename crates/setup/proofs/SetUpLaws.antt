@@ -20,11 +20,11 @@ use Rattle.laws.proofs.ListLaws.{sets_append, sets_replicate}
 use Rattle.rows.proofs.RowLaws.{cleared, begins_in_order}
 
 module _ {ℓ} {A : Type ℓ} (f : ℕ → A) where
-  mapped_next : (a k : ℕ) → map f (numbers a (suc k)) ≡ map f (numbers a k) ++ (f (a + k) ∷ [])
+  pub mapped_next : (a k : ℕ) → map f (numbers a (suc k)) ≡ map f (numbers a k) ++ (f (a + k) ∷ [])
   mapped_next a zero = ap (λ (j : ℕ). f j ∷ []) (sym (add-zero a))
   mapped_next a (suc k) = ap (λ (l : List A). f a ∷ l) (mapped_next (suc a) k ∙ ap (λ (j : ℕ). map f (numbers (suc a) k) ++ (f j ∷ [])) (suc-add a k ∙ sym (add-suc a k)))
 
-  mapped_length : (a k : ℕ) → length (map f (numbers a k)) ≡ k
+  pub mapped_length : (a k : ℕ) → length (map f (numbers a k)) ≡ k
   mapped_length a zero = refl
   mapped_length a (suc k) = ap suc (mapped_length (suc a) k)
 

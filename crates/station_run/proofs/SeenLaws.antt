@@ -1,44 +1,41 @@
 -- The processes as record 0 has them: gathered and then seen, or seen and then gathered.
-use mathlib.Core.Path.{◌≡◌, refl, sym, ap, ◌∙◌}
+use mathlib.Core.Path.{◌≡◌, refl, sym, ap, ap₂, ◌∙◌}
 use mathlib.Core.List.{List, [], ◌∷◌, map}
 use Prim.Native.Nat.{ℕ, zero, suc, ◌+◌, ◌≤◌, ◌<◌}
 use native.Mathlib.Omega.{arith}
 use lib.ListN.{length, get_or, set, take, replicate, length-take}
 use lib.Seq.{get_or-take, ext_get_or}
+use Rattle.std.proofs.lemmas.List.{map-set}
 use Rattle.model.specs.declared.Process.{Process}
 use Rattle.model.specs.Records.{no_process}
-use Rattle.tables.specs.declared.records.Records.{Records}
-use Rattle.tables.specs.Gathered.{gathered}
-use Rattle.tables.proofs.GatheredLaws.{gathered_length, gathered_at}
+use Rattle.lent.specs.Gathered.{gathered}
+use Rattle.lent.proofs.GatheredLaws.{gathered_length, gathered_here}
 use Rattle.station.specs.declared.StationProcess.{StationProcess}
-use Rattle.station.specs.Station.{no_station_process}
 use Rattle.station.specs.Projection.{process_of}
 use Rattle.station.specs.StationSetUp.{empty_process}
-use Rattle.lent.specs.Gathered as S
-use Rattle.lent.proofs.GatheredLaws as S'
 use Rattle.station_run.specs.StationText.{record0}
 
 -- the gathered records, as many as are lent, are the first sixteen lent ones
-pub gathered_few : (l : List Process) → take (length l) (gathered l no_process 16).list ≡ take 16 l
+pub gathered_few : (l : List Process) → take (length l) (gathered l no_process 16) ≡ take 16 l
 gathered_few l =
     ext_get_or no_process (take (length l) g) (take 16 l)
     (simp (length-take, gathered_length) (omega arith))
     (λ i s. let a = length-take (length l) g in let b = gathered_length l no_process 16 in let t : i < 16 = omega arith in let u : i < length l = omega arith in
-    get_or-take (length l) g i no_process u ∙ gathered_at l no_process 16 i (omega arith) t ∙ sym (get_or-take 16 l i no_process t))
+    get_or-take (length l) g i no_process u ∙ gathered_here l no_process 16 i (omega arith) t ∙ sym (get_or-take 16 l i no_process t))
   where
     g : List Process
-    g = (gathered l no_process 16).list
+    g = gathered l no_process 16
 
 -- lists that agree below i are gathered alike
 gathered_alike : (l m : List Process) (d : Process) (i : ℕ) → ((j : ℕ) → j < i → get_or l j d ≡ get_or m j d) → gathered l d i ≡ gathered m d i
 unfolding gathered
 gathered_alike l m d zero h = refl
 gathered_alike l m d (suc i) h =
-    ap (λ (r : Records). record { list = set r.list i (get_or l i d) }) (gathered_alike l m d i (λ j lt. h j (omega arith))) ∙
-    ap (λ (q : Process). record { list = set (gathered m d i).list i q }) (h i (omega arith))
+    ap (λ (r : List Process). set r i (get_or l i d)) (gathered_alike l m d i (λ j lt. h j (omega arith))) ∙
+    ap (set (gathered m d i) i) (h i (omega arith))
 
 -- gathered again, they are the same
-pub gathered_again : (l : List Process) → gathered l no_process 16 ≡ gathered (take (length l) (gathered l no_process 16).list) no_process 16
+pub gathered_again : (l : List Process) → gathered l no_process 16 ≡ gathered (take (length l) (gathered l no_process 16)) no_process 16
 gathered_again l =
     gathered_alike l (take 16 l) no_process 16 (λ j lt. sym (get_or-take 16 l j no_process lt)) ∙
     ap (λ (m : List Process). gathered m no_process 16) (sym (gathered_few l))
@@ -52,20 +49,12 @@ map_at [] i = refl
 map_at (q ∷ l) zero = refl
 map_at (q ∷ l) (suc i) = map_at l i
 
-pub seen_gathered : (ps : List StationProcess) → gathered (map seen (S.gathered ps empty_process 16)) no_process 16 ≡ gathered (map seen ps) no_process 16
-seen_gathered ps =
-    gathered_alike (map seen (S.gathered ps empty_process 16)) (map seen ps) no_process 16
-    (λ j h. map_at (S.gathered ps empty_process 16) j ∙ ap seen (S'.gathered_here ps empty_process 16 j (omega arith) h) ∙ sym (map_at ps j))
-
--- before the first record, and one record more
-pub seen_none : (l : List StationProcess) → ◌≡◌ {A = Records} (record { list = replicate 16 no_process }) (gathered (map seen l) no_process 0)
+gathered_seen : (ps : List StationProcess) (i : ℕ) → map seen (gathered ps empty_process i) ≡ gathered (map seen ps) no_process i
 unfolding gathered
-seen_none l = refl
+gathered_seen ps zero = refl
+gathered_seen ps (suc i) =
+    map-set seen (gathered ps empty_process i) i (get_or ps i empty_process)
+    ∙ ap₂ (λ (l : List Process) (q : Process). set l i q) (gathered_seen ps i) (sym (map_at ps i))
 
-pub seen_next : (l : List StationProcess) (i : ℕ) → i < length l
-    → ◌≡◌ {A = Records} (record { list = set (gathered (map seen l) no_process i).list i (seen (get_or l i no_station_process)) }) (gathered (map seen l) no_process (i + 1))
-unfolding gathered
-seen_next l i h =
-    ap (λ (q : Process). record { list = set (gathered (map seen l) no_process i).list i q })
-    (ap seen (S'.same_element l i empty_process no_station_process h) ∙ sym (map_at l i))
-    ∙ ap (gathered (map seen l) no_process) (let z : suc i ≡ i + 1 = omega arith in z)
+pub seen_gathered : (ps : List StationProcess) → map seen (gathered ps empty_process 16) ≡ gathered (map seen ps) no_process 16
+seen_gathered ps = gathered_seen ps 16

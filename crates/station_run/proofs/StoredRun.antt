@@ -12,10 +12,10 @@ use Rattle.model.specs.declared.Bench.{Bench}
 use Rattle.model.specs.declared.Process.{Process}
 use Rattle.model.specs.Records.{no_process}
 use Rattle.model.specs.Machine.{Memory}
-use Rattle.tables.specs.declared.records.Records.{Records}
-use Rattle.tables.specs.Gathered as T
-use Rattle.tables.proofs.GatheredLaws as T'
-use Rattle.run.specs.declared.last_line.Finished.{Finished}
+use Rattle.lent.proofs.GatheredLaws.{gathered_length}
+use Rattle.llsc.specs.Refusals.{number_told}
+use Rattle.entry.specs.declared.state.Held.{Held}
+use Rattle.text_runs.specs.declared.runs.Finished.{Finished}
 use Rattle.run.specs.Finished.{at_most_sixteen, memory_of, end_of, TextRan}
 use Rattle.semantics.specs.TextRun.{Ended, run_text}
 use Rattle.semantics.proofs.TextFrame.{ended_longer, first_sixteen}
@@ -34,7 +34,7 @@ use Rattle.station_run.specs.TextByValue.{bench_before, records_before, station_
 use Rattle.station_run.proofs.RunSizes.{Sized, sized_run}
 use Rattle.station_run.proofs.SeenLaws.{gathered_few, gathered_again, seen_gathered}
 
-module _ (s : Station) (ps : List StationProcess) (ws text list : List ℕ) (out : Finished) (ws' list' : List ℕ) where
+module _ (s : Station) (ps : List StationProcess) (ws text list : List ℕ) (out : Finished Held) (ws' list' : List ℕ) where
   abbrev rs : List Process
   rs = map (process_of record0) ps
 
@@ -43,15 +43,15 @@ module _ (s : Station) (ps : List StationProcess) (ws text list : List ℕ) (out
 
   -- the process records that the run leaves, of however many are lent
   abbrev left : List Process
-  left = take (length rs) out.all.list ++ drop 16 rs
+  left = take (length rs) out.held.all ++ drop 16 rs
 
   abbrev ran : Memory
-  ran = record { bench = out.bench; records = left; words = ws' }
+  ran = record { bench = out.held.bench; records = left; words = ws' }
 
   abbrev answer : Memory → StationEnded
-  answer m = record { number = out.number; entries = out.entries; written = out.written; memory = left_by lent m; listing = list' }
+  answer m = record { number = number_told out.outcome; entries = out.entries; written = out.written; memory = left_by lent m; listing = list' }
 
-  module _ (r : TextRan false (bench_before s) (T.gathered rs no_process 16) (length rs) ws text list out ws' list') where
+  module _ (r : TextRan false (record { bench = bench_before s; all = gathered rs no_process 16 }) (length rs) ws text list out ws' list') where
     whole : run_text (before_run lent) text list ≡ ended_longer (drop 16 rs) (end_of (length rs) out ws' list')
     whole =
         first_sixteen (before_run lent) text list
@@ -65,29 +65,29 @@ module _ (s : Station) (ps : List StationProcess) (ws text list : List ℕ) (out
     sizes : Sized (before_run lent) ran
     sizes = subst (λ (e : Ended). Sized (before_run lent) e.memory) whole (sized_run (before_run lent) refl false text list)
 
-    sixteen : length out.all.list ≡ 16
-    sixteen = ap (λ (a : Records). length a.list) r.again ∙ T'.gathered_length (take (length rs) out.all.list) no_process 16
+    sixteen : length out.held.all ≡ 16
+    sixteen = ap length r.again ∙ gathered_length (take (length rs) out.held.all) no_process 16
 
     abbrev n : ℕ
-    n = out.bench.n
+    n = out.held.bench.n
 
     lent_enough : n ≤ length ps
     lent_enough = omega (arith, sizes.lent, length-map ps (process_of record0))
 
     -- a process record of the run, among all that are lent
-    record_at_is : (p : ℕ) → p < n → get_or out.all.list p no_process ≡ get_or left p no_process
+    record_at_is : (p : ℕ) → p < n → get_or out.held.all p no_process ≡ get_or left p no_process
     record_at_is p h =
         let l = length-map ps (process_of record0) in
-        let few = length-take (length rs) out.all.list in
-        sym (get_or-take (length rs) out.all.list p no_process (omega (arith, h, lent_enough, l)))
-        ∙ sym (get_or-append (take (length rs) out.all.list) (drop 16 rs) no_process p
+        let few = length-take (length rs) out.held.all in
+        sym (get_or-take (length rs) out.held.all p no_process (omega (arith, h, lent_enough, l)))
+        ∙ sym (get_or-append (take (length rs) out.held.all) (drop 16 rs) no_process p
         (omega (arith, h, lent_enough, l, few, sixteen, sizes.most)))
 
     -- the process records put back and stored
-    processes_stored_is : processes_stored ps (firsts (put_at out.all) 0 n (gathered ps empty_process 16)) n ≡ firsts (put_record ran) 0 n ps
+    processes_stored_is : processes_stored ps (firsts (put_at out.held.all) 0 n (gathered ps empty_process 16)) n ≡ firsts (put_record ran) 0 n ps
     processes_stored_is =
-        stored_firsts (put_at out.all) ps n sizes.most lent_enough
-        ∙ firsts_same (put_at out.all) (put_record ran) 0 n ps
+        stored_firsts (put_at out.held.all) ps n sizes.most lent_enough
+        ∙ firsts_same (put_at out.held.all) (put_record ran) 0 n ps
         (λ i q h. ap (put_process record0 q) (record_at_is (0 + i) (omega arith)))
 
     abbrev stored : RunLeft → StationEnded
@@ -101,16 +101,16 @@ module _ (s : Station) (ps : List StationProcess) (ws text list : List ℕ) (out
     unfolding put_back stored_from
     back true e =
         simp e
-        (ap (λ (l : List ℕ). record { number = out.number; entries = out.entries; written = out.written; memory = station_memory s ps l; listing = list' })
+        (ap (λ (l : List ℕ). record { number = number_told out.outcome; entries = out.entries; written = out.written; memory = station_memory s ps l; listing = list' })
         (words_stay (eqb-true n 0 e)))
     back false e =
         let k : at_most_sixteen n ≡ n = ap (λ (b : Bool). cond b 16 n) (le-ltb 16 n sizes.most) in
         simp (e, k)
         (ap (λ (l : List StationProcess). record {
-          number = out.number;
+          number = number_told out.outcome;
           entries = out.entries;
           written = out.written;
-          memory = station_memory (station_ran s out.bench) l ws';
+          memory = station_memory (station_ran s out.held.bench) l ws';
           listing = list';
         }) processes_stored_is)
 
@@ -118,8 +118,8 @@ module _ (s : Station) (ps : List StationProcess) (ws text list : List ℕ) (out
     stored_run_is = back (eqb n 0) refl ∙ sym said
 
 -- so for whatever process records were lent, with what the code took out for the run, and what it put back
-module _ (s : Station) (all : List StationProcess) (len : ℕ) (ws text list : List ℕ) (out : Finished) (ws' list' : List ℕ) where
-  of_lent : TextRan false (bench_before s) (records_before all) len ws text list out ws' list' → StationRan s all len ws text list (put_back s all out) ws' list'
+module _ (s : Station) (all : List StationProcess) (len : ℕ) (ws text list : List ℕ) (out : Finished Held) (ws' list' : List ℕ) where
+  of_lent : TextRan false (record { bench = bench_before s; all = records_before all }) len ws text list out ws' list' → StationRan s all len ws text list (put_back s all out) ws' list'
   of_lent r = record { stored = of }
     where
       of : (ps : List StationProcess) → all ≡ gathered ps empty_process 16 → len ≡ length ps
@@ -127,21 +127,21 @@ module _ (s : Station) (all : List StationProcess) (len : ℕ) (ws text list : L
       of ps e h =
           ap (λ (a : List StationProcess). ended_with (put_back s a out) (processes_stored ps (put_back s a out).all (put_back s a out).stored) ws' list') e
           ∙ stored_run_is s ps ws text list out ws' list'
-          (subst (λ (k : ℕ). TextRan false (bench_before s) (T.gathered (map (process_of record0) ps) no_process 16) k ws text list out ws' list')
+          (subst (λ (k : ℕ). TextRan false (record { bench = bench_before s; all = gathered (map (process_of record0) ps) no_process 16 }) k ws text list out ws' list')
           (h ∙ sym (length-map ps (process_of record0)))
-          (subst (λ (a : Records). TextRan false (bench_before s) a len ws text list out ws' list') (ap records_before e ∙ seen_gathered ps) r))
+          (subst (λ (a : List Process). TextRan false (record { bench = bench_before s; all = a }) len ws text list out ws' list') (ap records_before e ∙ seen_gathered ps) r))
 
-  pub run_put_back : {b : Bench} {rs : Records} {r : RunLeft} → b ≡ bench_before s → rs ≡ records_before all → r ≡ put_back s all out
-      → TextRan false b rs len ws text list out ws' list' → StationRan s all len ws text list r ws' list'
+  pub run_put_back : {b : Bench} {rs : List Process} {r : RunLeft} → b ≡ bench_before s → rs ≡ records_before all → r ≡ put_back s all out
+      → TextRan false (record { bench = b; all = rs }) len ws text list out ws' list' → StationRan s all len ws text list r ws' list'
   run_put_back {b} {rs} {r} eb ers er x =
       subst (λ (y : RunLeft). StationRan s all len ws text list y ws' list') (sym er)
-      (of_lent (subst (λ (a : Records). TextRan false (bench_before s) a len ws text list out ws' list') ers
-      (subst (λ (a : Bench). TextRan false a rs len ws text list out ws' list') eb x)))
+      (of_lent (subst (λ (a : List Process). TextRan false (record { bench = bench_before s; all = a }) len ws text list out ws' list') ers
+      (subst (λ (a : Bench). TextRan false (record { bench = a; all = rs }) len ws text list out ws' list') eb x)))
 
 -- what the run by value asks of its records
-pub records_again : (all : List StationProcess) (len : ℕ) → LentProcesses all len → (rs : Records) → rs ≡ records_before all → rs ≡ T.gathered (take len rs.list) no_process 16
+pub records_again : (all : List StationProcess) (len : ℕ) → LentProcesses all len → (rs : List Process) → rs ≡ records_before all → rs ≡ gathered (take len rs) no_process 16
 records_again all len l rs e =
     let seen : List Process = map (process_of record0) l.lent in
-    let is : rs ≡ T.gathered seen no_process 16 = e ∙ ap records_before l.is ∙ seen_gathered l.lent in
+    let is : rs ≡ gathered seen no_process 16 = e ∙ ap records_before l.is ∙ seen_gathered l.lent in
     let many : length seen ≡ len = length-map l.lent (process_of record0) ∙ sym l.many in
-    is ∙ gathered_again seen ∙ ap₂ (λ (k : ℕ) (a : Records). T.gathered (take k a.list) no_process 16) many (sym is)
+    is ∙ gathered_again seen ∙ ap₂ (λ (k : ℕ) (a : List Process). gathered (take k a) no_process 16) many (sym is)

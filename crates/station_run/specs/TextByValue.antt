@@ -3,9 +3,10 @@
 use Rattle.std.specs.Prelude.{◌≡◌, ℕ, List, map, cond, eqb, length, get_or, set}
 use Rattle.model.specs.declared.Bench.{Bench}
 use Rattle.model.specs.Records.{no_process}
-use Rattle.tables.specs.declared.records.Records.{Records}
-use Rattle.tables.specs.Gathered as T
-use Rattle.run.specs.declared.last_line.Finished.{Finished}
+use Rattle.model.specs.declared.Process.{Process}
+use Rattle.llsc.specs.Refusals.{number_told}
+use Rattle.entry.specs.declared.state.Held.{Held}
+use Rattle.text_runs.specs.declared.runs.Finished.{Finished}
 use Rattle.run.specs.Finished.{at_most_sixteen}
 use Rattle.station.specs.declared.Station.{Station}
 use Rattle.station.specs.declared.StationProcess.{StationProcess}
@@ -21,32 +22,32 @@ abbrev pub bench_before : Station → Bench
 bench_before s = unsized (get_or s.tables 0 no_tables)
 
 -- sixteen processes as record 0 has them
-abbrev pub records_before : List StationProcess → Records
-records_before all = T.gathered (map (process_of record0) all) no_process 16
+abbrev pub records_before : List StationProcess → List Process
+records_before all = map (process_of record0) all
 
 -- the station record after the run
 abbrev pub station_ran : Station → Bench → Station
 station_ran s b = record { n = b.n; w = b.w; r = 1; tables = set s.tables 0 (put_tables b) }
 
 -- what record 0's run made of process p, put back
-abbrev pub put_at : Records → ℕ → StationProcess → StationProcess
-put_at rs p q = put_process record0 q (get_or rs.list p no_process)
+abbrev pub put_at : List Process → ℕ → StationProcess → StationProcess
+put_at rs p q = put_process record0 q (get_or rs p no_process)
 
-abbrev pub processes_ran : List StationProcess → Records → ℕ → List StationProcess
+abbrev pub processes_ran : List StationProcess → List Process → ℕ → List StationProcess
 processes_ran all rs k = firsts (put_at rs) 0 k all
 
-abbrev pub left_with : Station → List StationProcess → ℕ → Finished → RunLeft
-left_with s all k out = record { station = s; all = all; stored = k; number = out.number; entries = out.entries; written = out.written }
+abbrev pub left_with : Station → List StationProcess → ℕ → Finished Held → RunLeft
+left_with s all k out = record { station = s; all = all; stored = k; outcome = out.outcome; entries = out.entries; written = out.written }
 
-unfoldable pub put_back : Station → List StationProcess → Finished → RunLeft
+unfoldable pub put_back : Station → List StationProcess → Finished Held → RunLeft
 put_back s all out =
-    cond (eqb out.bench.n 0) (left_with s all 0 out)
-    (left_with (station_ran s out.bench) (processes_ran all out.all (at_most_sixteen out.bench.n)) (at_most_sixteen out.bench.n) out)
+    cond (eqb out.held.bench.n 0) (left_with s all 0 out)
+    (left_with (station_ran s out.held.bench) (processes_ran all out.held.all (at_most_sixteen out.held.bench.n)) (at_most_sixteen out.held.bench.n) out)
 
 -- what a run returns and leaves, with the process records, the words and the listing after it
 abbrev pub ended_with : RunLeft → List StationProcess → List ℕ → List ℕ → StationEnded
 ended_with r ps ws list =
-    record { number = r.number; entries = r.entries; written = r.written; memory = station_memory r.station ps ws; listing = list }
+    record { number = number_told r.outcome; entries = r.entries; written = r.written; memory = station_memory r.station ps ws; listing = list }
 
 -- what a text run answers where `all` holds the first sixteen of `len` lent process records: stored back, the run of
 -- `station_run_text`

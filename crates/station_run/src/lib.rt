@@ -4,24 +4,27 @@
 #![tactic(auto)]
 
 ghost use Rattle.std.specs.Prelude.{◌≡◌, ◌≤◌};
+ghost use Rattle.station.specs.Projection.{process_of};
 ghost use Rattle.station_records.specs.Gathered.{LentProcesses};
+ghost use Rattle.station_run.specs.StationText.{record0};
 ghost use Rattle.station_run.specs.TextByValue.{bench_before, records_before, station_ran, processes_ran, put_back, StationRan};
 
-use model::Bench;
-use run::last_line::Finished;
+use entry::state::Held;
+use llsc::refusals::Refusal;
+use model::{Bench, Process};
 use run::text_run;
 use station::{RecordNumber, Station, StationProcess, Tables};
-use tables::records;
-use tables::records::Records;
+use text_runs::runs::Finished;
 
-// What a text run leaves of the station and the process records, how many of these to store back, and what it returns:
-// its number, 0 at `end`, the entries done and the listing bytes written.
+// What a text run leaves of the station and the process records, how many of these to store back, none where it was
+// refused before its set-up, and what it returns: why it was refused, if it was, the entries done and the listing bytes
+// written.
 #[derive(Clone, Copy)]
 pub struct RunLeft {
     pub station: Station,
     pub all: [StationProcess; 16],
     pub stored: usize,
-    pub number: u8,
+    pub outcome: Result<(), Refusal>,
     pub entries: usize,
     pub written: usize,
 }
@@ -40,15 +43,17 @@ fn bench_before(station: Station) -> Bench
     }
 }
 
-// The processes as record 0 has them.
-fn records_before(all: [StationProcess; 16]) -> Records
+// A process as record 0 has it.
+fn seen(process: StationProcess) -> Process
+    ensures { result ≡ process_of record0 process }
+{
+    station_records::process_of(RecordNumber(0), process)
+}
+
+fn records_before(all: [StationProcess; 16]) -> [Process; 16]
     ensures { result ≡ records_before all }
 {
-    let mut next = records::records_of(records::no_process());
-    for i in 0..16 {
-        next.list[i] = station_records::process_of(RecordNumber(0), all[i]);
-    }
-    next
+    all.map(|process| seen(process))
 }
 
 // N, W, R = 1 and the tables of record 0.
@@ -65,37 +70,36 @@ fn station_ran(station: Station, bench: Bench) -> Station
 // The first `count` processes, with what record 0's run made of them.
 fn processes_ran(
     mut all: [StationProcess; 16],
-    records: Records,
+    records: [Process; 16],
     count: usize,
 ) -> [StationProcess; 16]
     requires { count ≤ 16 }
     ensures { result ≡ processes_ran all records count }
 {
     for i in 0..count {
-        all[i] = station_records::put_process(RecordNumber(0), all[i], records.list[i]);
+        all[i] = station_records::put_process(RecordNumber(0), all[i], records[i]);
     }
     all
 }
 
 // Where N is still 0, the run was refused before its set-up, and nothing is to be stored.
 #[tactic(auto, unfolding(crate::specs::TextByValue::put_back))]
-fn put_back(station: Station, all: [StationProcess; 16], out: Finished) -> RunLeft
+fn put_back(station: Station, all: [StationProcess; 16], out: Finished<Held>) -> RunLeft
     ensures { result ≡ put_back station all out }
 {
-    let Finished {
+    let Held {
         bench,
         all: records,
-        number,
-        entries,
-        written,
-        ..
-    } = out;
+    } = out.held;
+    let outcome = out.outcome;
+    let entries = out.entries;
+    let written = out.written;
     if bench.n == 0 {
         return RunLeft {
             station,
             all,
             stored: 0,
-            number,
+            outcome,
             entries,
             written,
         };
@@ -106,7 +110,7 @@ fn put_back(station: Station, all: [StationProcess; 16], out: Finished) -> RunLe
         station: station_ran(station, bench),
         all,
         stored,
-        number,
+        outcome,
         entries,
         written,
     }
@@ -125,8 +129,10 @@ pub fn run_by_value(
     ensures { StationRan station all len words.old text.now listing.old
         result words.new listing.new }
 {
-    let bench = bench_before(station);
-    let records = records_before(all);
-    let out = text_run::run_by_value(bench, records, len, words, text, listing);
+    let held = Held {
+        bench: bench_before(station),
+        all: records_before(all),
+    };
+    let out = text_run::run_by_value(held, len, words, text, listing);
     put_back(station, all, out)
 }

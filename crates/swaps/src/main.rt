@@ -4,6 +4,7 @@
 
 #![tactic(auto)]
 
+use entry::state::Held;
 use std::alloc::AllocError;
 use std::process::ExitCode;
 
@@ -16,13 +17,12 @@ fn main(rt: HostRuntime) -> Result<ExitCode, AllocError> {
     // room for it with two columns before each line
     let mut marked = vec![in rt.alloc(); 0; 3265730]?;
     let mut words = [0; 5120];
-    let bench = model::empty_bench();
-    let all = tables::records::records_of(tables::records::no_process());
-    let out = run::text_run::trace_by_value(bench, all, 16, &mut words, given, &mut list);
+    let held = Held::empty();
+    let out = run::text_run::trace_by_value(held, 16, &mut words, given, &mut list);
     let trace = &list[..out.written.min(list.len())];
     let count = marking::output::mark_lines(trace, &mut marked);
     let ended = messages::Ended {
-        number: out.number,
+        outcome: out.outcome,
         entries: out.entries,
         report: out.report,
         text: given,
@@ -32,7 +32,7 @@ fn main(rt: HostRuntime) -> Result<ExitCode, AllocError> {
         &mut rt.stderr(),
         marked.get(..count),
         ended,
-        messages::figure2::left(out.all),
+        messages::figure2::left(out.held.all),
     );
     Ok(status)
 }

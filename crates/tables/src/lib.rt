@@ -1,12 +1,10 @@
-// The tables of the bench record, each reached only by its own kind of number; the process records are in `records`.
+// The tables of the bench record, each reached only by its own kind of number.
 // A table that is worked on where it stands is indexed by what its own function here makes of its kind (`bank_place`).
 
 #![tactic(auto)]
 
 ghost use Rattle.std.specs.Prelude.{◌≡◌, ◌<◌};
 ghost use Rattle.model.specs.Tables.{bank_at, help_at, put_x, put_bank, put_help};
-
-pub mod records;
 
 use llsc::ProcessNumber;
 use model::{BankPlace, Bench, HelpPlace, SequenceNumber, XPlace};

@@ -8,3 +8,4 @@ pub mod MiddleLaws
 pub mod TextLaws
 pub mod StopLaws
 pub mod FaultLaws
+pub mod LastLaws

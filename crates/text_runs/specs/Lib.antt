@@ -4,3 +4,4 @@ pub mod StopPlaces
 pub mod RunCommands
 pub mod KeptEntries
 pub mod Parts
+pub mod Runs

@@ -7,3 +7,4 @@ pub mod last_lines;
 pub mod limits;
 pub mod lists;
 pub mod reports;
+pub mod runs;

@@ -1,9 +1,11 @@
 // Where a run stopped, for its messages.
 ghost use Rattle.std.specs.Prelude.{◌≡◌, cond, ◌<◌, eqb, length, get_or};
+ghost use Rattle.llsc.specs.Refusals.{number_told};
 ghost use Rattle.text_runs.specs.StopPlaces.{reported_process, at_no_item};
 ghost use Rattle.text_runs.specs.KeptEntries.{word_item, word_report};
 
 use crate::entries;
+use llsc::refusals::Refusal;
 use notation::entry_words;
 use positions::{Item, Sizes, StopReport};
 
@@ -25,14 +27,19 @@ fn word_item(word: u64) -> Item
 }
 
 // The item that stopped a run at a place of its list; none where none did.
-pub fn stop_report(n: u64, w: u64, stop: u8, kept: &[u64], at: usize) -> StopReport
-    requires { (stop ≡ 0 → ⊥) → at < length kept.now }
-    ensures { result ≡ cond (eqb stop 0) (at_no_item n w) (word_report n w (get_or kept.now at 0)) }
+pub fn stop_report(
+    n: u64,
+    w: u64,
+    outcome: Result<(), Refusal>,
+    kept: &[u64],
+    at: usize,
+) -> StopReport
+    requires { (number_told outcome ≡ 0 → ⊥) → at < length kept.now }
+    ensures { result ≡ cond (eqb (number_told outcome) 0) (at_no_item n w) (word_report n w (get_or kept.now at 0)) }
 {
     let sizes = Sizes { n, w };
-    if stop == 0 {
-        StopReport::AtNoItem(sizes)
-    } else {
-        StopReport::AtItem(sizes, word_item(kept[at]))
+    match outcome {
+        Ok(()) => StopReport::AtNoItem(sizes),
+        Err(_) => StopReport::AtItem(sizes, word_item(kept[at])),
     }
 }

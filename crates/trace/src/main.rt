@@ -3,6 +3,7 @@
 
 #![tactic(auto)]
 
+use entry::state::Held;
 use std::alloc::AllocError;
 use std::process::ExitCode;
 
@@ -13,11 +14,10 @@ fn main(rt: HostRuntime) -> Result<ExitCode, AllocError> {
     // room for the trace of 60,000 entries
     let mut list = vec![in rt.alloc(); 0; 3145728]?;
     let mut words = [0; 5120];
-    let bench = model::empty_bench();
-    let all = tables::records::records_of(tables::records::no_process());
-    let out = run::text_run::trace_by_value(bench, all, 16, &mut words, given, &mut list);
+    let held = Held::empty();
+    let out = run::text_run::trace_by_value(held, 16, &mut words, given, &mut list);
     let ended = messages::Ended {
-        number: out.number,
+        outcome: out.outcome,
         entries: out.entries,
         report: out.report,
         text: given,
@@ -27,7 +27,7 @@ fn main(rt: HostRuntime) -> Result<ExitCode, AllocError> {
         &mut rt.stderr(),
         list.get(..out.written),
         ended,
-        messages::figure2::left(out.all),
+        messages::figure2::left(out.held.all),
     );
     Ok(status)
 }

@@ -2,14 +2,15 @@
 use mathlib.Core.Path.{refl, sym, ◌∙◌}
 use native.Mathlib.Omega.{arith}
 use Rattle.std.proofs.Common.{rules}
-use Rattle.carrying.proofs.LoopLaws.{in_list, from_run, first_head, head_all, looking, place_small, taken_at_lem, loop_refused, not_refused, is_refused}
+use Rattle.llsc.proofs.RefusalNumbers.{number_some}
+use Rattle.carrying.proofs.LoopLaws.{in_list, first_head, head_all, looking, place_small, taken_at_lem, loop_refused, not_refused}
 use Rattle.carrying.proofs.LoopLaws.{loop_sized, loop_more, loop_bank, loop_help, loop_turnable, loop_over, loop_further}
 use Rattle.carrying.proofs.carry_out.Goals as goal
 use Rattle.carrying.proofs.carry_out.Goals.{else-loop-at-test, then-loop-at-test+in-Err}
 
 pub loop-at-init : goal.loop-at-init
 loop-at-init c =
-    (first_head c.requires.0 c.requires.1 c.requires.2 refl refl c.room_needed-needed.ensures, (refl, refl))
+    (first_head c.requires.0 c.requires.1 refl refl c.room_needed-needed.ensures, (refl, refl))
 
 pub bounds-entries-at : goal.bounds-entries-at
 bounds-entries-at c =
@@ -163,9 +164,9 @@ loop-at-preserved c =
 pub returns : goal.returns
 returns c =
     elim c.loop-at-test.branch [
-      | else-loop-at-test w ↦ in_list {l = c.loop-at.to.list.now} (search rules) (from_run c.requires.2 (rw (w.stop-is, c.loop-at.invariant.1.0) (head_all c.loop-at.invariant.0 w.loop-at-test.false)))
+      | else-loop-at-test w ↦ in_list {l = c.loop-at.to.list.now} (search rules) (rw (w.outcome-is, c.loop-at.invariant.1.0) (head_all c.loop-at.invariant.0 w.loop-at-test.false))
       | then-loop-at-test+in-Err w ↦
           let x = looking c.loop-at.invariant.0 w.loop-at-test.true w.entry_in-e.ensures w.process_of-p.ensures w.process_number-k.ensures
           w.record_place.ensures w.order_of-order.ensures in
-          in_list {l = c.loop-at.to.list.now} (search rules) (from_run c.requires.2 (rw w.stop-is (loop_refused x (w.number-stop.ensures ∙ w.in-Err.ensures) (is_refused w.in-Err.refusal w.number-stop.ensures))))
+          in_list {l = c.loop-at.to.list.now} (search rules) (rw w.outcome-is (loop_refused x w.in-Err.ensures (number_some w.in-Err.refusal)))
     ]

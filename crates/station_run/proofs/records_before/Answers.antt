@@ -1,17 +1,26 @@
--- `station_run::records_before` meets its contract: the processes below i are seen.
-use mathlib.Core.Path.{◌≡◌, ap, ◌∙◌}
+-- `station_run::records_before`: each process as record 0 has it.
+use mathlib.Core.Path.{◌≡◌, refl, sym, ◌∙◌}
 use mathlib.Core.List.{List, map}
+use Prim.Native.Nat.{ℕ, ◌<◌}
 use native.Mathlib.Omega.{arith}
-use lib.ListN.{length}
-use Rattle.station_run.proofs.SeenLaws.{seen_none, seen_next}
 use borrow.Author.Rules.{rules}
+use lib.ListN.{length, get_or, length-map}
+use lib.Seq.{ext_get_or}
+use Rattle.model.specs.declared.Process.{Process}
+use Rattle.model.specs.Records.{no_process}
+use Rattle.station.specs.StationSetUp.{empty_process}
+use Rattle.station.specs.Projection.{process_of}
+use Rattle.station_run.specs.StationText.{record0}
+use Rattle.station_run.specs.TextByValue.{records_before}
+use Rattle.station_run.proofs.SeenLaws.{map_at}
 use Rattle.station_run.proofs.records_before.Goals as goal
 
-pub loop-i-init : goal.loop-i-init
-loop-i-init c = c.records_of-next.ensures ∙ simp c.no_process.ensures (seen_none c.args.all)
-
-pub loop-i-preserved : goal.loop-i-preserved
-loop-i-preserved c =
+pub returns : goal.returns
+returns c =
     let l = c.args.all in
+    let m = c.map.ensures.items in
     let sixteen : length l ≡ 16 = omega arith in
-    simp (c.process_of.ensures, c.loop-i.invariant) (seen_next l c.loop-i.i (omega (arith, sixteen)))
+    let few : length c.map.result ≡ length (records_before l) = m.long ∙ sym (length-map l (process_of record0) ∙ sixteen) in
+    ext_get_or no_process c.map.result (records_before l) few
+    (λ i h. let k : i < 16 = omega (arith, h, few, m.long) in let a = (m.at i empty_process no_process k).2 in
+    let e : get_or c.map.result i no_process ≡ process_of record0 (get_or l i empty_process) = search rules in e ∙ sym (map_at l i))

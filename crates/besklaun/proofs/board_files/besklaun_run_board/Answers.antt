@@ -1,12 +1,10 @@
+-- `besklaun::board_files::besklaun_run_board`: the run by value is the run on a bench of its own.
 use Rattle.run.proofs.RecordLaws.{fillers}
 use Rattle.besklaun.proofs.BoardRunLaws.{board_alone}
 use Rattle.besklaun.proofs.board_files.besklaun_run_board.Goals as goal
 
 pub run_listed-out-requires : goal.run_listed-out-requires
-run_listed-out-requires c =
-    fillers c.no_process.result c.records_of-all.result c.no_process.ensures c.records_of-all.ensures
+run_listed-out-requires c = fillers _ c.empty-held.ensures
 
 pub returns : goal.returns
-returns c =
-    let filler = c.no_process in let bench = c.empty_bench-bench in
-    board_alone _ filler.result _ _ _ _ _ _ c.run_listed-out.result _ _ bench.ensures filler.ensures c.records_of-all.ensures c.run_listed-out.ensures
+returns c = board_alone _ _ _ _ _ _ c.run_listed-out.result _ _ c.empty-held.ensures c.run_listed-out.ensures

@@ -4,17 +4,13 @@ use Rattle.besklaun.proofs.OwnBenchLaws.{ran_alone}
 use Rattle.besklaun.proofs.texts.own_run.Goals as goal
 
 pub trace_by_value-out-requires : goal.trace_by_value-out-requires
-trace_by_value-out-requires c = fillers _ _ c.no_process.ensures c.records_of-all.ensures
+trace_by_value-out-requires c = fillers _ c.empty-held.ensures
 
 pub run_by_value-out-requires : goal.run_by_value-out-requires
-run_by_value-out-requires c = fillers _ _ c.no_process.ensures c.records_of-all.ensures
+run_by_value-out-requires c = fillers _ c.empty-held.ensures
 
 pub returns-then-traced : goal.returns-then-traced
-returns-then-traced c =
-    let bench = c.empty_bench-bench.ensures in let filler = c.no_process.ensures in
-    rw c.if-traced.true (ran_alone _ _ _ _ _ _ _ _ _ bench filler c.records_of-all.ensures c.trace_by_value-out.ensures)
+returns-then-traced c = rw c.if-traced.true (ran_alone _ _ _ _ _ _ _ c.empty-held.ensures c.trace_by_value-out.ensures)
 
 pub returns-else-traced : goal.returns-else-traced
-returns-else-traced c =
-    let bench = c.empty_bench-bench.ensures in let filler = c.no_process.ensures in
-    rw c.if-traced.false (ran_alone _ _ _ _ _ _ _ _ _ bench filler c.records_of-all.ensures c.run_by_value-out.ensures)
+returns-else-traced c = rw c.if-traced.false (ran_alone _ _ _ _ _ _ _ c.empty-held.ensures c.run_by_value-out.ensures)

@@ -1,5 +1,6 @@
 -- `board_commands::commands::order_of` meets its contract.
 use mathlib.Core.Path.{sym, ap}
+use native.Mathlib.Omega.{arith}
 use borrow.Author.Tests.{ne_eqb}
 use Rattle.board_commands.specs.BoardRun.{order_of}
 use Rattle.board_commands.proofs.commands.order_of.Goals as goal
@@ -15,5 +16,5 @@ returns-in-2 c = ap order_of (sym c.in-2.is)
 
 pub returns-in_default : goal.returns-in_default
 returns-in_default c =
-    let b = c.args.byte in let r = c.in_default.in_default-own.rest in
-    simp (ne_eqb b 0 r.0.0.1, ne_eqb b 1 r.0.1, ne_eqb b 2 r.1)
+    let b = c.args.byte in
+    simp (ne_eqb b 0 (λ z. omega (arith, z)), ne_eqb b 1 (λ z. omega (arith, z)), ne_eqb b 2 (λ z. omega (arith, z)))

@@ -1,7 +1,8 @@
 -- `board_commands::running::run_records` meets its contract.
-use Prim.Native.Nat.{◌+◌, ◌-◌, ◌*◌}
-use mathlib.Core.Path.{◌≡◌}
+use mathlib.Core.Path.{◌≡◌, ap, ◌∙◌}
 use native.Mathlib.Omega.{arith}
+use lib.ListN.{length}
+use Rattle.board_commands.specs.ByValue.{left_with}
 use Rattle.board_commands.proofs.CommandLaws.{accepted_place}
 use Rattle.board_commands.proofs.RunLaws.{refused, goes_on, ended}
 use Rattle.board_commands.proofs.running.run_records.Goals as goal
@@ -22,11 +23,9 @@ bounds-all-out c =
 
 pub loop-done-preserved : goal.loop-done-preserved
 loop-done-preserved c =
-    let from = c.args.from in let done = c.loop-done.done in
-    goes_on c.loop-done.invariant (omega (arith, c.loop-done-test.true)) _ _ c.in-Ok.ensures c.decide_at.auto.words
-    (from.count - (done + 1)) (from.at + (done + 1) * 12) (omega arith) (omega arith)
+    goes_on c.loop-done.invariant (omega (arith, c.loop-done-test.true)) _ _ c.in-Ok.ensures c.decide.auto.words
 
 pub returns : goal.returns
 returns c =
-    let all : c.loop-done.done ≡ c.args.from.count = omega (arith, c.loop-done-test.false, c.loop-done.auto.done-end) in
-    ended c.loop-done.invariant (omega (arith, all)) _ (rw all c.left_with-2.ensures)
+    let all : length c.args.records.now ≡ c.loop-done.done = omega (arith, c.loop-done-test.false, c.loop-done.auto.done-end) in
+    ended c.loop-done.invariant (omega (arith, all)) _ (c.left_with-2.ensures ∙ ap (left_with c.loop-done.station c.loop-done.all 0) all)

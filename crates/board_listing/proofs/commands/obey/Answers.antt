@@ -4,4 +4,4 @@ use Rattle.board_listing.proofs.commands.obey.Goals as goal
 
 pub returns : goal.returns
 returns c =
-    only_entry _ c.args.e c.requires.0 c.word_of.ensures.0 c.carry_out-carried.ensures
+    only_entry _ c.args.e c.requires.0 c.word_of.ensures.0 c.carry_out.ensures

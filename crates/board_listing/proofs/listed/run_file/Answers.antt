@@ -1,33 +1,21 @@
 -- `board_listing::listed::run_file`: refused by its rows, or run.
-use mathlib.Core.Path.{sym, ◌∙◌}
-use Rattle.board_rows.proofs.FileRows.{has_trailer, long_enough}
-use Rattle.board_listing.proofs.ListedLaws.{file_small, file_refused, records_there, records_few, file_run_is}
+use mathlib.Core.Path.{sym}
+use native.Mathlib.Omega.{arith}
+use Rattle.board_listing.proofs.ListedLaws.{file_small, file_refused, file_run_is}
 use Rattle.board_listing.proofs.listed.run_file.Goals as goal
 
 pub refused-requires : goal.refused-requires
-refused-requires c =
-    (file_small _ (c.number_of-number.ensures ∙ c.file_refusal.ensures), c.requires.2)
-
-pub returns-then-number-ne0 : goal.returns-then-number-ne0
-returns-then-number-ne0 c =
-    let a = c.args in
-    file_refused a.run a.words.now a.file.now a.list.now (c.number_of-number.ensures ∙ c.file_refusal.ensures) c.if-number-ne0.true c.refused.ensures
-
-pub records_of-from-requires : goal.records_of-from-requires
-records_of-from-requires c =
-    long_enough c.args.file.now (has_trailer c.args.file.now (sym (c.number_of-number.ensures ∙ c.file_refusal.ensures) ∙ c.if-number-ne0.false))
+refused-requires c = (file_small c.args.file.now (sym c.in-Err.ensures), c.requires.2)
 
 pub obey_records-done-requires : goal.obey_records-done-requires
-obey_records-done-requires c =
-    let x = c.args in
-    let f = c.records_of-from in (
-      records_there x.run x.words.now x.file.now x.list.now (c.number_of-number.ensures ∙ c.file_refusal.ensures) c.if-number-ne0.false _ f.ensures,
-      c.requires.0,
-      records_few x.run x.words.now x.file.now x.list.now (c.number_of-number.ensures ∙ c.file_refusal.ensures) c.if-number-ne0.false _ f.ensures,
-    )
+obey_records-done-requires c = (c.requires.0, omega (arith, c.in-Ok.ensures.few))
 
-pub returns : goal.returns
-returns c =
+pub returns-in-Ok : goal.returns-in-Ok
+returns-in-Ok c =
     let x = c.args in
-    file_run_is x.run x.words.now x.file.now x.list.now (c.number_of-number.ensures ∙ c.file_refusal.ensures) c.if-number-ne0.false _ c.records_of-from.ensures c.requires.1
-    c.obey_records-done.ensures c.close.ensures
+    file_run_is x.run x.words.now x.file.now x.list.now c.in-Ok.ensures c.requires.1 c.obey_records-done.ensures c.close.ensures
+
+pub returns-in-Err : goal.returns-in-Err
+returns-in-Err c =
+    let x = c.args in
+    file_refused x.run x.words.now x.file.now x.list.now _ c.in-Err.ensures c.refused.ensures

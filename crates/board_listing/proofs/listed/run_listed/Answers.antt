@@ -6,11 +6,11 @@ use Rattle.board_listing.proofs.listed.run_listed.Goals as goal
 pub returns-then-list-lt-LISTING_ROOM : goal.returns-then-list-lt-LISTING_ROOM
 returns-then-list-lt-LISTING_ROOM c =
     let x = c.args in
-    rw (c.fresh.ensures, c.number.ensures)
-    (no_room (memory_of x.bench x.all 16 x.words.now) x.n x.w x.initial x.file.now x.list.now c.if-list-lt-LISTING_ROOM.true)
+    rw c.fresh.ensures
+    (no_room (memory_of x.held 16 x.words.now) x.n x.w x.initial x.file.now x.list.now c.if-list-lt-LISTING_ROOM.true)
 
 pub returns : goal.returns
 returns c =
     let x = c.args in
-    with_room (memory_of x.bench x.all 16 x.words.now) x.n x.w x.initial x.file.now x.list.now
+    with_room (memory_of x.held 16 x.words.now) x.n x.w x.initial x.file.now x.list.now
     c.if-list-lt-LISTING_ROOM.false c.set_up_and_run.ensures

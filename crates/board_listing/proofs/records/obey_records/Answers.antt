@@ -1,47 +1,31 @@
 -- `board_listing::records::obey_records`: the loop over a file's records.
-use mathlib.Core.Path.{◌≡◌, ap, ◌∙◌}
+use mathlib.Core.Path.{◌≡◌, refl, ap, ◌∙◌}
 use native.Mathlib.Omega.{arith}
+use lib.ListN.{length}
+use Rattle.llsc.proofs.RefusalNumbers.{number_some}
+use Rattle.carrying.proofs.LoopLaws.{not_refused}
 use Rattle.board_listing.specs.ListedRun.{with_entries}
-use Rattle.board_listing.proofs.LoopLaws.{with_left, first_record, refused, goes_on, all_done}
+use Rattle.board_listing.proofs.LoopLaws.{first_record, refused, goes_on, all_done}
 use Rattle.board_listing.proofs.records.obey_records.Goals as goal
 
 pub loop-done-init : goal.loop-done-init
-loop-done-init c = with_left (omega arith) (first_record _ _ _ _ c.args.from.count _ c.requires.0 c.requires.2 c.requires.1)
-
-pub entry_of-e-requires : goal.entry_of-e-requires
-entry_of-e-requires c = omega (arith, c.loop-done.invariant.there, c.loop-done-test.true)
+loop-done-init c = first_record _ _ _ _ c.requires.0
 
 pub obey-next-requires : goal.obey-next-requires
 obey-next-requires c = (c.loop-done.invariant.between, c.entry_of-e.ensures.1)
 
-pub shape_of-words-then-next-ne0 : goal.shape_of-words-then-next-ne0
-shape_of-words-then-next-ne0 c = c.obey-next.ensures.kept.words ∙ c.loop-done.invariant.words
-
-pub shape_of-list-then-next-ne0 : goal.shape_of-list-then-next-ne0
-shape_of-list-then-next-ne0 c = c.obey-next.ensures.kept.listing ∙ c.loop-done.invariant.listing
-
-pub returns-then-next-ne0 : goal.returns-then-next-ne0
-returns-then-next-ne0 c =
-    refused c.loop-done.invariant (omega (arith, c.loop-done-test.true)) c.entry_of-e.ensures.0 c.entry_of-e.ensures.1 c.obey-next.ensures
-    c.if-next-ne0.true _ c.with_entries.ensures
-
-pub overflow_add-at : goal.overflow_add-at
-overflow_add-at c =
-    record { fits = omega (arith, c.loop-done.invariant.there, c.loop-done-test.true, c.type_inv) }
+pub returns-in-Err : goal.returns-in-Err
+returns-in-Err c =
+    let made = rw c.in-Err.is at c.obey-next.ensures in
+    refused c.loop-done.invariant (omega (arith, c.loop-done-test.true)) c.entry_of-e.ensures.0 c.entry_of-e.ensures.1 made
+    c.requires.1 (number_some c.in-Err.cause) _ c.with_entries.ensures
 
 pub loop-done-preserved : goal.loop-done-preserved
 loop-done-preserved c =
-    with_left (omega arith)
-    (goes_on c.loop-done.invariant (omega (arith, c.loop-done-test.true)) c.entry_of-e.ensures.0 c.entry_of-e.ensures.1 c.obey-next.ensures
-    c.if-next-ne0.false _ c.with_entries-state.ensures)
-
-pub shape_of-words : goal.shape_of-words
-shape_of-words c = c.loop-done.invariant.words
-
-pub shape_of-list : goal.shape_of-list
-shape_of-list c = c.loop-done.invariant.listing
+    goes_on c.loop-done.invariant (omega (arith, c.loop-done-test.true)) c.entry_of-e.ensures.0 c.entry_of-e.ensures.1 c.obey-next.ensures
+    (not_refused c.obey-next.result.outcome refl c.in_default.not-Err) _ c.with_entries-state.ensures
 
 pub returns : goal.returns
 returns c =
-    let all : c.args.from.count ≡ c.loop-done.done = omega (arith, c.loop-done-test.false) in
-    all_done c.loop-done.invariant (omega (arith, c.loop-done-test.false)) _ (c.with_entries-2.ensures ∙ ap (with_entries c.loop-done.state) all)
+    let all : length c.args.records.now ≡ c.loop-done.done = omega (arith, c.loop-done-test.false, c.loop-done.auto.done-end) in
+    all_done c.loop-done.invariant c.requires.1 all _ (c.with_entries-2.ensures ∙ ap (with_entries c.loop-done.state) all)

@@ -1,7 +1,8 @@
 -- `boards::processes::marked` meets its contract.
-use Prim.Native.Nat.{◌+◌, ◌-◌, ◌*◌}
-use Rattle.boards.proofs.ProcessLaws.{Marking}
+use mathlib.Core.Path.{◌≡◌}
+use lib.ListN.{drop}
+use Rattle.boards.specs.Places.{read, marks}
 use Rattle.boards.proofs.processes.marked.Given as goal
 
-abbrev pub invariant-loop-i : goal.invariant-loop-i
-invariant-loop-i l = Marking l.s l.initial.table l.from.count l.from.at l.table (l.from.count - l.i) (l.from.at + 12 * l.i)
+abbrev pub invariant-loop-record : goal.invariant-loop-record
+invariant-loop-record l = marks (read l.records) l.initial.table ≡ marks (read (drop l.record-index l.records)) l.table

@@ -1,7 +1,8 @@
 -- `boards::records::good_records` meets its contract.
-use Prim.Native.Nat.{◌+◌, ◌-◌, ◌*◌}
-use Rattle.boards.proofs.FrontLaws.{Rising}
+use mathlib.Core.Path.{◌≡◌}
+use lib.ListN.{drop}
+use Rattle.boards.specs.Places.{good_from}
 use Rattle.boards.proofs.records.good_records.Given as goal
 
-abbrev pub invariant-loop-i : goal.invariant-loop-i
-invariant-loop-i l = Rising l.s l.from.count l.from.at (l.from.count - l.i) (l.from.at + 12 * l.i) l.tick
+abbrev pub invariant-loop-record : goal.invariant-loop-record
+invariant-loop-record l = good_from 0 l.records ≡ good_from l.last (drop l.record-index l.records)

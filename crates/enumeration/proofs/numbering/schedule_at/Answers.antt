@@ -6,10 +6,10 @@ use borrow.Author.Rules.{rules}
 use Rattle.enumeration.proofs.numbering.schedule_at.Goals as goal
 
 pub loop-i-init : goal.loop-i-init
-loop-i-init c = fill_begins _ _ _ c.requires.0 c.requires.1 c.requires.2
+loop-i-init c = fill_begins _ _ _ c.args.totals.few.0 c.args.totals.few.1 c.requires
 
 pub loop-i-preserved : goal.loop-i-preserved
 loop-i-preserved c = fill_goes_on _ _ _ _ _ _ _ _ c.loop-i.invariant (search rules) _ c.choose-c.ensures
 
 pub returns : goal.returns
-returns c = ap (λ ts. record { count = c.args.a + c.args.b; turns = ts }) (fill_ends _ _ _ _ _ _ _ _ c.loop-i.invariant (omega (arith, c.loop-i.invariant.left)))
+returns c = ap (λ ts. record { count = c.args.totals.a + c.args.totals.b; turns = ts }) (fill_ends _ _ _ _ _ _ _ _ c.loop-i.invariant (omega (arith, c.loop-i.invariant.left)))

@@ -2,8 +2,6 @@
 use mathlib.Core.Path.{ap, ◌∙◌}
 use Prim.Native.Nat.{ℕ}
 use native.Mathlib.Omega.{arith}
-use Rattle.positions.specs.declared.StopReport.TheVariants.{NotRead}
-use Rattle.moir_run.specs.Finished.{finished_of}
 use Rattle.text_runs.proofs.TextLaws.{run_12, run_not_headed, run_headed}
 use Rattle.text_runs.proofs.StopLaws.{report_is, line_stops, stops_12, stops_looked}
 use Rattle.moir_semantics.specs.TextRun.{figure6}
@@ -14,9 +12,7 @@ use Rattle.moir_run.proofs.texts.run_text.Goals as goal
 pub returns-then-list-room_needed : goal.returns-then-list-room_needed
 returns-then-list-room_needed c =
     let a = c.args in
-    let ends = ap (λ (k : ℕ). finished_of c.fresh-run.result k NotRead 0) c.number.ensures in
-    no_room a.traced a.text.now a.list.now (c.returned.ensures ∙ ends) c.fresh-run.ensures
-    (omega (arith, c.if-list-room_needed.true, c.room_needed.ensures))
+    no_room a.traced a.text.now a.list.now c.fresh-run.ensures (omega (arith, c.if-list-room_needed.true, c.room_needed.ensures))
 
 pub returns-then-text-gt-LONGEST_TEXT : goal.returns-then-text-gt-LONGEST_TEXT
 returns-then-text-gt-LONGEST_TEXT c =

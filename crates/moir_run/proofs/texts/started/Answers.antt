@@ -73,7 +73,7 @@ carry_out-carried-requires c =
 
 pub stop_report-report-requires : goal.stop_report-report-requires
 stop_report-report-requires c =
-    λ n. stop_within figure6 c.args.kept.now c.requires.2 refl c.carry_out-carried.ensures.over (λ z. n (c.number_of-number.ensures ∙ z))
+    stop_within figure6 c.args.kept.now c.requires.2 refl c.carry_out-carried.ensures.over
 
 pub returns-in-Ok : goal.returns-in-Ok
 returns-in-Ok c =
@@ -85,11 +85,9 @@ returns-in-Ok c =
     let first =
     first_state_is a.traced f.n f.w f.initial a.list.now refl refl x.w_most c.fresh-run.ensures c.bench_at_set_up-bench.ensures
     c.empty_bench.ensures c.words_at_set_up.ensures c.no_words-words.ensures c.repeated-value.ensures in
-    let at = c.carry_out-carried.result.at in (
-      carried_closed a.traced f.n f.w f.initial a.list.now ps c.in-Ok.ensures c.carry_out-carried.ensures first
-          c.number_of-number.ensures c.ended.ensures.is (search rules),
-      closed_report c.carry_out-carried.result.run c.number_of-number.result c.ended.ensures.is ∙ c.stop_report-report.ensures ∙
-          ap (λ (k : ℕ). cond (eqb k 0) (at_no_item f.n f.w) (word_report f.n f.w (get_or a.kept.now at 0))) c.number_of-number.ensures ∙
-          item_read figure6 a.kept.now c.requires.2 refl c.carry_out-carried.ensures.over f.n f.w ∙
-          begun_report a.traced f.n f.w f.initial a.list.now es ps c.in-Ok.ensures refl first,
+    let out = c.carry_out-carried in (
+      carried_closed a.traced f.n f.w f.initial a.list.now ps c.in-Ok.ensures out.ensures first c.ended.ensures.is (search rules),
+      closed_report out.result.run out.result.outcome c.ended.ensures.is ∙ c.stop_report-report.ensures
+          ∙ item_read figure6 a.kept.now c.requires.2 refl out.ensures.over f.n f.w
+          ∙ begun_report a.traced f.n f.w f.initial a.list.now es ps c.in-Ok.ensures refl first,
     )

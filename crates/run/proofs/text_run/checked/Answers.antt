@@ -31,7 +31,7 @@ started-requires c = (c.requires.0, (headed_small c.requires.1.line).2, kept_wit
 pub returns-in-Err : goal.returns-in-Err
 returns-in-Err c =
     let a = c.args in
-    let m = memory_of a.bench a.all a.len a.words.now in
+    let m = memory_of a.held a.len a.words.now in
     let read = c.in-Err.ensures.are in
     let x = c.refused.ensures in
     (answers_as x.0 (broken_says figure2 a.traced a.text.now _ _ _ _ m a.list.now read.is), report_is figure2 x.1 (broken_stops figure2 c.requires.1.line read.is))
@@ -39,7 +39,7 @@ returns-in-Err c =
 pub returns-in-Closed : goal.returns-in-Closed
 returns-in-Closed c =
     let a = c.args in
-    let m = memory_of a.bench a.all a.len a.words.now in
+    let m = memory_of a.held a.len a.words.now in
     let read = items_as c.in-Ok.ensures c.in-Closed.is in
     let x = c.refused-in-Closed.ensures in
     (answers_as x.0 (closed_says figure2 a.traced a.text.now _ _ _ _ m a.list.now read.read), report_is figure2 x.1 (closed_stops figure2 c.requires.1.line read.read))
@@ -47,7 +47,7 @@ returns-in-Closed c =
 pub returns-in-Ended : goal.returns-in-Ended
 returns-in-Ended c =
     let a = c.args in
-    let m = memory_of a.bench a.all a.len a.words.now in
+    let m = memory_of a.held a.len a.words.now in
     let read = items_as c.in-Ok.ensures c.in-Ended.is in
     let x = c.started.ensures in (
       answers_as x.0 (kept_says a.traced a.text.now a.first m a.list.now c.empty_list-kept.ensures read),

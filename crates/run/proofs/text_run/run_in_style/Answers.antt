@@ -15,10 +15,9 @@ use Rattle.run.proofs.text_run.run_in_style.Goals as goal
 pub returns-then-list-room_needed : goal.returns-then-list-room_needed
 returns-then-list-room_needed c =
     let a = c.args in
-    let m = memory_of a.bench a.all a.len a.words.now in
+    let m = memory_of a.held a.len a.words.now in
     let short : length a.list.now < room_needed a.traced = omega (arith, c.if-list-room_needed.true, c.room_needed.ensures) in
-    rw (c.returned.ensures, c.fresh-run.ensures, c.number.ensures)
-    (record { same = run_14 figure2 a.traced m a.text.now a.list.now short; again = c.requires; stops = stops_14 figure2 short })
+    record { same = run_14 figure2 a.traced m a.text.now a.list.now short; again = c.requires; stops = stops_14 figure2 short }
 
 pub refused-requires : goal.refused-requires
 refused-requires c =
@@ -29,8 +28,8 @@ refused-requires c =
 pub returns-then-text-gt-LONGEST_TEXT : goal.returns-then-text-gt-LONGEST_TEXT
 returns-then-text-gt-LONGEST_TEXT c =
     let a = c.args in
-    let m = memory_of a.bench a.all a.len a.words.now in
-    let all = answered a.len a.bench a.all a.words.now (λ m. refused_with 12 m a.list.now) c.records_seen-lent.ensures c.requires c.refused.ensures.0 in
+    let m = memory_of a.held a.len a.words.now in
+    let all = answered a.len a.held a.words.now (λ m. refused_with 12 m a.list.now) c.records_seen-lent.ensures c.requires c.refused.ensures.0 in
     let room : room_needed a.traced ≤ length a.list.now = omega (arith, c.if-list-room_needed.false, c.room_needed.ensures) in
     ended_as all (run_12 figure2 a.traced m a.text.now a.list.now room c.if-text-gt-LONGEST_TEXT.true) (stops_12 figure2 c.if-text-gt-LONGEST_TEXT.true c.refused.ensures.1)
 
@@ -50,8 +49,8 @@ checked-requires c =
 pub returns-in-Err : goal.returns-in-Err
 returns-in-Err c =
     let a = c.args in
-    let m = memory_of a.bench a.all a.len a.words.now in
-    let all = answered a.len a.bench a.all a.words.now (λ m. refused_with 10 m a.list.now) c.records_seen-lent.ensures c.requires c.refused-in-Err.ensures.0 in
+    let m = memory_of a.held a.len a.words.now in
+    let all = answered a.len a.held a.words.now (λ m. refused_with 10 m a.list.now) c.records_seen-lent.ensures c.requires c.refused-in-Err.ensures.0 in
     let first = c.in-Err.ensures in
     let room : room_needed a.traced ≤ length a.list.now = omega (arith, c.if-list-room_needed.false, c.room_needed.ensures) in
     let report = report_is figure2 c.refused-in-Err.ensures.1 (line_stops figure2 first) in
@@ -60,12 +59,12 @@ returns-in-Err c =
 pub returns-in-Ok : goal.returns-in-Ok
 returns-in-Ok c =
     let a = c.args in
-    let m = memory_of a.bench a.all a.len a.words.now in
+    let m = memory_of a.held a.len a.words.now in
     let f : First = c.in-Ok.first in
-    let all = answered a.len a.bench a.all a.words.now
+    let all = answered a.len a.held a.words.now
     (λ m. says_after a.traced a.text.now f m a.list.now) c.records_seen-lent.ensures c.requires
     c.checked.ensures.0 in
     let first = c.in-Ok.ensures in
     let room : room_needed a.traced ≤ length a.list.now = omega (arith, c.if-list-room_needed.false, c.room_needed.ensures) in
-    let report = report_sixteen a.len a.bench a.all a.words.now c.records_seen-lent.ensures c.requires c.checked.ensures.1 in
+    let report = report_sixteen a.len a.held a.words.now c.records_seen-lent.ensures c.requires c.checked.ensures.1 in
     ended_as all (run_headed figure2 a.traced m a.text.now a.list.now room c.if-text-gt-LONGEST_TEXT.false first) (stops_looked figure2 room c.if-text-gt-LONGEST_TEXT.false report)

@@ -2,12 +2,12 @@
 use mathlib.Core.Path.{refl, sym, ap, subst, ◌∙◌}
 use Prim.Native.Nat.{ℕ}
 use native.Mathlib.Omega.{arith}
+use Rattle.std.proofs.Common.{rules}
 use lib.ListN.{length, length-replicate}
 use lib.Seq.{length-sets}
 use Rattle.rows.proofs.Refused.{number_some}
 use Rattle.carrying.proofs.LoopLaws.{not_refused}
 use Rattle.setup.specs.SetUpByValue.{Accepted}
-use Rattle.entry.specs.declared.state.Run.{Run}
 use Rattle.entry.specs.RunState.{Sound}
 use Rattle.text_runs.specs.KeptEntries.{entries_in, places_in}
 use Rattle.entry.proofs.WordLaws.{prefix_length}
@@ -28,62 +28,62 @@ returns-in-Err c =
     let es = entries_in a.count a.entries.now in
     let ps = places_in a.count a.entries.now in
     let x = c.refused.ensures in (
-      answers_as x.0 (refused_start a.traced a.first es a.bench a.words.now c.requires.0 c.in-Err.ensures (number_some c.in-Err.cause)),
-      x.1 ∙ refused_report a.traced a.first es ps a.bench a.words.now c.requires.0 c.in-Err.ensures (number_some c.in-Err.cause),
+      answers_as x.0 (refused_start a.traced a.first es a.held a.words.now c.requires.0 c.in-Err.ensures (number_some c.in-Err.cause)),
+      x.1 ∙ refused_report a.traced a.first es ps a.held a.words.now c.requires.0 c.in-Err.ensures (number_some c.in-Err.cause),
     )
 
 pub slice_bounds-value-end : goal.slice_bounds-value-end
 slice_bounds-value-end c =
     let a = c.args in
     let e = not_refused c.set_up_refusal.result c.set_up_refusal.ensures c.in_default.not-Err in
-    let ok = accepted a.traced a.bench a.words.now c.requires.0 a.first.n a.first.w a.first.initial c.requires.1 e in
+    let ok = accepted a.traced a.held a.words.now c.requires.0 a.first.n a.first.w a.first.initial c.requires.1 e in
     omega (arith, ap length c.repeated-value.ensures, length-replicate 64 a.first.initial, ok.w_most)
 
 pub slice_bounds-words_at_set_up-end : goal.slice_bounds-words_at_set_up-end
 slice_bounds-words_at_set_up-end c =
     let a = c.args in
     let e = not_refused c.set_up_refusal.result c.set_up_refusal.ensures c.in_default.not-Err in
-    let ok = accepted a.traced a.bench a.words.now c.requires.0 a.first.n a.first.w a.first.initial c.requires.1 e in
+    let ok = accepted a.traced a.held a.words.now c.requires.0 a.first.n a.first.w a.first.initial c.requires.1 e in
     prefix_length ok.w_most c.repeated-value.ensures
 
 pub words_at_set_up-requires : goal.words_at_set_up-requires
 words_at_set_up-requires c =
     let a = c.args in
     let e = not_refused c.set_up_refusal.result c.set_up_refusal.ensures c.in_default.not-Err in
-    let ok = accepted a.traced a.bench a.words.now c.requires.0 a.first.n a.first.w a.first.initial c.requires.1 e in
+    let ok = accepted a.traced a.held a.words.now c.requires.0 a.first.n a.first.w a.first.initial c.requires.1 e in
     subst (λ (j : ℕ). Accepted a.first.n a.first.w (length a.words.now) j) (prefix_length ok.w_most c.repeated-value.ensures) ok
 
-pub bench_at_set_up-begun-requires : goal.bench_at_set_up-begun-requires
-bench_at_set_up-begun-requires c =
+pub bench_at_set_up-bench-requires : goal.bench_at_set_up-bench-requires
+bench_at_set_up-bench-requires c =
     let a = c.args in
     let e = not_refused c.set_up_refusal.result c.set_up_refusal.ensures c.in_default.not-Err in
-    let ok = accepted a.traced a.bench a.words.now c.requires.0 a.first.n a.first.w a.first.initial c.requires.1 e in
+    let ok = accepted a.traced a.held a.words.now c.requires.0 a.first.n a.first.w a.first.initial c.requires.1 e in
     ok.n_most
 
-pub records_at_set_up-records-requires : goal.records_at_set_up-records-requires
-records_at_set_up-records-requires c =
+pub records_at_set_up-all-requires : goal.records_at_set_up-all-requires
+records_at_set_up-all-requires c =
     let a = c.args in
     let e = not_refused c.set_up_refusal.result c.set_up_refusal.ensures c.in_default.not-Err in
-    let ok = accepted a.traced a.bench a.words.now c.requires.0 a.first.n a.first.w a.first.initial c.requires.1 e in
+    let ok = accepted a.traced a.held a.words.now c.requires.0 a.first.n a.first.w a.first.initial c.requires.1 e in
     ok.n_most
 
 pub carry_out-carried-requires : goal.carry_out-carried-requires
 carry_out-carried-requires c =
     let a = c.args in
     let e = not_refused c.set_up_refusal.result c.set_up_refusal.ensures c.in_default.not-Err in
-    let begins = first_state_is a.traced a.bench a.words.now c.requires.0 a.first.n a.first.w a.first.initial c.requires.1 e
-    c.fresh-run.ensures c.bench_at_set_up-begun.ensures c.records_at_set_up-records.ensures c.words_at_set_up.ensures c.repeated-value.ensures in
-    let sound = begun_sound a.traced a.bench a.words.now c.requires.0 a.first.n a.first.w a.first.initial c.requires.1 e
+    let begins = first_state_is a.traced a.held a.words.now c.requires.0 a.first.n a.first.w a.first.initial c.requires.1 e
+    c.fresh-run.ensures c.bench_at_set_up-bench.ensures c.records_at_set_up-all.ensures c.words_at_set_up.ensures c.repeated-value.ensures in
+    let sound = begun_sound a.traced a.held a.words.now c.requires.0 a.first.n a.first.w a.first.initial c.requires.1 e
     (record { bank = omega arith; help = omega arith }) in
-    (c.requires.2, subst (Sound _) (sym begins) sound, ap (λ (r : Run). r.stop) c.fresh-run.ensures)
+    (c.requires.2, subst (Sound _) (sym begins) sound)
 
 pub stop_report-report-requires : goal.stop_report-report-requires
 stop_report-report-requires c =
-    stop_within c.args.entries.now c.requires.2 (ap (λ (r : Run). r.stop) c.fresh-run.ensures) c.carry_out-carried.ensures
+    stop_within c.args.entries.now c.requires.2 refl c.carry_out-carried.ensures
 
 pub ended-requires : goal.ended-requires
 ended-requires c =
-    sound_closable c.carry_out-carried.ensures.becomes.kept.sound
+    sound_closable refl c.carry_out-carried.ensures.becomes.kept.sound
 
 pub shape_of-words : goal.shape_of-words
 shape_of-words c =
@@ -93,14 +93,14 @@ pub returns : goal.returns
 returns c =
     let a = c.args in
     let e = not_refused c.set_up_refusal.result c.set_up_refusal.ensures c.in_default.not-Err in
-    let begins = first_state_is a.traced a.bench a.words.now c.requires.0 a.first.n a.first.w a.first.initial c.requires.1 e
-    c.fresh-run.ensures c.bench_at_set_up-begun.ensures c.records_at_set_up-records.ensures c.words_at_set_up.ensures c.repeated-value.ensures in
+    let begins = first_state_is a.traced a.held a.words.now c.requires.0 a.first.n a.first.w a.first.initial c.requires.1 e
+    c.fresh-run.ensures c.bench_at_set_up-bench.ensures c.records_at_set_up-all.ensures c.words_at_set_up.ensures c.repeated-value.ensures in
     let es = entries_in a.count a.entries.now in
     let ps = places_in a.count a.entries.now in
     let out = c.carry_out-carried.ensures in
-    let made = carried_start a.traced a.first es a.bench a.words.now c.requires.0 refl c.requires.1 e begins out.becomes in
-    let item = item_read a.entries.now c.requires.2 (ap (λ (r : Run). r.stop) c.fresh-run.ensures) out a.first.n a.first.w in
-    let begun = begun_report a.traced a.first es ps a.bench a.words.now c.requires.0 refl c.requires.1 e begins in (
-      answers_as (closed_answers c.carry_out-carried.result.run _ _ c.carry_out-carried.ensures.becomes.kept.sound.filled c.ended.ensures) made.same,
-      closed_report c.carry_out-carried.result.run _ c.ended.ensures ∙ c.stop_report-report.ensures ∙ item ∙ begun,
+    let made = carried_start a.traced a.first es a.held a.words.now c.requires.0 refl c.requires.1 e begins out.becomes in
+    let item = item_read a.entries.now c.requires.2 refl out a.first.n a.first.w in
+    let begun = begun_report a.traced a.first es ps a.held a.words.now c.requires.0 refl c.requires.1 e begins in (
+      answers_as (closed_answers c.carry_out-carried.result.run c.carry_out-carried.result.outcome _ _ c.carry_out-carried.ensures.becomes.kept.sound.filled c.ended.ensures.is (search rules)) made.same,
+      closed_report c.carry_out-carried.result.run c.carry_out-carried.result.outcome _ c.ended.ensures.is ∙ c.stop_report-report.ensures ∙ item ∙ begun,
     )
