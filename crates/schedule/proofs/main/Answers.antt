@@ -4,4 +4,4 @@ use Rattle.schedule.proofs.main.Goals as goal
 
 pub run_by_value-out-requires : goal.run_by_value-out-requires
 run_by_value-out-requires c =
-    fillers c.no_process-all.result _ c.no_process-all.ensures refl
+    fillers _ c.empty-held.ensures

@@ -4,4 +4,4 @@ use Rattle.trace.proofs.main.Goals as goal
 
 pub trace_by_value-out-requires : goal.trace_by_value-out-requires
 trace_by_value-out-requires c =
-    fillers c.no_process-all.result _ c.no_process-all.ensures refl
+    fillers _ c.empty-held.ensures
