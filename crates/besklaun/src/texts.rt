@@ -21,11 +21,7 @@ fn own_run(traced: bool, text: &[u8], into: &mut [u8]) -> TextRun
 {
     let mut words = [0; 5120];
     let held = Held::empty();
-    let out = if traced {
-        run::text_run::trace_by_value(held, 16, &mut words, text, into)
-    } else {
-        run::text_run::run_by_value(held, 16, &mut words, text, into)
-    };
+    let out = run::text_run::run_by_value(held, 16, traced, &mut words, text, into);
     TextRun {
         number: number_of(out.outcome),
         entries: out.entries,

@@ -1,5 +1,5 @@
-// The text run by value (01, "When the bench says no" and "Schedule text and listing"). The entries are
-// text_run::run_by_value and text_run::trace_by_value; every other pub function is inner.
+// The text run by value (01, "When the bench says no" and "Schedule text and listing"). The entry is
+// text_run::run_by_value; every other pub function is inner.
 
 #![tactic(auto)]
 

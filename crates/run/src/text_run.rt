@@ -121,9 +121,10 @@ pub fn records_seen(len: usize) -> usize
     len.min(16)
 }
 
-// A text run in one of the two styles.
-// Kept: that the fillers stand is asked here and by the two entries, which only name the style.
-fn run_in_style(
+// The text run, with its listing or, where `traced`, its trace: why it was refused, if it was, the entries done, the bytes
+// written, where it stopped, and all memory after it.
+// `held` has the first sixteen of `len` lent records, with a filler where there are fewer.
+pub fn run_by_value(
     held: Held,
     len: usize,
     traced: bool,
@@ -157,38 +158,4 @@ fn run_in_style(
         }
         Ok(first) => checked(held, lent, traced, first, words, text, list),
     }
-}
-
-// Kept: two names for the two styles, since each call says its own; the one function is `run_in_style`.
-
-// The text run: why it was refused, if it was, the entries done, the listing bytes written, where it stopped, and all
-// memory after it.
-// `held` has the first sixteen of `len` lent records, with a filler where there are fewer.
-pub fn run_by_value(
-    held: Held,
-    len: usize,
-    words: &mut [u64],
-    text: &[u8],
-    list: &mut [u8],
-) -> Finished<Held>
-    requires { held.all ≡ gathered (take len held.all) no_process 16 }
-    ensures { TextRan false held len words.old text.now list.old
-        result words.new list.new }
-{
-    run_in_style(held, len, false, words, text, list)
-}
-
-// The same run, with the trace in place of the listing.
-pub fn trace_by_value(
-    held: Held,
-    len: usize,
-    words: &mut [u64],
-    text: &[u8],
-    list: &mut [u8],
-) -> Finished<Held>
-    requires { held.all ≡ gathered (take len held.all) no_process 16 }
-    ensures { TextRan true held len words.old text.now list.old
-        result words.new list.new }
-{
-    run_in_style(held, len, true, words, text, list)
 }

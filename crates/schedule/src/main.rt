@@ -13,7 +13,7 @@ fn main(rt: HostRuntime) -> ExitCode {
     let mut list = console::large_buffer();
     let mut words = [0; 5120];
     let held = Held::empty();
-    let out = run::text_run::run_by_value(held, 16, &mut words, given, &mut list);
+    let out = run::text_run::run_by_value(held, 16, false, &mut words, given, &mut list);
     let ended = messages::Ended {
         outcome: out.outcome,
         entries: out.entries,

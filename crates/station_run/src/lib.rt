@@ -133,6 +133,6 @@ pub fn run_by_value(
         bench: bench_before(station),
         all: records_before(all),
     };
-    let out = text_run::run_by_value(held, len, words, text, listing);
+    let out = text_run::run_by_value(held, len, false, words, text, listing);
     put_back(station, all, out)
 }

@@ -15,7 +15,7 @@ fn main(rt: HostRuntime) -> Result<ExitCode, AllocError> {
     let mut list = vec![in rt.alloc(); 0; 3145728]?;
     let mut words = [0; 5120];
     let held = Held::empty();
-    let out = run::text_run::trace_by_value(held, 16, &mut words, given, &mut list);
+    let out = run::text_run::run_by_value(held, 16, true, &mut words, given, &mut list);
     let ended = messages::Ended {
         outcome: out.outcome,
         entries: out.entries,

@@ -2,5 +2,5 @@
 use Rattle.run.proofs.RecordLaws.{fillers}
 use Rattle.trace.proofs.main.Goals as goal
 
-pub trace_by_value-out-requires : goal.trace_by_value-out-requires
-trace_by_value-out-requires c = fillers c.empty-held.result c.empty-held.ensures
+pub run_by_value-out-requires : goal.run_by_value-out-requires
+run_by_value-out-requires c = fillers c.empty-held.result c.empty-held.ensures

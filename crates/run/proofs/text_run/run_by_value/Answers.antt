@@ -1,4 +1,4 @@
--- `run::text_run::run_in_style`: 14, 12, the first line, and the rest.
+-- `run::text_run::run_by_value`: 14, 12, the first line, and the rest.
 use Prim.Native.Nat.{◌≤◌, ◌<◌}
 use native.Mathlib.Omega.{arith}
 use lib.ListN.{length}
@@ -10,7 +10,7 @@ use Rattle.text_runs.proofs.StopLaws.{report_is, line_stops, stops_14, stops_12,
 use Rattle.semantics.specs.TextRun.{figure2}
 use Rattle.run.proofs.RunLaws.{lending_sixteen, answered, ended_as}
 use Rattle.run.proofs.StopLaws.{report_sixteen}
-use Rattle.run.proofs.text_run.run_in_style.Goals as goal
+use Rattle.run.proofs.text_run.run_by_value.Goals as goal
 
 pub returns-then-list-room_needed : goal.returns-then-list-room_needed
 returns-then-list-room_needed c =
