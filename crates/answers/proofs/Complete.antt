@@ -13,9 +13,11 @@ use Rattle.listing.specs.Decimal.{decimal, tens}
 use Rattle.listing.specs.Lines.{space, line_feed, letter_l, letter_s, letter_v, answer_head, words_of, ll_line, truth, truth_line, end_line, refused_line}
 use Rattle.listing.proofs.DecimalLaws.{one_digit, last_digit}
 use Rattle.answers.specs.declared.Sum.{Sum}
-use Rattle.answers.specs.Shape.{largest, Answer, ll, sc, vl, Last, end, refused, line_of, last_of, lines_of, Fit, no_words, word, Fits, ll_fits, sc_fits, vl_fits, AllFit, no_lines, line, LastFits, end_fits, refused_fits}
+use Rattle.answers.specs.Shape.{largest, Answer, ll, sc, vl, Last, end, refused, line_of, last_of, lines_of, Fit}
+use Rattle.answers.specs.Shape.{no_words, word, Fits, ll_fits, sc_fits, vl_fits, AllFit, no_lines, line, LastFits, end_fits, refused_fits}
 use Rattle.answers.specs.Gains.{bit, gain_of, process_of, tally, gained}
-use Rattle.answers.specs.Readers.{first, is_digit, Got, none, digits_after, number_in, spaced_number, Passed, expected, words_in, closed, ll_tail, truth_tail, Told, by_letter, answer_in, finished, end_in, refused_in, last_in, lines_in}
+use Rattle.answers.specs.Readers.{first, is_digit, Got, none, digits_after, number_in, spaced_number, Passed, expected, words_in}
+use Rattle.answers.specs.Readers.{closed, ll_tail, truth_tail, Told, by_letter, answer_in, finished, end_in, refused_in, last_in, lines_in}
 use Rattle.answers.proofs.NumberLaws.{a_digit, no_more, one_more}
 
 tenth : (n m : ℕ) → n < m * 10 → n / 10 < m

@@ -12,9 +12,11 @@ use Rattle.listing.specs.Decimal.{digits, decimal}
 use Rattle.listing.specs.Lines.{space, line_feed, letter_l, letter_s, letter_v, answer_head, words_of, ll_line, truth, truth_line, end_line, refused_line}
 use Rattle.listing.proofs.DecimalLaws.{one_digit, last_digit}
 use Rattle.answers.specs.declared.Sum.{Sum}
-use Rattle.answers.specs.Shape.{largest, Answer, ll, sc, vl, Last, end, refused, line_of, last_of, lines_of, Fit, no_words, word, Fits, ll_fits, sc_fits, vl_fits, no_lines, line, LastFits, end_fits, refused_fits, Shaped}
+use Rattle.answers.specs.Shape.{largest, Answer, ll, sc, vl, Last, end, refused, line_of, last_of, lines_of, Fit}
+use Rattle.answers.specs.Shape.{no_words, word, Fits, ll_fits, sc_fits, vl_fits, no_lines, line, LastFits, end_fits, refused_fits, Shaped}
 use Rattle.answers.specs.Gains.{no_sum, ll_gain, sc_gain, bit, gain_of, process_of, tally}
-use Rattle.answers.specs.Readers.{first, is_digit, Got, is_number, digits_after, number_in, spaced_number, Passed, expected, words_in, closed, ll_tail, truth_tail, Told, told, by_letter, answer_in, finished, end_in, refused_in, last_in, Read, lines_in}
+use Rattle.answers.specs.Readers.{first, is_digit, Got, is_number, digits_after, number_in, spaced_number, Passed, expected, words_in, closed}
+use Rattle.answers.specs.Readers.{ll_tail, truth_tail, Told, told, by_letter, answer_in, finished, end_in, refused_in, last_in, Read, lines_in}
 use Rattle.answers.proofs.ChoiceLaws.{either}
 use Rattle.answers.proofs.NumberLaws.{digit_range}
 

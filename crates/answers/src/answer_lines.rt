@@ -20,6 +20,7 @@ fn words(text: &[u8], w: u64) -> Result<&[u8], &[u8]>
 }
 
 // The line feed that ends a line, behind what `value` was read from.
+// Kept: `value ≤ largest` is asked here and in `digits_after` alone: the readers' contracts say it of what they give.
 fn close(text: &[u8], value: u64) -> Read<'_, u64>
     requires { value ≤ largest }
     ensures { GivesNumber result (fed value text.now) }
@@ -97,6 +98,7 @@ fn by_letter(text: &[u8], w: u64, p: u64) -> Read<'_, Gain>
 }
 
 // An answer line of n processes and w words.
+// Kept: n and w apart, and no struct of both: the process alone is held against n, and what reads on needs w alone.
 #[tactic(auto, unfolding(crate::specs::Readers::answer_in))]
 pub(crate) fn answer_line(text: &[u8], n: u64, w: u64) -> Read<'_, Gain>
     requires { n ≤ 16 }

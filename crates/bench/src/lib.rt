@@ -1,5 +1,6 @@
 // The public entries: a set-up, a command and a text run of a station over lent memory, and the view of a written value.
 // None asks anything of the caller.
+// Kept: each takes what is lent, and what is ordered, one by one, as 01 names them to users.
 
 #![tactic(auto)]
 

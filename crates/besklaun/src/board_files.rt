@@ -8,6 +8,7 @@ use entry::state::Held;
 use llsc::refusals::number_of;
 
 // Two trace files made one, into the bytes lent.
+// Kept: two files and the bytes one by one, as the C library's header declares them.
 // Wrong programs that this rules out: one that takes the two files the other way round, which shows at equal ticks; one
 // that says the bytes written and not the number of the refusal.
 pub fn besklaun_merge(first: &[u8], second: &[u8], out: &mut [u8]) -> Merged
@@ -27,6 +28,7 @@ pub struct BoardRun {
 }
 
 // A trace file run on record 0 of a bench that is set up for it, whose listing goes to the bytes lent.
+// Kept: N, W, the initial number and the file one by one, as the C library's header declares them.
 // Wrong programs that this rules out: one that runs the file before its set-up is looked at; one that counts a refused
 // command as done; one that stops after 60,000 commands.
 pub fn besklaun_run_board(
@@ -38,6 +40,7 @@ pub fn besklaun_run_board(
 ) -> BoardRun
     ensures { (result, listing.new) ≡ board_run n w initial file.now listing.old }
 {
+    // Kept: the words stand here and in `texts`, for a function that handed them out would copy all 5,120.
     let mut words = [0; 5120];
     let held = Held::empty();
     let out = board_listing::listed::run_listed(held, n, w, initial, file, &mut words, listing);

@@ -36,6 +36,7 @@ fn judgement_of(verdict: Verdict) -> Judgement
 
 // Whether the moments of a log are a linearization of its calls: N, W, the value with which the object begins, and the
 // log, 6 + W numbers for each call.
+// Kept: N, W, the value and the log one by one, as the C library's header declares them; no struct holds a slice in C.
 // Wrong programs that this rules out: one that says yes to a log that is refused; one that says 1 for no, which is the
 // number of a refusal.
 pub fn besklaun_judge(n: usize, w: usize, value: &[u64], log: &[u64]) -> Judgement

@@ -43,6 +43,7 @@ fn write(schedule: Schedule, turns: &mut [u8])
 }
 
 // The schedule for a number, in the bytes lent.
+// Kept: a, b and the number or the turns one by one, as the C library's header declares them.
 // Wrong programs that this rules out: one that writes a part of the turns where the bytes are too few; one that blanks
 // the bytes behind them.
 pub fn besklaun_schedule_for(a: usize, b: usize, number: u64, turns: &mut [u8]) -> FoundTurns

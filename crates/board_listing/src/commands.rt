@@ -34,6 +34,7 @@ pub fn with_entries(run: Run, entries: usize) -> Run
 }
 
 // One entry, as the only one of its list.
+// Kept: an enum has no ghost field for `Small`, and `carry_out` takes the run, words and list of `Between` one by one.
 pub fn obey(run: Run, e: Entry, words: &mut [u64], list: &mut [u8]) -> Carried<Run>
     requires { (Between (state_of run 0 words.old list.old)) × (Small e) }
     ensures { Becomes 16 (carry e) (state_of run 0 words.old list.old)

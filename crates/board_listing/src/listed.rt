@@ -19,6 +19,7 @@ use run::set_up;
 use text_runs::{limits, lists};
 
 // A run that is refused before its first command.
+// Kept: the room is a fact on a lent list, tested once in `run_listed`; a struct for it would be undone at each line.
 fn refused(held: Held, cause: Refusal, list: &mut [u8]) -> Stopped
     requires { (refusal_number cause ≤ 99) × (room_needed false ≤ length list.old) }
     ensures { (result, list.new) ≡ closed (refused_with held cause) list.old }
@@ -31,6 +32,7 @@ fn refused(held: Held, cause: Refusal, list: &mut [u8]) -> Stopped
 }
 
 // The file on a run that has done nothing: "25 and 26 also before a run".
+// Kept: file, words and list come from the caller one by one, and go on so to three crates.
 fn run_file(run: Run, file: &[u8], words: &mut [u64], list: &mut [u8]) -> Stopped
     requires { (Between (state_of run 0 words.old list.old)) × (run ≡ fresh_run run.held false) × (room_needed false ≤ length list.old) }
     ensures { RunsFile run words.old file.now list.old result words.new list.new }

@@ -23,7 +23,7 @@ use Rattle.doings.proofs.Layouts.{Laid, same_row}
 use Rattle.doings.proofs.ItemLaws as one
 use Rattle.doings.proofs.ItemLaws.{same_item, Inside, inside_named, trim, bench_bank, bench_help, bench_again, bench_swap}
 use Rattle.doings.proofs.ItemLaws.{Clear, words_length, words_again, words_swap, words_other, Stands, room, clear}
-use Rattle.commuting.specs.Parts.{StationItem, InStation, item_of, put_item, any_record}
+use Rattle.commuting.specs.Parts.{StationItem, InStation, item_of, put_item}
 
 -- the sizes that rows 1 to 3 and 23 and the declared types give
 pub record Sized (s : StationMemory) : Type 0 where

@@ -3,6 +3,7 @@ ghost use Rattle.std.specs.Prelude.{◌≡◌, Bool, ◌≤◌, ◌<◌, ◌/◌
 ghost use Rattle.verdicts.specs.Log.{width, entries};
 ghost use Rattle.verdicts.specs.Reasons.{two_at_fault};
 ghost use Rattle.judging.specs.declared.heads.Head.{Head};
+ghost use Rattle.judging.specs.Orders.{Fits};
 ghost use Rattle.judging.specs.Heads.{head, entry_at, first_from, lacks_ll, first_unled, Decides, DecidesTwo};
 
 use crate::heads;
@@ -16,6 +17,13 @@ pub struct Calls<'a> {
     pub ghost narrow: { w ≤ 64 },
 }
 
+// The calls of a log that no cause refuses: at most 512, of processes below 16.
+#[derive(Clone, Copy)]
+pub struct Admitted<'a> {
+    pub calls: Calls<'a>,
+    pub ghost fits: { Fits calls.w calls.log.now },
+}
+
 impl<'a> Calls<'a> {
     pub fn len(&self) -> usize
         ensures { result ≡ length self.now.log.now / width self.now.w }
@@ -24,6 +32,7 @@ impl<'a> Calls<'a> {
     }
 
     // The call of an index, without its words.
+    // Kept: `k < count` is asked where an index comes in: an index of its own type would have to hold the log it is of.
     pub fn head(&self, k: usize) -> Head
         requires { k < length self.now.log.now / width self.now.w }
         ensures { result ≡ head (entry_at self.now.w self.now.log.now k) }

@@ -3,10 +3,10 @@ ghost use Rattle.std.specs.Prelude.{◌≡◌, ◌≤◌, ◌<◌, length, None}
 ghost use Rattle.llsc.specs.Object.{fresh};
 ghost use Rattle.verdicts.specs.Reasons.{not_alike, in_value, numbered_in_order};
 ghost use Rattle.verdicts.specs.Log.{entries};
-ghost use Rattle.judging.specs.Orders.{count, calls_of, Fits, SortedBy};
+ghost use Rattle.judging.specs.Orders.{count, calls_of, SortedBy};
 ghost use Rattle.judging.specs.Objects.{words_held, Sane, told_alike, MovedOn, shown_at};
 
-use crate::calls::Calls;
+use crate::calls::{Admitted, Calls};
 use crate::heads;
 use crate::order::Order;
 use verdicts::{Fault, Shown};
@@ -30,23 +30,25 @@ fn words_held<'a>(calls: &Calls<'a>, value: &'a [u64], held: &Held) -> &'a [u64]
 }
 
 // Whether the object answers a call as the call says.
-fn alike<'a>(calls: &Calls<'a>, value: &'a [u64], held: &Held, k: usize) -> bool
-    requires { Fits calls.now.w calls.now.log.now × ((k < count calls.now.w calls.now.log.now) × (Sane calls.now.w calls.now.log.now held.now)) }
-    ensures { result ≡ told_alike calls.now.w calls.now.log.now value.now k held.now }
+fn alike<'a>(admitted: &Admitted<'a>, value: &'a [u64], held: &Held, k: usize) -> bool
+    requires call { k < count admitted.now.calls.w admitted.now.calls.log.now }
+    requires sane { Sane admitted.now.calls.w admitted.now.calls.log.now held.now }
+    ensures { result ≡ told_alike admitted.now.calls.w admitted.now.calls.log.now value.now k held.now }
 {
-    let e = calls.head(k);
+    let e = admitted.calls.head(k);
     if e.kind == heads::LL {
-        return words_held(calls, value, held) == calls.words(k);
+        return words_held(&admitted.calls, value, held) == admitted.calls.words(k);
     }
     e.truth == u64::from(held.links[e.process as usize])
 }
 
 // The object serves a call.
-fn serve(calls: &Calls, held: &mut Held, k: usize)
-    requires { Fits calls.now.w calls.now.log.now × ((k < count calls.now.w calls.now.log.now) × (Sane calls.now.w calls.now.log.now held.old)) }
-    ensures { MovedOn calls.now.w calls.now.log.now k held.old held.new }
+fn serve(admitted: &Admitted, held: &mut Held, k: usize)
+    requires call { k < count admitted.now.calls.w admitted.now.calls.log.now }
+    requires sane { Sane admitted.now.calls.w admitted.now.calls.log.now held.old }
+    ensures { MovedOn admitted.now.calls.w admitted.now.calls.log.now k held.old held.new }
 {
-    let e = calls.head(k);
+    let e = admitted.calls.head(k);
     let p = e.process as usize;
     if e.kind == heads::LL {
         held.links[p] = true;
@@ -57,11 +59,11 @@ fn serve(calls: &Calls, held: &mut Held, k: usize)
 }
 
 // What the object answers a call.
-fn shown(calls: &Calls, held: &Held, k: usize) -> Shown
-    requires { Fits calls.now.w calls.now.log.now × (k < count calls.now.w calls.now.log.now) }
-    ensures { result ≡ shown_at calls.now.w calls.now.log.now k held.now }
+fn shown(admitted: &Admitted, held: &Held, k: usize) -> Shown
+    requires { k < count admitted.now.calls.w admitted.now.calls.log.now }
+    ensures { result ≡ shown_at admitted.now.calls.w admitted.now.calls.log.now k held.now }
 {
-    let e = calls.head(k);
+    let e = admitted.calls.head(k);
     if e.kind != heads::LL {
         return Shown::Truth(held.links[e.process as usize]);
     }
@@ -72,20 +74,21 @@ fn shown(calls: &Calls, held: &Held, k: usize) -> Shown
 }
 
 // The first call, in the order of the moments, that the object, begun with the value, does not answer alike.
-pub fn first_unlike<'a>(calls: &Calls<'a>, value: &'a [u64], order: &Order) -> Option<Fault>
-    requires { Fits calls.now.w calls.now.log.now × SortedBy calls.now.w calls.now.log.now order.now }
-    ensures { result ≡ not_alike (fresh value.now) in_value (numbered_in_order (entries calls.now.w calls.now.log.now)) }
+pub fn first_unlike<'a>(admitted: &Admitted<'a>, value: &'a [u64], order: &Order) -> Option<Fault>
+    requires { SortedBy admitted.now.calls.w admitted.now.calls.log.now order.now }
+    ensures { let es = entries admitted.now.calls.w admitted.now.calls.log.now in
+        result ≡ not_alike (fresh value.now) in_value (numbered_in_order es) }
 {
     let mut held = Held {
         links: [false; 16],
         from: None,
     };
     for k in &order.at[..order.count] {
-        if !alike(calls, value, &held, *k) {
-            let answer = shown(calls, &held, *k);
+        if !alike(admitted, value, &held, *k) {
+            let answer = shown(admitted, &held, *k);
             return Some(Fault::Answer(*k, answer));
         }
-        serve(calls, &mut held, *k);
+        serve(admitted, &mut held, *k);
     }
     None
 }

@@ -1,7 +1,7 @@
 -- The count of own steps, point by point, at every command; and what it says at an answer and of an open call.
 use mathlib.Core.Path.{◌≡◌, refl}
 use mathlib.Core.Logic.{◌⊎◌, inl, inr}
-use mathlib.Core.Bool.{Bool, true, false, not, cond}
+use mathlib.Core.Bool.{Bool, true, false, cond}
 use mathlib.Core.List.{List}
 use Prim.Native.Nat.{ℕ, suc, ◌+◌, ◌*◌, ◌%◌, ◌≤◌, ◌<◌}
 use native.Mathlib.Omega.{arith}
@@ -9,7 +9,7 @@ use lib.Dec.{ltb, eqb, lit≤}
 use borrow.Author.Tests.{ltb-false}
 use Rattle.linearization.proofs.PointFacts.{moving}
 use Rattle.laws.proofs.Updates.{upd, upd_same, upd_other, Split, same, other, split, by_test, contra}
-use Rattle.linearization.proofs.GhostMachine.{Local, Shared, State, quiet, noisy, word, step, step_at, to, set_link_help, set_link_bank, set_link_x, set_returned}
+use Rattle.linearization.proofs.GhostMachine.{Local, Shared, State, quiet, noisy, word, step, step_at, set_link_help, set_link_bank, set_link_x, set_returned}
 use Rattle.model.specs.Sizes.{halves, busy_most}
 use Rattle.model.specs.Points.{Point, idle, line1, line2, line3, line4, line5, line6, line7, line7copy, line8, line9}
 use Rattle.model.specs.Points.{line10, line11, line12, line12valid, line13, line14, line14valid, line15, line17, line18}
@@ -21,7 +21,6 @@ use Rattle.linearization.proofs.Invariants.{ProcessClauses, Invariant, lines, st
 use Rattle.linearization.proofs.GhostRuns.{Cmd, exec, setup}
 use Rattle.linearization.proofs.InvariantRuns
 use Rattle.linearization.proofs.InvariantRuns.{First, number_after, execs, along, by_command, exec_inv}
-use Rattle.linearization.proofs.GhostSetUp.{setup_inv}
 
 -- at least a and at most b
 abbrev pub Between : ℕ → ℕ → ℕ → Type 0

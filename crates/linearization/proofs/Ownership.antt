@@ -1,7 +1,6 @@
 -- Ownership: each of the 3N buffer numbers is found exactly once among the buffers that are kept and those that processes own.
 use mathlib.Core.Path.{◌≡◌, refl, sym, ap, ◌∙◌}
 use mathlib.Core.Bool.{Bool, true, false, cond}
-use mathlib.Core.List.{List}
 use Prim.Native.Nat.{ℕ, ◌+◌, ◌*◌, ◌-◌, ◌<◌}
 use native.Mathlib.Omega.{arith}
 use lib.Dec.{ltb, eqb}
@@ -11,10 +10,6 @@ use Rattle.linearization.proofs.GhostMachine.{Local, Shared, State}
 use Rattle.laws.proofs.Claimed.{on_get}
 use Rattle.linearization.proofs.Invariants.{ProcessClauses, Invariant, lines, above}
 use Rattle.linearization.proofs.Ranges.{InRanges}
-use Rattle.linearization.proofs.GhostRuns.{Cmd, setup}
-use Rattle.linearization.proofs.InvariantRuns.{number_after, execs}
-use Rattle.linearization.proofs.GhostSetUp.{run_inv}
-use Rattle.linearization.proofs.RangeRuns.{run_range}
 use Rattle.laws.proofs.Pigeonhole.{Injection, pigeonhole}
 
 -- Help[p]'s buffer at lines 2 to 10 while its flag is 0, else mybuf

@@ -1,6 +1,7 @@
 // The lines of Figure 2 that touch a place of Bank. p is the process that steps.
 ghost use Rattle.std.specs.Prelude.{◌≡◌, ◌<◌};
 ghost use Rattle.model.specs.Lines.{do_line12, do_line13, do_line18};
+// Kept: `Stepping`, and a bound of the count, are clauses, as the process record is lent and may hold any number.
 ghost use Rattle.lines.specs.Ranges.{Stepping};
 
 use crate::{points, records};

@@ -1,4 +1,5 @@
 // The lines of Figure 2 that touch X. p is the process that steps.
+// Kept: p, the place and the process one by one, for Help too: they are a command's, a bench's and a process's.
 ghost use Rattle.std.specs.Prelude.{◌≡◌, cond};
 ghost use Rattle.model.specs.Places.{linked};
 ghost use Rattle.model.specs.Records.{to_line};

@@ -14,6 +14,7 @@ fn modulo(i: usize, m: usize) -> u8
     (i % m) as u8
 }
 
+// Kept: `Sized n` is a clause, as n stands in a lent bench record, which may hold any number until row 1 is seen.
 // (s + 1) mod 2N of lines 18 and 19.
 pub fn following(n: usize, s: SequenceNumber) -> SequenceNumber
     requires { Sized n }

@@ -39,6 +39,7 @@ pub enum Refusal {
 
 impl Refusal {
     // The number that users are told.
+    // Kept: 01 promises its users a number.
     pub fn number(self) -> u8
         ensures { result ≡ refusal_number self }
     {
@@ -54,6 +55,7 @@ impl Refusal {
 }
 
 // The number of a refusal, 0 for none.
+// Kept: 01 promises its users this number.
 pub fn number_of(outcome: Result<(), Refusal>) -> u8
     ensures { result ≡ number_told outcome }
 {
@@ -73,6 +75,7 @@ impl TryFrom<u8> for Refusal {
     ghost try_from_gives = { RefusalWith };
 
     // The refusal that users are told by this number.
+    // Kept: an arm for each row, as no form of the language makes a variant of its number.
     fn try_from(number: u8) -> Result<Refusal, NoRefusal> {
         match number {
             1 => Ok(Refusal::NOutOfRange),

@@ -3,7 +3,7 @@
 
 #![tactic(auto)]
 
-ghost use Rattle.std.specs.Prelude.{◌≡◌, ◌⊎◌, OnOk, IfErr, codes};
+ghost use Rattle.std.specs.Prelude.{◌≡◌, ◌⊎◌, OnOk, IfOk, IfErr, codes};
 ghost use Rattle.std.specs.Process.{exit_status};
 ghost use Rattle.std.specs.IoError.{error_kind};
 ghost use Rattle.std.specs.Io.KnownBytes.{Appends};
@@ -25,10 +25,10 @@ use std::io;
 use std::io::{ErrorKind, Write};
 use std::process::ExitCode;
 
-// A run of a text that has ended: its number (0: not refused), the entries done, and where in the text it stopped.
+// A run of a text that has ended: whether it was refused, the entries done, and where in the text it stopped.
 #[derive(Clone, Copy)]
 pub struct Ended<'a> {
-    pub number: u8,
+    pub outcome: Result<(), Refusal>,
     pub entries: usize,
     pub report: StopReport,
     pub text: &'a [u8],
@@ -65,10 +65,10 @@ pub fn output(to: &mut impl Write, errors: &mut impl Write, made: Option<&[u8]>)
 
 // The message of a run. Nothing where it was not refused and no call is open.
 pub fn explain<W: Write>(to: &mut W, run: Ended, left: Left) -> io::Result<()>
-    ensures { run.entry.number ≡ 0 → OnOk result (Appends (W.contents to.old) (W.contents to.new)
-        (still_open left run.entry.report)) }
+    ensures { IfOk run.entry.outcome (λ end. OnOk result (Appends (W.contents to.old) (W.contents to.new)
+        (still_open left run.entry.report))) }
 {
-    if let Ok(refusal) = Refusal::try_from(run.number) {
+    if let Err(refusal) = run.outcome {
         refusals::tell(to, refusal, run, &left)?;
     }
     open_calls::still_open(to, run.report, &left)

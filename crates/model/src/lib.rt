@@ -4,7 +4,6 @@
 
 ghost use Rattle.std.specs.Prelude.{◌≡◌};
 ghost use Rattle.model.specs.SetUp.{x_at_set_up, bank_at_set_up, help_at_set_up, process_at_set_up, empty_bench};
-ghost use Rattle.model.specs.Replies.{number_of};
 ghost use Rattle.model.specs.declared.Reply.TheVariants.{Accepted};
 
 pub mod sizes;
@@ -73,6 +72,7 @@ pub struct Process {
 // What a command answers: refused with its number; accepted, with no answer yet; or a call's answer with its count of
 // own steps.
 // The words of an LL's answer stand in the process's return area.
+// Kept: a refusal has its row's number, as 01 promises its users one.
 #[derive(Clone, Copy)]
 pub enum Reply {
     Refused(u8),
@@ -164,15 +164,5 @@ pub fn process_at_set_up(mybuf: u8) -> Process
     Process {
         mybuf: BufferNumber(mybuf),
         ..Process::default()
-    }
-}
-
-// The number of a refusal, 0 for none.
-pub fn number_of(reply: Reply) -> u8
-    ensures { result ≡ number_of reply }
-{
-    match reply {
-        Reply::Refused(number) => number,
-        _ => 0,
     }
 }

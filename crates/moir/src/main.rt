@@ -3,7 +3,6 @@
 
 #![tactic(auto)]
 
-use llsc::refusals::number_of;
 use std::process::ExitCode;
 
 fn main(rt: HostRuntime) -> ExitCode {
@@ -13,7 +12,7 @@ fn main(rt: HostRuntime) -> ExitCode {
     let mut list = console::large_buffer();
     let out = moir_run::texts::run_text(given, false, &mut list);
     let ended = messages::Ended {
-        number: number_of(out.outcome),
+        outcome: out.outcome,
         entries: out.entries,
         report: out.report,
         text: given,

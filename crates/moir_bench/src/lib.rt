@@ -43,6 +43,7 @@ pub fn command(
 // The answer and all lent memory after it are those of the model.
 // Wrong programs that this rules out: one that leaves the segments or A[0] as they were;
 // one that sets up every record that is lent, and not the first N alone.
+// Kept: 01 promises its users a number.
 #[tactic(auto, using(crate::proofs::SetUpLaws::setting_up))]
 pub fn set_up(
     bench: &mut Bench,
@@ -54,7 +55,6 @@ pub fn set_up(
 ) -> u8
     ensures { (result, memory bench.new records.new words.new) ≡ set_up (memory bench.old records.old words.old) n w value.now }
 {
-    // Kept: 01 promises its users a number.
     match setting_up::prepare(*bench, records.len(), n, w, value, words) {
         Ok(next) => {
             *bench = next;

@@ -32,7 +32,7 @@ use Rattle.moir_model.specs.Words.{announced_word, segment_word, return_word, of
 use Rattle.moir_model.specs.Lines.{same_header, same_segment, saves, do_line2, do_line5, do_line7, do_line7_copy, do_line14, do_line17, do_line19}
 use Rattle.moir_model.specs.Machine.{Memory, step_at, obey}
 use Rattle.moir_model.specs.Command.{command, refusal, obeyed}
-use Rattle.moir_model.specs.SetUp.{set_up, set_up_refusal, at_set_up, values_at_set_up, process_at_set_up}
+use Rattle.moir_model.specs.SetUp.{at_set_up, values_at_set_up, process_at_set_up}
 use Rattle.moir_semantics.proofs.AcceptedRows.{InOrder, in_order}
 
 -- a segment, or a private copy of one

@@ -51,6 +51,7 @@ pub fn step_5(copy: CopyOf, mut bench: Bench, process: Process, words: &mut [u64
 }
 
 // Line 6.
+// Kept: beside `step_2`, as there.
 pub fn step_6(copy: CopyOf, before: &Before<'_>) -> Moved
     ensures { (result, before.now.words.now) ≡ step6 (copy_line copy 7) before.now.bench.now before.now.process before.now.words.now }
 {

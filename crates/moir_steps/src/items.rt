@@ -5,6 +5,7 @@ ghost use Rattle.moir_steps.specs.Items.{moved_by, moved_on};
 use moir_model::{Bench, LineStep, Moved, Process, Reply};
 
 // What a line made of its process, with the bench.
+// Kept: beside `taken`'s `after_word`, which makes another type of other parts; each is one literal.
 pub fn moved(bench: Bench, step: LineStep) -> Moved
     ensures { result ≡ moved_by bench step }
 {

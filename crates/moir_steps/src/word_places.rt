@@ -15,6 +15,7 @@ pub enum Row {
 
 impl Row {
     // Where its word k lies.
+    // Kept: k < 64 as a clause, since a word place is a number in a lent record, which may hold any.
     pub fn word(self, n: usize, w: usize, k: usize) -> usize
         requires { (row_number n self ≤ 288) × ((w ≤ 64) × (k < 64)) }
         ensures { result ≡ row_word n w self k }

@@ -3,7 +3,6 @@
 
 #![tactic(auto)]
 
-use llsc::refusals::number_of;
 use std::alloc::AllocError;
 use std::process::ExitCode;
 
@@ -15,7 +14,7 @@ fn main(rt: HostRuntime) -> Result<ExitCode, AllocError> {
     let mut list = vec![in rt.alloc(); 0; 3145728]?;
     let out = moir_run::texts::run_text(given, true, &mut list);
     let ended = messages::Ended {
-        number: number_of(out.outcome),
+        outcome: out.outcome,
         entries: out.entries,
         report: out.report,
         text: given,

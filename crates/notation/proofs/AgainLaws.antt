@@ -12,10 +12,9 @@ use Rattle.notation.specs.declared.Kind.{Kind}
 use Rattle.notation.specs.declared.Kind.TheVariants.{Digit, Gap, Marked, Offer, Open, Close, Other}
 use Rattle.notation.specs.declared.Entry.{Entry}
 use Rattle.notation.specs.declared.Entry.TheVariants.{StartSc}
-use Rattle.notation.specs.declared.Start.{Start}
 use Rattle.notation.specs.declared.Start.TheVariants.{Group}
-use Rattle.std.specs.Prelude.{Result, Ok, Err}
-use Rattle.notation.specs.Readers.{Digits}
+use Rattle.std.specs.Prelude.{Ok, Err}
+use Rattle.notation.specs.Readers.{Digits, Beginning, Following}
 use Rattle.notation.specs.Bytes.{space, line_feed, kind_of, entry_of}
 use Rattle.notation.specs.Grammar.{count_ok, times}
 use Rattle.notation.specs.Written as W
@@ -56,24 +55,24 @@ module _ {s : List ℕ} where
     offered_again e (Ok (k, next)) x = offer_again e x
     offered_again e (Err p) x = tt
 
-    same_start : {r r' : Result Start ℕ} → r ≡ r' → WrittenAgain s at r' → WrittenAgain s at r
+    same_start : {r r' : Beginning} → r ≡ r' → WrittenAgain s at r' → WrittenAgain s at r
     same_start e q = subst (WrittenAgain s at) (sym e) q
 
-    signed_again : (k : Kind) (r : Result Start ℕ) → kind_of (get_or s place 0) ≡ k → Signed s v place k r → WrittenAgain s at r
+    signed_again : (k : Kind) (r : Beginning) → kind_of (get_or s place 0) ≡ k → Signed s v place k r → WrittenAgain s at r
     signed_again (Digit d) r e q = same_start q tt
     signed_again Gap r e q = same_start q tt
     signed_again (Marked m) r e q = same_start q (mark_again m e)
     signed_again Offer r e q = same_start q.same (offered_again e q.number q.is)
-    signed_again Open r e q = same_start q (either (WrittenAgain s at) (count_ok v) (Ok (Group v (place + 1))) (Err place) (λ _. count_again e) (λ _. tt))
+    signed_again Open r e q = same_start q (either (WrittenAgain s at) (count_ok v) (Ok (Group v, place + 1)) (Err place) (λ _. count_again e) (λ _. tt))
     signed_again Close r e q = same_start q tt
     signed_again Other r e q = same_start q tt
 
-  again : {at : ℕ} {r : Result Start ℕ} → Begins s at r → WrittenAgain s at r
+  again : {at : ℕ} {r : Beginning} → Begins s at r → WrittenAgain s at r
   again (D.none x) = tt
   again (D.ends w h) = tt
   again (D.signed {k = k} {r = r} w h e q) = signed_again w h k r e q
 
-  pub begin_again : {at : ℕ} {r : Result Start ℕ} → Begins s at r → BeginSays s at r
+  pub begin_again : {at : ℕ} {r : Beginning} → Begins s at r → BeginSays s at r
   begin_again b = record { begins = b; again = again b }
 
   -- the first line

@@ -107,11 +107,13 @@ mutual
       ap (λ (x : List ℕ). scan x (between e) stack os (suc d)) (append_assoc ds (a ∷ (items_bytes i ++ (g ++ z ∷ []))) l)
       ∙ number_read e k (a ∷ ((items_bytes i ++ (g ++ z ∷ [])) ++ l)) stack os (suc d)
       ∙ opens n ((items_bytes i ++ (g ++ z ∷ [])) ++ l) stack os d h c
-      ∙ ap (λ (x : List ℕ). scan x (between false) (record { count = n; before = os; room = suc d } ∷ stack) [] d) (append_assoc (items_bytes i) (g ++ z ∷ []) l ∙ ap (λ (x : List ℕ). items_bytes i ++ x) (append_assoc g (z ∷ []) l))
+      ∙ ap (λ (x : List ℕ). scan x (between false) (record { count = n; before = os; room = suc d } ∷ stack) [] d)
+      (append_assoc (items_bytes i) (g ++ z ∷ []) l ∙ ap (λ (x : List ℕ). items_bytes i ++ x) (append_assoc g (z ∷ []) l))
       ∙ items_read i (g ++ z ∷ l) (gaps_over z l t (ap is_digit u.is)) (record { count = n; before = os; room = suc d } ∷ stack) []
       ∙ close_read t u (record { count = n; before = os; room = suc d }) l stack (items_say i) d
 
-  items_read : {d : ℕ} (i : Items d) → (l : List ℕ) → NoDigit l → (stack : List Frame) (os : List Entry) → scan (items_bytes i ++ l) (between false) stack os d ≡ scan l done stack (os ++ items_say i) d
+  items_read : {d : ℕ} (i : Items d) → (l : List ℕ) → NoDigit l
+      → (stack : List Frame) (os : List Entry) → scan (items_bytes i ++ l) (between false) stack os d ≡ scan l done stack (os ++ items_say i) d
   items_read {d} (G.item p i) l o stack os =
       let q = lead_read p (item_bytes i ++ l) in
       ap (λ (x : List ℕ). scan x (between false) stack os d) (append_assoc (lead_bytes p) (item_bytes i) l) ∙ q.same stack os ∙ item_read i l o q.e stack (os ++ lead_says p)
@@ -152,7 +154,9 @@ module _ {m : Place} {f : ℕ → Place} {stop : ℕ} {out : ℕ → Next} (fd :
 first_read : (d : ℕ) (f : FirstLine) (l : List ℕ) → read_from d (first_bytes f ++ l) before_n ≡ whole f.n f.w f.initial (scan l (between false) [] [] d)
 unfolding proceed first_bytes
 first_read d f l =
-    ap (λ (x : List ℕ). read_from d x before_n) (append_assoc f.n_digits (space ∷ third) l ∙ ap (λ (x : List ℕ). f.n_digits ++ space ∷ x) (append_assoc f.w_digits (space ∷ second) l ∙ ap (λ (x : List ℕ). f.w_digits ++ space ∷ x) (append_assoc f.initial_digits (line_feed ∷ []) l)))
+    ap (λ (x : List ℕ). read_from d x before_n)
+    (append_assoc f.n_digits (space ∷ third) l ∙ ap (λ (x : List ℕ). f.n_digits ++ space ∷ x) (append_assoc f.w_digits (space ∷ second) l
+    ∙ ap (λ (x : List ℕ). f.w_digits ++ space ∷ x) (append_assoc f.initial_digits (line_feed ∷ []) l)))
     ∙ field_read field_n d f.n_number (f.w_digits ++ space ∷ (f.initial_digits ++ line_feed ∷ l))
     ∙ field_read (field_w f.n) d f.w_number (f.initial_digits ++ line_feed ∷ l)
     ∙ field_read (field_initial f.n f.w) d f.initial_number l

@@ -16,9 +16,9 @@ use Rattle.notation.specs.declared.Entry.{Entry}
 use Rattle.notation.specs.declared.Entry.TheVariants.{StartSc}
 use Rattle.notation.specs.declared.Start.{Start}
 use Rattle.notation.specs.declared.Start.TheVariants.{Group}
-use Rattle.std.specs.Prelude.{Result, Ok, Err}
-use Rattle.notation.specs.Readers.{Digits}
 use Rattle.notation.specs.declared.Follow.{Follow}
+use Rattle.std.specs.Prelude.{Ok, Err}
+use Rattle.notation.specs.Readers.{Digits, Beginning, Following}
 use Rattle.notation.specs.Bytes.{kind_of, entry_of, is_digit, is_gap}
 use Rattle.notation.specs.Grammar.{largest, count_ok}
 use Rattle.notation.specs.Scan.{between, num, offer, offer_num, done, bad, move, said, Frame, end, fault, at_end, go, scan}
@@ -69,7 +69,9 @@ module _ {s : List ℕ} where
     same = λ stack os d.
         elim (leb (length s) at) as (λ t. leb (length s) at ≡ t → scan (drop at s) (offer_num p v) stack os d ≡ scan (drop at s) done stack (os ++ StartSc p v ∷ []) d) [
           | true ↦ (λ t. let l = leb-true _ _ t in scan_end s at (offer_num p v) stack os d l ∙ at_end_offer p v stack os ∙ sym (scan_end s at done stack (os ++ StartSc p v ∷ []) d l))
-          | false ↦ (λ t. let l = leb-false _ _ t in let w = offer_move p v (kind_of (get_or s at 0)) (e l) in scan_at s at (offer_num p v) stack os d l ∙ simp (w.0, w.1) (sym (scan_at s at done stack (os ++ StartSc p v ∷ []) d l ∙ simp append-nil)))
+          | false ↦ (λ t. let l = leb-false _ _ t in let w = offer_move p v (kind_of (get_or s at 0)) (e l) in
+              scan_at s at (offer_num p v) stack os d l ∙ simp (w.0, w.1)
+              (sym (scan_at s at done stack (os ++ StartSc p v ∷ []) d l ∙ simp append-nil)))
         ] refl;
   }
 
@@ -143,18 +145,19 @@ module _ {s : List ℕ} where
       }
 
   -- how an item begins
-  wrong_start : {at place : ℕ} {r : Result Start ℕ} → r ≡ Err place → Faults s at (between false) 10 place → StartSays s at r
+  wrong_start : {at place : ℕ} {r : Beginning} → r ≡ Err place → Faults s at (between false) 10 place → StartSays s at r
   wrong_start {at} q f = subst (StartSays s at) (sym q) f
 
   offer_start : {at p place : ℕ} → Whole s at p place → place < length s → kind_of (get_or s place 0) ≡ Offer → (x : Digits) → NumberAtSays s (place + 1) x → StartSays s at (offer_of p x)
   offer_start w h e (Ok (k, next)) x = offer_once w h e x
   offer_start {p = p} w h e (Err place) x = then_fault (to_offer w h e) (offer_none p x)
 
-  group_start : {at n place : ℕ} → Whole s at n place → place < length s → kind_of (get_or s place 0) ≡ Open → (t : Bool) → count_ok n ≡ t → StartSays s at (cond t (Ok (Group n (place + 1))) (Err place))
+  group_start : {at n place : ℕ} → Whole s at n place → place < length s → kind_of (get_or s place 0) ≡ Open → (t : Bool) → count_ok n ≡ t
+      → StartSays s at (cond t (Ok (Group n, place + 1)) (Err place))
   group_start w h e true ok = group_begun w h e ok
   group_start w h e false ok = group_bad w h e ok
 
-  sign_start : {at v place : ℕ} (r : Result Start ℕ) (k : Kind) → Whole s at v place → (h : place < length s) → kind_of (get_or s place 0) ≡ k → Signed s v place k r → StartSays s at r
+  sign_start : {at v place : ℕ} (r : Beginning) (k : Kind) → Whole s at v place → (h : place < length s) → kind_of (get_or s place 0) ≡ k → Signed s v place k r → StartSays s at r
   unfolding move
   sign_start r (Digit d) w h e q = absurd (true≢false (sym (ap is_digit e) ∙ w.numbered.stops h))
   sign_start {v = v} r Gap w h e q = wrong_start q (no_item w h (ap (move (num v)) e))
@@ -164,7 +167,7 @@ module _ {s : List ℕ} where
   sign_start {v = v} r Close w h e q = wrong_start q (no_item w h (ap (move (num v)) e))
   sign_start {v = v} r Other w h e q = wrong_start q (no_item w h (ap (move (num v)) e))
 
-  pub started : {at : ℕ} {r : Result Start ℕ} → AtItem s at → Begins s at r → StartSays s at r
+  pub started : {at : ℕ} {r : Beginning} → AtItem s at → Begins s at r → StartSays s at r
   started a (D.none x) = first_none a x
   started a (D.ends w h) = cut_off w h
   started a (D.signed {k = k} {r = r} w h e q) = sign_start r k w h e q
@@ -203,7 +206,13 @@ module _ {s : List ℕ} where
       on = omega (arith, k.on);
       item = record { here = l; item = ap is_gap c };
       places = places_on h e k;
-      goes = then gapped (record { on = omega arith; within = omega arith; same = λ stack os r. scan_at s next (between true) stack os r l ∙ simp (c, append-nil) (sym (scan_at s next (between false) stack os r l ∙ simp (c, append-nil))) });
+      goes = then gapped (record {
+        on = omega arith;
+        within = omega arith;
+        same = λ stack os r.
+            scan_at s next (between true) stack os r l ∙ simp (c, append-nil)
+            (sym (scan_at s next (between false) stack os r l ∙ simp (c, append-nil)));
+      });
     }
 
     gap_stray : next < length s → move (between true) (kind_of (get_or s next 0)) ≡ bad → Faults s at done 10 next
@@ -219,15 +228,15 @@ module _ {s : List ℕ} where
     gap_sign Close l q = gap_shut l q
     gap_sign Other l q = gap_stray l (ap (move (between true)) q)
 
-    gap_follow : {r : Result Follow ℕ} → Behind s next r → FollowSays s at r
+    gap_follow : {r : Following} → Behind s next r → FollowSays s at r
     gap_follow (D.ends l) = gap_end l
     gap_follow (D.byte {k = c} l q x) = subst (FollowSays s at) (sym x) (gap_sign c l q)
 
 module _ (s : List ℕ) where
-  stray_follow : (at : ℕ) {r : Result Follow ℕ} → r ≡ Err at → at < length s → move done (kind_of (get_or s at 0)) ≡ bad → FollowSays s at r
+  stray_follow : (at : ℕ) {r : Following} → r ≡ Err at → at < length s → move done (kind_of (get_or s at 0)) ≡ bad → FollowSays s at r
   stray_follow at q h e = subst (FollowSays s at) (sym q) (byte_bad done (kind_of (get_or s at 0)) at h refl e)
 
-  byte_follow : {at : ℕ} (r : Result Follow ℕ) (k : Kind) → at < length s → kind_of (get_or s at 0) ≡ k → After s at k r → FollowSays s at r
+  byte_follow : {at : ℕ} (r : Following) (k : Kind) → at < length s → kind_of (get_or s at 0) ≡ k → After s at k r → FollowSays s at r
   unfolding move
   byte_follow r (Digit d) h e q = stray_follow _ q h (ap (move done) e)
   byte_follow r Gap h e q = gap_follow h e q.skipped q.behind
@@ -237,13 +246,13 @@ module _ (s : List ℕ) where
   byte_follow {at} r Close h e q = subst (FollowSays s at) (sym q) (follow_shut at h e)
   byte_follow r Other h e q = stray_follow _ q h (ap (move done) e)
 
-pub followed : {s : List ℕ} {at : ℕ} {r : Result Follow ℕ} → Follows s at r → FollowSays s at r
+pub followed : {s : List ℕ} {at : ℕ} {r : Following} → Follows s at r → FollowSays s at r
 followed {at = at} (D.ends h) = follow_end at h
 followed {s} {r = r} (D.byte {k = k} h e q) = byte_follow s r k h e q
 
 -- what an item is that begins, and what follows it, where the reply is known
-pub begun_as : {s : List ℕ} {at : ℕ} {r r' : Start} → AtItem s at → Begins s at (Ok r) → r ≡ r' → StartSays s at (Ok r')
-begun_as {s} {at} a b e = subst (λ (x : Start). StartSays s at (Ok x)) e (started a b)
+pub begun_as : {s : List ℕ} {at next : ℕ} {r r' : Start} → AtItem s at → Begins s at (Ok (r, next)) → r ≡ r' → StartSays s at (Ok (r', next))
+begun_as {s} {at} {next} a b e = subst (λ (x : Start). StartSays s at (Ok (x, next))) e (started a b)
 
-pub follows_as : {s : List ℕ} {at : ℕ} {r r' : Follow} → Follows s at (Ok r) → r ≡ r' → FollowSays s at (Ok r')
-follows_as {s} {at} f e = subst (λ (x : Follow). FollowSays s at (Ok x)) e (followed f)
+pub follows_as : {s : List ℕ} {at next : ℕ} {r r' : Follow} → Follows s at (Ok (r, next)) → r ≡ r' → FollowSays s at (Ok (r', next))
+follows_as {s} {at} {next} f e = subst (λ (x : Follow). FollowSays s at (Ok (x, next))) e (followed f)

@@ -4,7 +4,7 @@ use mathlib.Core.Path.{◌≡◌, refl, sym, ap, subst, ◌∙◌}
 use mathlib.Core.List.{List, [], ◌∷◌}
 use mathlib.Core.Bool.{Bool, true, false, cond, true≢false}
 use native.Mathlib.Omega.{arith}
-use borrow.Author.Tests.{leb-true, le-leb, lt-leb, eqb-true, eqb-false, eq-eqb, ne_eqb}
+use borrow.Author.Tests.{leb-true, le-leb, eqb-true, eqb-false, ne_eqb}
 use lib.Dec.{eqb, leb}
 use Rattle.listing.specs.Quoted.{byte}
 use Rattle.notation.specs.declared.Mark.{Mark}
@@ -12,11 +12,9 @@ use Rattle.notation.specs.declared.Mark.TheVariants.{Ll, Vl, One, All}
 use Rattle.notation.specs.declared.Kind.{Kind}
 use Rattle.notation.specs.declared.Kind.TheVariants.{Digit, Gap, Marked, Offer, Open, Close, Other}
 use Rattle.notation.specs.declared.Entry.TheVariants.{StartSc}
-use Rattle.std.specs.Prelude.{Result, Ok, Err}
-use Rattle.notation.specs.declared.Start.TheVariants.{Group}
-use Rattle.notation.specs.declared.Start.{Start}
+use Rattle.std.specs.Prelude.{Err}
 use Rattle.notation.specs.Bytes.{kind_of, is_digit, is_gap}
-use Rattle.notation.specs.Grammar.{largest, digit_ok, count_ok}
+use Rattle.notation.specs.Grammar.{largest, digit_ok}
 use Rattle.notation.specs.Scan.{between, offer, offer_num, done, bad, move, said}
 use Rattle.notation.specs.Readers.{Signed, After, behind_of}
 
@@ -105,26 +103,6 @@ ok_small v d h = leb-true (v * 10 + d) largest (unless_zero v (leb (v * 10 + d) 
 pub ok : (v d : ℕ) → 0 < v → v * 10 + d ≤ largest → digit_ok v d ≡ true
 ok v d p h = simp (ne_eqb v 0 (λ z. omega arith), le-leb _ _ h)
 
--- a kind that is not the digit's
-pub not_digit : (k : Kind) → ((d : ℕ) → k ≡ Digit d → ⊥) → is_digit k ≡ false
-not_digit (Digit d) h = absurd (h d refl)
-not_digit Gap h = refl
-not_digit (Marked m) h = refl
-not_digit Offer h = refl
-not_digit Open h = refl
-not_digit Close h = refl
-not_digit Other h = refl
-
--- or not the gap's
-pub not_gap : (k : Kind) → (k ≡ Gap → ⊥) → is_gap k ≡ false
-not_gap (Digit d) h = refl
-not_gap Gap h = absurd (h refl)
-not_gap (Marked m) h = refl
-not_gap Offer h = refl
-not_gap Open h = refl
-not_gap Close h = refl
-not_gap Other h = refl
-
 -- what is bad before an item
 pub between_not : (k : Kind) → is_digit k ≡ false → is_gap k ≡ false → move (between false) k ≡ bad
 unfolding move
@@ -157,19 +135,6 @@ unsigned s v place Offer m o p = absurd (o refl)
 unsigned s v place Open m o p = absurd (p refl)
 unsigned s v place Close m o p = refl
 unsigned s v place Other m o p = refl
-
--- what a count makes of a `(`
-abbrev Opening : ℕ → ℕ → ℕ → Result Start ℕ
-Opening v x place = cond (count_ok v) (Ok (Group v x)) (Err place)
-
-pub count_zero : (v x place : ℕ) → v ≡ 0 → Err place ≡ Opening v x place
-count_zero v x place h = simp (eq-eqb _ _ h)
-
-pub count_over : (v x place : ℕ) → (v ≡ 0 → ⊥) → 255 < v → Err place ≡ Opening v x place
-count_over v x place h l = simp (ne_eqb _ _ h, lt-leb _ _ l)
-
-pub count_fits : (v x place : ℕ) → (v ≡ 0 → ⊥) → v ≤ 255 → Ok (Group v x) ≡ Opening v x place
-count_fits v x place h l = simp (ne_eqb _ _ h, le-leb _ _ l)
 
 -- right after an item, neither a gap nor a `)`
 pub stray : (s : List ℕ) (at : ℕ) (k : Kind) → (k ≡ Gap → ⊥) → (k ≡ Close → ⊥) → After s at k (Err at)

@@ -1,4 +1,5 @@
 pub mod KindLaws
+pub mod ReaderLaws
 pub mod NumberLaws
 pub mod ScanLaws
 pub mod PlaceLaws
@@ -19,6 +20,7 @@ pub mod WordLaws
 pub mod BlockLaws
 pub mod ListedLaws
 pub mod ItemsLaws
+pub mod CursorLaws
 pub mod PlacedTrees
 pub mod ListedText
 pub mod Examples

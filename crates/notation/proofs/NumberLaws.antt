@@ -18,6 +18,14 @@ use Rattle.notation.specs.Grammar.{Number, largest, digit_ok}
 use Rattle.notation.specs.Readers.{Counts, still, digit}
 use Rattle.notation.proofs.KindLaws.{byte_of, digit_small, ok, ok_some, ok_small}
 
+-- below, or the same
+pub below_or : (P : Type 0) (i n : ℕ) → i < n + 1 → (i < n → P) → (i ≡ n → P) → P
+below_or P i n h f g = pick (ltb i n) refl
+  where
+    pick : (t : Bool) → ltb i n ≡ t → P
+    pick true e = f (ltb-true i n e)
+    pick false e = g (omega (arith, ltb-false i n e))
+
 -- one digit more, written
 decimal_more : (v d : ℕ) → d ≤ 9 → digit_ok v d ≡ true → decimal (v * 10 + d) ≡ decimal v ++ (48 + d) ∷ []
 decimal_more v d h ok =

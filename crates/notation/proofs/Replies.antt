@@ -2,17 +2,13 @@
 use Prim.Native.Nat.{ℕ, ◌+◌, ◌≤◌, ◌<◌}
 use mathlib.Core.Path.{◌≡◌, refl, sym, ap, subst, ◌∙◌}
 use mathlib.Core.List.{List}
-use mathlib.Core.Bool.{Bool, true, false, true≢false}
+use mathlib.Core.Bool.{true, true≢false}
 use native.Mathlib.Omega.{arith}
-use borrow.Author.Tests.{ltb-true, ltb-false}
-use lib.Dec.{ltb}
 use lib.ListN.{get_or}
 use Rattle.notation.specs.declared.Kind.{Kind}
 use Rattle.notation.specs.declared.Kind.TheVariants.{Digit, Gap, Marked, Offer, Open, Close, Other}
 use Rattle.std.specs.Prelude.{Result, Ok, Err}
-use Rattle.notation.specs.Readers.{Digits}
-use Rattle.notation.specs.declared.Start.{Start}
-use Rattle.notation.specs.declared.Follow.{Follow}
+use Rattle.notation.specs.Readers.{Digits, Beginning, Following}
 use Rattle.notation.specs.declared.First.{First}
 use Rattle.notation.specs.Bytes.{kind_of, is_digit, is_gap}
 use Rattle.notation.specs.Grammar.{digit_ok}
@@ -20,15 +16,7 @@ use Rattle.notation.specs.Readers as D
 use Rattle.notation.specs.Readers.{Counts, Numbered, StrayDigit, NumberSays, Whole, NoneAt, NumberAtSays, Ended}
 use Rattle.notation.specs.Readers.{NotEnded, FieldSays, Headed, NotHeaded, HeaderSays, Gapped, Skipped, offer_of}
 use Rattle.notation.specs.Readers.{Signed, Begins, Behind, After, Follows}
-use Rattle.notation.proofs.NumberLaws.{counts_on}
-
--- below, or the same
-below_or : (P : Type 0) (i n : ℕ) → i < n + 1 → (i < n → P) → (i ≡ n → P) → P
-below_or P i n h f g = pick (ltb i n) refl
-  where
-    pick : (t : Bool) → ltb i n ≡ t → P
-    pick true e = f (ltb-true i n e)
-    pick false e = g (omega (arith, ltb-false i n e))
+use Rattle.notation.proofs.NumberLaws.{below_or, counts_on}
 
 same_if : (a b : ℕ) → (a < b → ⊥) → (b < a → ⊥) → a ≡ b
 same_if a b p q = omega (arith, p, q)
@@ -182,7 +170,7 @@ module _ (s : List ℕ) where
   skip_one {n = n} {m = m} p q = same_if n m (gap_first p q) (gap_first q p)
 
   -- one beginning of an item
-  signed_one : (v place : ℕ) (k : Kind) (r r' : Result Start ℕ) → Signed s v place k r → Signed s v place k r' → r ≡ r'
+  signed_one : (v place : ℕ) (k : Kind) (r r' : Beginning) → Signed s v place k r → Signed s v place k r' → r ≡ r'
   signed_one v place (Digit d) r r' p q = p ∙ sym q
   signed_one v place Gap r r' p q = p ∙ sym q
   signed_one v place (Marked m) r r' p q = p ∙ sym q
@@ -191,11 +179,15 @@ module _ (s : List ℕ) where
   signed_one v place Close r r' p q = p ∙ sym q
   signed_one v place Other r r' p q = p ∙ sym q
 
-  sign_one : (v place v' place' : ℕ) (k k' : Kind) (r r' : Result Start ℕ) → v ≡ v' → place ≡ place' → kind_of (get_or s place 0) ≡ k → kind_of (get_or s place' 0) ≡ k'
+  sign_one : (v place v' place' : ℕ) (k k' : Kind) (r r' : Beginning) → v ≡ v' → place ≡ place' → kind_of (get_or s place 0) ≡ k → kind_of (get_or s place' 0) ≡ k'
       → Signed s v place k r → Signed s v' place' k' r' → r ≡ r'
-  sign_one v place v' place' k k' r r' e f g h p q = signed_one v place k r r' p (subst (λ (x : Kind). Signed s v place x r') (sym h ∙ ap (λ (x : ℕ). kind_of (get_or s x 0)) (sym f) ∙ g) (subst (λ (x : ℕ). Signed s x place k' r') (sym e) (subst (λ (x : ℕ). Signed s v' x k' r') (sym f) q)))
+  sign_one v place v' place' k k' r r' e f g h p q =
+      let kinds : k' ≡ k = sym h ∙ ap (λ (x : ℕ). kind_of (get_or s x 0)) (sym f) ∙ g in
+      let there = subst (λ (x : ℕ). Signed s v' x k' r') (sym f) q in
+      let of_v = subst (λ (x : ℕ). Signed s x place k' r') (sym e) there in
+      signed_one v place k r r' p (subst (λ (x : Kind). Signed s v place x r') kinds of_v)
 
-  pub begin_one : {at : ℕ} {r r' : Result Start ℕ} → Begins s at r → Begins s at r' → r ≡ r'
+  pub begin_one : {at : ℕ} {r r' : Beginning} → Begins s at r → Begins s at r' → r ≡ r'
   begin_one (D.none x) (D.none y) = ap Err (none_one x y)
   begin_one (D.none x) (D.ends w h) = absurd (none_not x w)
   begin_one (D.none x) (D.signed w h e q) = absurd (none_not x w)
@@ -208,13 +200,13 @@ module _ (s : List ℕ) where
       let o = whole_one w w₂ in sign_one v place v' place' k k' r r' o.0 o.1 e e₂ q q₂
 
   -- one thing that follows it
-  behind_one : (n m : ℕ) {r r' : Result Follow ℕ} → n ≡ m → Behind s n r → Behind s m r' → r ≡ r'
-  behind_one n m o (D.ends h) (D.ends h₂) = refl
+  behind_one : (n m : ℕ) {r r' : Following} → n ≡ m → Behind s n r → Behind s m r' → r ≡ r'
+  behind_one n m o (D.ends h) (D.ends h₂) = cc
   behind_one n m o (D.ends h) (D.byte h₂ e q) = absurd (omega arith)
   behind_one n m o (D.byte h e q) (D.ends h₂) = absurd (omega arith)
   behind_one n m o (D.byte h e q) (D.byte h₂ e₂ q₂) = cc
 
-  after_one : (at : ℕ) (k : Kind) (r r' : Result Follow ℕ) → After s at k r → After s at k r' → r ≡ r'
+  after_one : (at : ℕ) (k : Kind) (r r' : Following) → After s at k r → After s at k r' → r ≡ r'
   after_one at (Digit d) r r' p q = p ∙ sym q
   after_one at Gap r r' p q = behind_one p.next q.next (skip_one p.skipped q.skipped) p.behind q.behind
   after_one at (Marked m) r r' p q = p ∙ sym q
@@ -223,7 +215,7 @@ module _ (s : List ℕ) where
   after_one at Close r r' p q = p ∙ sym q
   after_one at Other r r' p q = p ∙ sym q
 
-  pub follow_one : {at : ℕ} {r r' : Result Follow ℕ} → Follows s at r → Follows s at r' → r ≡ r'
+  pub follow_one : {at : ℕ} {r r' : Following} → Follows s at r → Follows s at r' → r ≡ r'
   follow_one (D.ends h) (D.ends h₂) = refl
   follow_one (D.ends h) (D.byte h₂ e q) = absurd (omega arith)
   follow_one (D.byte h e q) (D.ends h₂) = absurd (omega arith)

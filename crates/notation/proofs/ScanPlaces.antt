@@ -130,7 +130,9 @@ module _ (b : ℕ) (l : List ℕ) (m : Mode) (stack : List Frame) (os : List Ent
       later : ScanWhy l p.at m' stack (os ++ said m (kind_of b)) d k → ScanWhy (b ∷ l) (suc p.at) m stack os d k
       later (ended z q) = ended z (ap suc q)
       later (broken z q h) = broken z (omega arith) (λ t stack' os' d' r. ap is_end (first b (take (suc p.at) l ++ t) m stack' os' d' (to m') e) ∙ h t stack' (os' ++ said m (kind_of b)) d' r)
-      later (deep z q o h g) = deep z (omega arith) o (λ t. ap is_end (first b (take (suc p.at) l ++ t) m stack os d (to m') e) ∙ h t) (record { rest = g.rest; says = g.says; right = first b (take (suc p.at) l ++ g.rest) m (map lift stack) os (suc d) (to m') e ∙ g.right })
+      later (deep z q o h g) = deep z (omega arith) o
+          (λ t. ap is_end (first b (take (suc p.at) l ++ t) m stack os d (to m') e) ∙ h t)
+          (record { rest = g.rest; says = g.says; right = first b (take (suc p.at) l ++ g.rest) m (map lift stack) os (suc d) (to m') e ∙ g.right })
 
 -- only a `(` begins a group
 to_enter : {m : Mode} {n : ℕ} → to m ≡ enter n → ⊥
@@ -207,7 +209,8 @@ module _ (b : ℕ) (m : Mode) (n : ℕ) (e : move m (kind_of b) ≡ enter n) whe
   no_count x stack os d c = first b x m stack os d (enter n) e ∙ ap (opening x n stack (os ++ said m (kind_of b)) d) c
 
   hop : (x : List ℕ) (stack stack' : List Frame) (os : List Entry) (d : ℕ) → count_ok n ≡ true → length stack' ≡ length stack
-      → ((stack'' : List Frame) (os' : List Entry) (d' : ℕ) → length stack'' ≡ suc (length stack) → is_end (scan x (between false) stack'' os' d') ≡ false) → is_end (scan (b ∷ x) m stack' os d) ≡ false
+      → ((stack'' : List Frame) (os' : List Entry) (d' : ℕ) → length stack'' ≡ suc (length stack) → is_end (scan x (between false) stack'' os' d') ≡ false)
+      → is_end (scan (b ∷ x) m stack' os d) ≡ false
   hop x stack stack' os zero c q h = ap is_end (entering x stack' os zero c)
   hop x stack stack' os (suc r) c q h = ap is_end (entering x stack' os (suc r) c) ∙ h (record { count = n; before = os ++ said m (kind_of b); room = suc r } ∷ stack') [] r (ap suc q)
 
@@ -223,7 +226,9 @@ module _ (b : ℕ) (m : Mode) (n : ℕ) (e : move m (kind_of b) ≡ enter n) whe
         later : ScanWhy l p.at (between false) (record { count = n; before = os ++ said m (kind_of b); room = suc r } ∷ stack) [] r k → ScanWhy (b ∷ l) (suc p.at) m stack os (suc r) k
         later (ended z q) = ended z (ap suc q)
         later (broken z q h) = broken z (omega arith) (λ t stack' os' d' u. hop (take (suc p.at) l ++ t) stack stack' os' d' c u (λ stack'' os'' d'' w. h t stack'' os'' d'' w))
-        later (deep z q o h g) = deep z (omega arith) o (λ t. ap is_end (entering (take (suc p.at) l ++ t) stack os (suc r) c) ∙ h t) (record { rest = g.rest; says = g.says; right = entering (take (suc p.at) l ++ g.rest) (map lift stack) os (suc (suc r)) c ∙ g.right })
+        later (deep z q o h g) = deep z (omega arith) o
+            (λ t. ap is_end (entering (take (suc p.at) l ++ t) stack os (suc r) c) ∙ h t)
+            (record { rest = g.rest; says = g.says; right = entering (take (suc p.at) l ++ g.rest) (map lift stack) os (suc (suc r)) c ∙ g.right })
 
     too_deep : ScanPlaced (b ∷ l) m stack os zero 11 (suc (length l))
     too_deep =
@@ -260,7 +265,9 @@ module _ (b : ℕ) (m : Mode) (e : move m (kind_of b) ≡ leave) where
       later : ScanWhy l p.at done stack (f.before ++ times f.count (os ++ said m (kind_of b))) f.room k → ScanWhy (b ∷ l) (suc p.at) m (f ∷ stack) os d k
       later (ended z q) = ended z (ap suc q)
       later (broken z q h) = broken z (omega arith) (λ t stack' os' d' u. drop_out (take (suc p.at) l ++ t) stack stack' os' d' u (λ stack'' os'' d'' w. h t stack'' os'' d'' w))
-      later (deep z q o h g) = deep z (omega arith) o (λ t. ap is_end (leaving (take (suc p.at) l ++ t) f stack os d) ∙ h t) (record { rest = g.rest; says = g.says; right = leaving (take (suc p.at) l ++ g.rest) (lift f) (map lift stack) os (suc d) ∙ g.right })
+      later (deep z q o h g) = deep z (omega arith) o
+          (λ t. ap is_end (leaving (take (suc p.at) l ++ t) f stack os d) ∙ h t)
+          (record { rest = g.rest; says = g.says; right = leaving (take (suc p.at) l ++ g.rest) (lift f) (map lift stack) os (suc d) ∙ g.right })
 
 lone_close : (b : ℕ) (m : Mode) → move m (kind_of b) ≡ leave → (t : List ℕ) (stack : List Frame) (os : List Entry) (d : ℕ) → length stack ≡ 0 → is_end (scan (b ∷ t) m stack os d) ≡ false
 unfolding go

@@ -163,7 +163,8 @@ within top s at k (deep z q o h g) = omega arith
 because : (s : List ℕ) (at k : ℕ) → is_right (read_from deepest s before_n) ≡ false → Why deepest s at before_n k → R.Why s at k
 because s at k n (ended z q) = subst (R.Why s at) (sym z) (R.ended q (not_right_text deepest s n))
 because s at k n (broken z q h) = subst (R.Why s at) (sym z) (R.broken q (λ d t r. not_right_text d (take (suc at) s ++ t) (h d t) r))
-because s at k n (deep z q o h g) = subst (R.Why s at) (sym z) (R.deep q (record { is = o }) (λ t r. not_right_text deepest (take (suc at) s ++ t) (h t) r) (completed (suc deepest) (take (suc at) s) g))
+because s at k n (deep z q o h g) = subst (R.Why s at) (sym z)
+    (R.deep q (record { is = o }) (λ t r. not_right_text deepest (take (suc at) s ++ t) (h t) r) (completed (suc deepest) (take (suc at) s) g))
 
 module _ (s : List ℕ) (k left : ℕ) (e : read_from deepest s before_n ≡ wrong k left) where
   placed_so : Placed deepest s before_n k left
@@ -183,7 +184,9 @@ module _ (s : List ℕ) (k left : ℕ) (e : read_from deepest s before_n ≡ wro
 
 -- no fault stands before another
 longer : (d a b : ℕ) (s : List ℕ) → a < b → Hopeless d (take (suc a) s) → Completable d (take b s) → ⊥
-longer d a b s l h c = h (take (b - suc a) (drop (suc a) s) ++ c.rest) (subst (Right d) (ap (λ (x : List ℕ). x ++ c.rest) (ap (λ (x : ℕ). take x s) parts ∙ take-add (suc a) (b - suc a) s) ∙ append_assoc (take (suc a) s) (take (b - suc a) (drop (suc a) s)) c.rest) c.right)
+longer d a b s l h c = h (take (b - suc a) (drop (suc a) s) ++ c.rest)
+    (subst (Right d) (ap (λ (x : List ℕ). x ++ c.rest) (ap (λ (x : ℕ). take x s) parts ∙ take-add (suc a) (b - suc a) s)
+    ∙ append_assoc (take (suc a) s) (take (b - suc a) (drop (suc a) s)) c.rest) c.right)
   where
     parts : b ≡ suc a + (b - suc a)
     parts = omega arith

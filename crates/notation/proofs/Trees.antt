@@ -144,7 +144,8 @@ next d b c os (between true) Offer k s = tt
 next d b c os (between true) Open k s = tt
 next d b c os (between true) Close k s = record { i = s.i; g = s.c ∷ s.g; t = G.gap s.k s.t; k = k; text = snoc (items_bytes s.i) (s.c ∷ s.g) c s.text; saying = none_said s.saying }
 next d b c os (between true) Other k s = tt
-next d b c os (num v) (Digit x) k s = more_then d b c (os ++ []) num v x (λ fits. record { l = s.l; ds = s.ds ++ c ∷ []; n = G.more s.n k fits; text = snoc (lead_bytes s.l) s.ds c s.text; saying = none_said s.saying })
+next d b c os (num v) (Digit x) k s = more_then d b c (os ++ []) num v x
+    (λ fits. record { l = s.l; ds = s.ds ++ c ∷ []; n = G.more s.n k fits; text = snoc (lead_bytes s.l) s.ds c s.text; saying = none_said s.saying })
 next d b c os (num v) Gap k s = tt
 next d b c os (num v) (Marked x) k s = record {
   i = G.item s.l (G.marked s.ds v c x s.n k);
@@ -326,7 +327,8 @@ walk : (top : ℕ) (s : List ℕ) (m : Mode) (stack : List Frame) (p b : List �
     → scan s m stack os d ≡ end es → Is top (p ++ (b ++ s)) es
 unfolding scan
 walk top [] m stack p b os es d o s h = ends top m stack p b os es d o s h
-walk top (c ∷ l) m stack p b os es d o s h = on top c l b p (os ++ said m (kind_of c)) es d stack (move m (kind_of c)) o (next d b c os m (kind_of c) (record { is = refl }) s) (λ m stack p b os d. walk top l m stack p b os es d) h
+walk top (c ∷ l) m stack p b os es d o s h = on top c l b p (os ++ said m (kind_of c)) es d stack (move m (kind_of c)) o
+    (next d b c os m (kind_of c) (record { is = refl }) s) (λ m stack p b os d. walk top l m stack p b os es d) h
 
 -- what the reading says, the grammar gives
 pub schedule_given : (d : ℕ) (s : List ℕ) (es : List Entry) → scan s (between false) [] [] d ≡ end es → Is d s es

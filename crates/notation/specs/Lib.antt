@@ -11,3 +11,4 @@ pub mod Stretches
 pub mod Groups
 pub mod EntryWords
 pub mod Listed
+pub mod Cursor

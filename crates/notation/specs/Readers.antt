@@ -110,72 +110,80 @@ pub record Skipped (s : List ℕ) (at next : ℕ) : Type 0 where
   pub within : next ≤ length s
   pub stops : next < length s → is_gap (kind_of (get_or s next 0)) ≡ false
 
+-- an item begun and the place after it, or after its `(`; or the place in the way
+abbrev pub Beginning : Type 0
+Beginning = Result (Start × ℕ) ℕ
+
+-- what follows an item, and the place from which it goes on; or the place in the way
+abbrev pub Following : Type 0
+Following = Result (Follow × ℕ) ℕ
+
 -- what a number after the `s` of process p makes
-abbrev pub offer_of : ℕ → Digits → Result Start ℕ
-offer_of p (Ok (k, next)) = Ok (Single (StartSc p k) next)
+abbrev pub offer_of : ℕ → Digits → Beginning
+offer_of p (Ok (k, next)) = Ok (Single (StartSc p k), next)
 offer_of p (Err place) = Err place
 
-pub record Offered (s : List ℕ) (p at : ℕ) (r : Result Start ℕ) : Type 0 where
+pub record Offered (s : List ℕ) (p at : ℕ) (r : Beginning) : Type 0 where
   pub number : Digits
   pub is : NumberAtSays s at number
   pub same : r ≡ offer_of p number
 
 -- what the byte after an item's first number makes of it
-abbrev pub Signed : List ℕ → ℕ → ℕ → Kind → Result Start ℕ → Type 0
+abbrev pub Signed : List ℕ → ℕ → ℕ → Kind → Beginning → Type 0
 Signed s v place (Digit d) r = r ≡ Err place
 Signed s v place Gap r = r ≡ Err place
-Signed s v place (Marked m) r = r ≡ Ok (Single (entry_of m v) (place + 1))
+Signed s v place (Marked m) r = r ≡ Ok (Single (entry_of m v), place + 1)
 Signed s v place Offer r = Offered s v (place + 1) r
-Signed s v place Open r = r ≡ cond (count_ok v) (Ok (Group v (place + 1))) (Err place)
+Signed s v place Open r = r ≡ cond (count_ok v) (Ok (Group v, place + 1)) (Err place)
 Signed s v place Close r = r ≡ Err place
 Signed s v place Other r = r ≡ Err place
 
 -- how an item begins
-pub data Begins (s : List ℕ) (at : ℕ) : Result Start ℕ → Type 0 where
+pub data Begins (s : List ℕ) (at : ℕ) : Beginning → Type 0 where
   none : {place : ℕ} → NoneAt s at place → Begins s at (Err place)
   ends : {v place : ℕ} → Whole s at v place → length s ≤ place → Begins s at (Err (length s))
-  signed : {v place : ℕ} {k : Kind} {r : Result Start ℕ} → Whole s at v place → place < length s → kind_of (get_or s place 0) ≡ k → Signed s v place k r → Begins s at r
+  signed : {v place : ℕ} {k : Kind} {r : Beginning} → Whole s at v place → place < length s → kind_of (get_or s place 0) ≡ k → Signed s v place k r → Begins s at r
 
 -- CR 3: "a number read and written again gives the same digits": an item's, and a group's count
-abbrev pub WrittenAgain : List ℕ → ℕ → Result Start ℕ → Type 0
-WrittenAgain s at (Ok (Single e next)) = slice at next s ≡ entry_written e
-WrittenAgain s at (Ok (Group n next)) = slice at next s ≡ count_written n
+abbrev pub WrittenAgain : List ℕ → ℕ → Beginning → Type 0
+WrittenAgain s at (Ok (Single e, next)) = slice at next s ≡ entry_written e
+WrittenAgain s at (Ok (Group n, next)) = slice at next s ≡ count_written n
 WrittenAgain s at (Err place) = Unit {0}
 
-pub record BeginSays (s : List ℕ) (at : ℕ) (r : Result Start ℕ) : Type 0 where
+pub record BeginSays (s : List ℕ) (at : ℕ) (r : Beginning) : Type 0 where
   pub begins : Begins s at r
   pub again : WrittenAgain s at r
 
 -- what the byte behind an item and gaps makes
-abbrev pub behind_of : ℕ → Kind → Result Follow ℕ
-behind_of next (Digit d) = Ok (Item next)
+abbrev pub behind_of : ℕ → Kind → Following
+behind_of next (Digit d) = Ok (Item, next)
 behind_of next Gap = Err next
 behind_of next (Marked m) = Err next
 behind_of next Offer = Err next
 behind_of next Open = Err next
-behind_of next Close = Ok (Shut (next + 1))
+behind_of next Close = Ok (Shut, next + 1)
 behind_of next Other = Err next
 
-pub data Behind (s : List ℕ) (next : ℕ) : Result Follow ℕ → Type 0 where
-  ends : length s ≤ next → Behind s next (Ok End)
-  byte : {k : Kind} {r : Result Follow ℕ} → next < length s → kind_of (get_or s next 0) ≡ k → r ≡ behind_of next k → Behind s next r
+pub data Behind (s : List ℕ) (next : ℕ) : Following → Type 0 where
+  ends : length s ≤ next → Behind s next (Ok (End, next))
+  byte : {k : Kind} {r : Following} → next < length s → kind_of (get_or s next 0) ≡ k → r ≡ behind_of next k → Behind s next r
 
-pub record BehindGaps (s : List ℕ) (at : ℕ) (r : Result Follow ℕ) : Type 0 where
+pub record BehindGaps (s : List ℕ) (at : ℕ) (r : Following) : Type 0 where
   pub next : ℕ
   pub skipped : Skipped s at next
   pub behind : Behind s next r
 
 -- what the byte right after an item makes
-abbrev pub After : List ℕ → ℕ → Kind → Result Follow ℕ → Type 0
+abbrev pub After : List ℕ → ℕ → Kind → Following → Type 0
 After s at (Digit d) r = r ≡ Err at
 After s at Gap r = BehindGaps s (at + 1) r
 After s at (Marked m) r = r ≡ Err at
 After s at Offer r = r ≡ Err at
 After s at Open r = r ≡ Err at
-After s at Close r = r ≡ Ok (Shut (at + 1))
+After s at Close r = r ≡ Ok (Shut, at + 1)
 After s at Other r = r ≡ Err at
 
 -- what follows an item
-pub data Follows (s : List ℕ) (at : ℕ) : Result Follow ℕ → Type 0 where
-  ends : length s ≤ at → Follows s at (Ok End)
-  byte : {k : Kind} {r : Result Follow ℕ} → at < length s → kind_of (get_or s at 0) ≡ k → After s at k r → Follows s at r
+pub data Follows (s : List ℕ) (at : ℕ) : Following → Type 0 where
+  ends : length s ≤ at → Follows s at (Ok (End, at))
+  byte : {k : Kind} {r : Following} → at < length s → kind_of (get_or s at 0) ≡ k → After s at k r → Follows s at r

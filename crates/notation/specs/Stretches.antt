@@ -1,14 +1,13 @@
 -- What stretches of a text are to the reading `scan`, and what places they have.
 -- Inner: steps between the readers' promises and the reading, which `Theorems` ties to `Grammar`.
-use Rattle.std.specs.Prelude.{ℕ, suc, ◌-◌, ◌≤◌, ◌<◌, ◌≡◌, List, [], ◌∷◌, ◌++◌, false, length, drop, get_or, Result, Ok, Err}
+use Rattle.std.specs.Prelude.{ℕ, suc, ◌-◌, ◌≤◌, ◌<◌, ◌≡◌, List, [], ◌∷◌, ◌++◌, false, length, drop, get_or, Ok, Err}
 use Rattle.std.proofs.Math.Seq.{slice}
 use Rattle.notation.specs.declared.Entry.{Entry}
 use Rattle.notation.specs.declared.Entry.TheVariants.{StartLl, StartVl, StartSc, Step, Finish}
-use Rattle.notation.specs.declared.Start.{Start}
 use Rattle.notation.specs.declared.Start.TheVariants.{Single, Group}
-use Rattle.notation.specs.declared.Follow.{Follow}
 use Rattle.notation.specs.declared.Follow.TheVariants.{Item, Shut, End}
 use Rattle.notation.specs.Bytes.{kind_of, is_gap}
+use Rattle.notation.specs.Readers.{Beginning, Following}
 use Rattle.notation.specs.Grammar.{largest}
 use Rattle.notation.specs.Written.{entry_written, count_written}
 use Rattle.notation.specs.Places.{fore, tail, Moves, Opens, Closes, EndsHere}
@@ -56,9 +55,9 @@ pub record Begun (s : List ℕ) (at n next : ℕ) : Type 0 where
   pub places : Opens s at n next
   pub same : (stack : List Frame) (os : List Entry) (d : ℕ) → scan (drop at s) (between false) stack os d ≡ entered (scan (drop next s)) (suc (length (drop next s))) n stack os d
 
-abbrev pub StartSays : List ℕ → ℕ → Result Start ℕ → Type 0
-StartSays s at (Ok (Single e next)) = Once s at (between false) e next
-StartSays s at (Ok (Group n next)) = Begun s at n next
+abbrev pub StartSays : List ℕ → ℕ → Beginning → Type 0
+StartSays s at (Ok (Single e, next)) = Once s at (between false) e next
+StartSays s at (Ok (Group n, next)) = Begun s at n next
 StartSays s at (Err place) = Faults s at (between false) 10 place
 
 -- right after an item: the next item, a `)` with no open group, the end, or a stray byte
@@ -78,8 +77,8 @@ pub record Ends (s : List ℕ) (at : ℕ) : Type 0 where
   pub same : (os : List Entry) (d : ℕ) → scan (drop at s) done [] os d ≡ end os
   pub places : EndsHere s at
 
-abbrev pub FollowSays : List ℕ → ℕ → Result Follow ℕ → Type 0
-FollowSays s at (Ok (Item next)) = Onward s at next
-FollowSays s at (Ok (Shut next)) = Shuts s at next
-FollowSays s at (Ok End) = Ends s at
+abbrev pub FollowSays : List ℕ → ℕ → Following → Type 0
+FollowSays s at (Ok (Item, next)) = Onward s at next
+FollowSays s at (Ok (Shut, next)) = Shuts s at next
+FollowSays s at (Ok (End, next)) = Ends s at
 FollowSays s at (Err place) = Faults s at done 10 place

@@ -1,10 +1,9 @@
-// An entry and the place of its item as one number, and the list of them.
+// An entry and the place of its item as one number.
 // Kept: a number and no struct, since the list of 60,001 of them stands in memory of a fixed size: no heap.
-ghost use Rattle.std.specs.Prelude.{◌≡◌, [], ◌∷◌, ◌≤◌, ◌<◌, length};
+ghost use Rattle.std.specs.Prelude.{◌≡◌, ◌≤◌, ◌<◌};
 ghost use Rattle.notation.specs.EntryWords.{kept_process, kept_entry, entry_of_kind, entry_in, place_unit, largest_place, place_in};
 ghost use Rattle.notation.specs.Grammar.{largest};
 ghost use Rattle.notation.specs.Stretches.{Small};
-ghost use Rattle.notation.specs.Listed.{Lists};
 
 use crate::Entry;
 
@@ -40,6 +39,7 @@ pub fn word_of(e: Entry) -> u64
     requires { Small e }
     ensures { (entry_in result ≡ kept_entry e) × (result < place_unit) }
 {
+    // Kept: no switch between functions: it gives each kind its number, and zero for the number that only an SC has.
     match e {
         Entry::StartLl(p) => packed(0, p, 0),
         Entry::StartVl(p) => packed(1, p, 0),
@@ -50,25 +50,11 @@ pub fn word_of(e: Entry) -> u64
 }
 
 // The place of an entry's item beside the entry.
-fn with_place(word: u64, place: usize) -> u64
+pub fn with_place(word: u64, place: usize) -> u64
     requires { (word < place_unit) × (place ≤ largest_place) }
     ensures { (entry_in result ≡ entry_in word) × (place_in result ≡ place) }
 {
     word + PLACE_UNIT * (place as u64)
-}
-
-// An entry and the place of its item put into the list, if it has room; where the list goes on.
-pub fn keep(list: &mut [u64], to: usize, e: Entry, place: usize) -> usize
-    requires { (Small e) × (to ≤ length list.old) × (place ≤ largest_place) }
-    ensures { Lists list.old list.new to result (e ∷ []) (place ∷ []) }
-{
-    let entry = word_of(e);
-    let word = with_place(entry, place);
-    if list.len() <= to {
-        return to;
-    }
-    list[to] = word;
-    to + 1
 }
 
 // The entry that a number of the list keeps.

@@ -5,9 +5,12 @@
 ghost use Rattle.std.specs.Prelude.{◌≡◌, ◌≤◌, length};
 ghost use Rattle.llsc.specs.declared.refusals.Refusal.TheVariants.{TextBroken};
 ghost use Rattle.notation.specs.Stretches.{AtItem};
-ghost use Rattle.notation.specs.Listed.{Opened, Placeable, GroupSays, ItemSays, ItemsSay};
+ghost use Rattle.notation.specs.Listed.{Opened, Placeable, ItemsSay};
+ghost use Rattle.notation.specs.Cursor.{ReadsItem, ReadsGroup, ReadsItems};
 
-use crate::{Follow, Start, after, begin, entry_words, skip, turns};
+use crate::entry_list::EntryList;
+use crate::reader::Reader;
+use crate::{Follow, Start};
 use llsc::refusals::Refusal;
 
 // Why a text is refused, 10 or 11, and the place of the fault.
@@ -34,64 +37,77 @@ fn broken(place: usize) -> Fault
     }
 }
 
-// A group with `n` turns whose items begin at `body`, where groups may stand `depth` deep; its entries go into the list
-// from `from` on. The place after it, and where the list goes on.
+// Kept: a reader, a depth and a list go apart through three readers, since the depth is each level's own.
+// Kept: `Placeable` is asked, and no fact of each `Reader`, since a first line is read from a text of any length.
+
+// A group with `n` turns, read from its `(` on, where groups may stand `depth` deep.
 #[cycle(read_group_read_item_read_items)]
 fn read_group(
-    text: &[u8],
+    reader: &mut Reader,
     n: u64,
-    body: usize,
     depth: usize,
-    list: &mut [u64],
-    from: usize,
-) -> Result<(usize, usize), Fault>
-    requires { (Opened text.now n body) × (from ≤ length list.old) × (Placeable text.now) }
-    ensures { GroupSays text.now n body depth list.old list.new from result }
+    entries: &mut EntryList,
+) -> Result<(), Fault>
+    requires { (Opened reader.old.text.now n reader.old.at) × (Placeable reader.old.text.now) }
+    ensures { ReadsGroup n depth reader.old reader.new entries.old entries.new result }
 {
     if depth == 0 {
         return Err(Fault {
             cause: Refusal::TooDeep,
-            place: body - 1,
+            place: reader.at - 1,
         });
     }
-    let first = read_items(text, body, depth - 1, list, from)?;
+    let from = entries.count;
+    let first = read_on(reader, depth - 1, entries)?;
     match first {
-        Items::Ended(_) => Err(broken(text.len())),
-        Items::Closed(next, to) => {
-            let end = turns::repeat(list, from, to, n);
-            Ok((next, end))
+        Items::Ended(_) => Err(broken(reader.text.len())),
+        Items::Closed(..) => {
+            entries.repeat(from, n);
+            Ok(())
         }
     }
 }
 
-// The item that begins at a place; its entries go into the list from `from` on. The place after it, and where the list
-// goes on.
+// An item.
 #[cycle(read_group_read_item_read_items)]
-fn read_item(
-    text: &[u8],
-    at: usize,
-    depth: usize,
-    list: &mut [u64],
-    from: usize,
-) -> Result<(usize, usize), Fault>
-    requires { (AtItem text.now at) × (from ≤ length list.old) × (Placeable text.now) }
-    ensures { ItemSays text.now at depth list.old list.new from result }
+fn read_item(reader: &mut Reader, depth: usize, entries: &mut EntryList) -> Result<(), Fault>
+    requires { (AtItem reader.old.text.now reader.old.at) × (Placeable reader.old.text.now) }
+    ensures { ReadsItem depth reader.old reader.new entries.old entries.new result }
 {
-    let start = match begin(text, at) {
-        Ok(start) => start,
-        Err(place) => return Err(broken(place)),
-    };
-    match start {
-        Start::Single(e, end) => {
-            let past = entry_words::keep(list, from, e, at);
-            Ok((end, past))
+    let at = reader.at;
+    match reader.begin() {
+        None => Err(broken(reader.at)),
+        Some(Start::Single(e)) => {
+            entries.keep(e, at);
+            Ok(())
         }
-        Start::Group(n, body) => read_group(text, n, body, depth, list, from),
+        Some(Start::Group(n)) => read_group(reader, n, depth, entries),
     }
 }
 
-// Items up to a `)` or the end of the text; their entries go into the list from `from` on.
+// Items up to a `)` or the end of the text.
 #[cycle(read_group_read_item_read_items)]
+fn read_on(reader: &mut Reader, depth: usize, entries: &mut EntryList) -> Result<Items, Fault>
+    requires { Placeable reader.old.text.now }
+    ensures { ReadsItems depth reader.old reader.new entries.old entries.new result }
+{
+    reader.skip();
+    if reader.text.len() <= reader.at {
+        return Ok(Items::Ended(entries.count));
+    }
+    loop {
+        read_item(reader, depth, entries)?;
+        match reader.after() {
+            None => return Err(broken(reader.at)),
+            Some(Follow::Item) => {}
+            Some(Follow::End) => return Ok(Items::Ended(entries.count)),
+            Some(Follow::Shut) => return Ok(Items::Closed(reader.at, entries.count)),
+        }
+    }
+}
+
+// The items of a text from a place on; their entries go into the list from a place of its own on.
+// Kept: both places, as the caller has them: a first line says where its items begin, and a reader is this crate's own.
 pub fn read_items(
     text: &[u8],
     at: usize,
@@ -102,22 +118,7 @@ pub fn read_items(
     requires { (at ≤ length text.now) × (from ≤ length list.old) × (Placeable text.now) }
     ensures { ItemsSay text.now at depth list.old list.new from result }
 {
-    let mut next = skip(text, at);
-    if text.len() <= next {
-        return Ok(Items::Ended(from));
-    }
-    let mut to = from;
-    loop {
-        let (end, past) = read_item(text, next, depth, list, to)?;
-        to = past;
-        let then = match after(text, end) {
-            Ok(then) => then,
-            Err(place) => return Err(broken(place)),
-        };
-        match then {
-            Follow::Item(place) => next = place,
-            Follow::End => return Ok(Items::Ended(to)),
-            Follow::Shut(shut) => return Ok(Items::Closed(shut, to)),
-        }
-    }
+    let mut reader = Reader { text, at };
+    let mut entries = EntryList { list, count: from };
+    read_on(&mut reader, depth, &mut entries)
 }

@@ -3,14 +3,18 @@
 
 #![tactic(auto)]
 
+mod entry_list;
 pub mod entry_words;
 pub mod items;
-pub mod turns;
+mod reader;
+mod turns;
 
-ghost use Rattle.std.specs.Prelude.{◌≡◌, ◌≤◌, length};
+ghost use Rattle.std.specs.Prelude.{◌≡◌};
 ghost use Rattle.notation.specs.Bytes.{kind_of, entry_of};
-ghost use Rattle.notation.specs.Grammar.{largest, digit_ok};
-ghost use Rattle.notation.specs.Readers.{NumberSays, NumberAtSays, FieldSays, HeaderSays, Skipped, BeginSays, Follows};
+ghost use Rattle.notation.specs.Readers.{HeaderSays};
+ghost use Rattle.notation.specs.Cursor.{HeadSays, Reads};
+
+use reader::Reader;
 
 // What a letter or a sign orders: `l`, `v`, `.` one step, `!` all steps until the call answers.
 #[derive(Clone, Copy)]
@@ -52,18 +56,18 @@ pub struct First {
     pub items: usize,
 }
 
-// An item that is no group, or a group's count; and the place after it, or after the `(`.
+// An item that is no group, or a group's count with its `(`.
 #[derive(Clone, Copy)]
 pub enum Start {
-    Single(Entry, usize),
-    Group(u64, usize),
+    Single(Entry),
+    Group(u64),
 }
 
-// What follows an item: a next one and its place, a `)` and the place after it, or the text's end.
+// What follows an item: a next one, a `)`, or the text's end.
 #[derive(Clone, Copy)]
 pub enum Follow {
-    Item(usize),
-    Shut(usize),
+    Item,
+    Shut,
     End,
 }
 
@@ -98,142 +102,27 @@ pub fn entry_of(m: Mark, p: u64) -> Entry
     }
 }
 
-// Whether the digit d may follow digits that make a value: no digit follows a leading zero, and the number must fit.
-fn may_follow(value: u64, d: u64) -> bool
-    requires { (value ≤ largest) × (d ≤ 9) }
-    ensures { result ≡ digit_ok value d }
+// N, W and the initial number, and where the items begin.
+fn header(reader: &mut Reader) -> Option<First>
+    requires { reader.old.at ≡ 0 }
+    ensures { Reads HeadSays reader.old reader.new result }
 {
-    value != 0 && value * 10 + d <= 4294967295
-}
-
-// Each reader below replies with the place after what it reads, or with the place of the byte (or of the text's end) that
-// is in the way.
-
-// The digits from a place on, after digits that make v.
-pub fn number(text: &[u8], at: usize, v: u64) -> Result<(u64, usize), usize>
-    requires { (at ≤ length text.now) × (v ≤ largest) }
-    ensures { NumberSays text.now at v result }
-{
-    let mut value = v;
-    for next in at..text.len() {
-        let k = class(text[next]);
-        let Kind::Digit(d) = k else {
-            return Ok((value, next));
-        };
-        if !may_follow(value, d) {
-            return Err(next);
-        }
-        value = value * 10 + d;
-    }
-    Ok((value, text.len()))
-}
-
-// The number that begins at a place.
-pub fn number_at(text: &[u8], at: usize) -> Result<(u64, usize), usize>
-    requires { at ≤ length text.now }
-    ensures { NumberAtSays text.now at result }
-{
-    if text.len() <= at {
-        return Err(text.len());
-    }
-    let k = class(text[at]);
-    let Kind::Digit(d) = k else {
-        return Err(at);
-    };
-    number(text, at + 1, d)
-}
-
-// A number and the one byte that ends it; the place given is after that byte.
-pub fn field(text: &[u8], at: usize, stop: u8) -> Result<(u64, usize), usize>
-    requires { at ≤ length text.now }
-    ensures { FieldSays text.now at stop result }
-{
-    let (v, next) = number_at(text, at)?;
-    if text.len() <= next {
-        return Err(text.len());
-    }
-    if text[next] != stop {
-        return Err(next);
-    }
-    Ok((v, next + 1))
-}
-
-// The first line: N, W and the initial number, one space between, then a line feed.
-pub fn first_line(text: &[u8]) -> Result<First, usize>
-    ensures { HeaderSays text.now result }
-{
-    let (n, second) = field(text, 0, b' ')?;
-    let (w, third) = field(text, second, b' ')?;
-    let (initial, items) = field(text, third, b'\n')?;
-    Ok(First {
+    let n = reader.field(b' ')?;
+    let w = reader.field(b' ')?;
+    let initial = reader.field(b'\n')?;
+    Some(First {
         n,
         w,
         initial,
-        items,
+        items: reader.at,
     })
 }
 
-// The first byte from a place on that is no gap.
-pub fn skip(text: &[u8], at: usize) -> usize
-    requires { at ≤ length text.now }
-    ensures { Skipped text.now at result }
+// The first line: N, W and the initial number, one space between, then a line feed; or the place of the byte (or of the
+// text's end) that is in the way.
+pub fn first_line(text: &[u8]) -> Result<First, usize>
+    ensures { HeaderSays text.now result }
 {
-    for next in at..text.len() {
-        let k = class(text[next]);
-        let Kind::Gap = k else {
-            return next;
-        };
-    }
-    text.len()
-}
-
-// An item up to its end, or to the `(` of a group.
-pub fn begin(text: &[u8], at: usize) -> Result<Start, usize>
-    requires { at ≤ length text.now }
-    ensures { BeginSays text.now at result }
-{
-    let (v, next) = number_at(text, at)?;
-    if text.len() <= next {
-        return Err(text.len());
-    }
-    let sign = class(text[next]);
-    match sign {
-        Kind::Marked(m) => Ok(Start::Single(entry_of(m, v), next + 1)),
-        Kind::Offer => {
-            let (k, end) = number_at(text, next + 1)?;
-            Ok(Start::Single(Entry::StartSc(v, k), end))
-        }
-        Kind::Open => match v {
-            1..=255 => Ok(Start::Group(v, next + 1)),
-            _ => Err(next),
-        },
-        _ => Err(next),
-    }
-}
-
-// What follows an item.
-pub fn after(text: &[u8], at: usize) -> Result<Follow, usize>
-    requires { at ≤ length text.now }
-    ensures { Follows text.now at result }
-{
-    if text.len() <= at {
-        return Ok(Follow::End);
-    }
-    let k = class(text[at]);
-    match k {
-        Kind::Close => Ok(Follow::Shut(at + 1)),
-        Kind::Gap => {
-            let next = skip(text, at + 1);
-            if text.len() <= next {
-                return Ok(Follow::End);
-            }
-            let sign = class(text[next]);
-            match sign {
-                Kind::Close => Ok(Follow::Shut(next + 1)),
-                Kind::Digit(_) => Ok(Follow::Item(next)),
-                _ => Err(next),
-            }
-        }
-        _ => Err(at),
-    }
+    let mut reader = Reader { text, at: 0 };
+    header(&mut reader).ok_or(reader.at)
 }

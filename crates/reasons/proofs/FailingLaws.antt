@@ -52,6 +52,14 @@ module _ (g : ℕ → Fault) (f : Entry → Bool) (es : List Entry) where
   pub one_none : None ≡ first_from f 0 es → None ≡ at_one g (one_at_fault f es)
   one_none e = ap (at_one g) (e ∙ from_0 f es)
 
+  -- of the last of them
+  pub one_last : (o : Option ℕ) → o ≡ first_from f 0 es → at_one g o ≡ first_reason (at_one g (one_at_fault f es) ∷ [])
+  one_last o e = ap (at_one g) (e ∙ from_0 f es) ∙ alone (at_one g (one_at_fault f es))
+    where
+      alone : (r : Option Fault) → r ≡ or_else r None
+      alone (Some f) = refl
+      alone None = refl
+
 module _ (g : ℕ → ℕ → Fault) (r : Option (ℕ × ℕ)) where
   pub two_found : (k j : ℕ) → Some (k, j) ≡ r → Some (g k j) ≡ at_two g r
   two_found k j e = ap (at_two g) e

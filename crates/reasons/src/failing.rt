@@ -2,17 +2,16 @@
 ghost use Rattle.std.specs.Prelude.{◌≡◌};
 ghost use Rattle.verdicts.specs.Log.{entries};
 ghost use Rattle.verdicts.specs.Reasons.{reason_of_no};
-ghost use Rattle.judging.specs.Orders.{Fits};
 
-use judging::calls::Calls;
+use judging::calls::Admitted;
 use judging::{object, order};
 use verdicts::Fault;
 
 // The first condition that fails, where nothing refuses the log.
-pub fn reason_of_no(calls: &Calls, value: &[u64]) -> Option<Fault>
-    requires { Fits calls.now.w calls.now.log.now }
-    ensures { result ≡ reason_of_no value.now (entries calls.now.w calls.now.log.now) }
+pub fn reason_of_no(admitted: &Admitted, value: &[u64]) -> Option<Fault>
+    ensures { result ≡ reason_of_no value.now (entries admitted.now.calls.w admitted.now.calls.log.now) }
 {
+    let calls = admitted.calls;
     if let Some(call) = calls.first(0, |e| !e.known()) {
         return Some(Fault::Unknown(call));
     }
@@ -25,12 +24,9 @@ pub fn reason_of_no(calls: &Calls, value: &[u64]) -> Option<Fault>
     if let Some(call) = calls.first(0, |e| !e.inside()) {
         return Some(Fault::Outside(call));
     }
-    let order = order::sorted(calls);
-    if let Some(fault) = object::first_unlike(calls, value, &order) {
+    let order = order::sorted(admitted);
+    if let Some(fault) = object::first_unlike(admitted, value, &order) {
         return Some(fault);
     }
-    match calls.first_unled() {
-        Some(call) => Some(Fault::Unled(call)),
-        None => None,
-    }
+    calls.first_unled().map(Fault::Unled)
 }

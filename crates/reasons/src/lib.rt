@@ -8,7 +8,7 @@ pub mod refused;
 ghost use Rattle.std.specs.Prelude.{◌≡◌};
 ghost use Rattle.verdicts.specs.Reasons.{judged_with_reason};
 
-use judging::calls::Calls;
+use judging::calls::{Admitted, Calls};
 use judging::refusals;
 use verdicts::Judgement;
 
@@ -22,7 +22,8 @@ pub fn judge_with_reason(n: usize, w: usize, value: &[u64], log: &[u64]) -> Judg
         return Judgement::Refused(refusal, refused::refused_at(refusal, n, w, value, log));
     }
     let calls = Calls { log, w };
-    match failing::reason_of_no(&calls, value) {
+    let admitted = Admitted { calls };
+    match failing::reason_of_no(&admitted, value) {
         Some(fault) => Judgement::No(fault),
         None => Judgement::Yes,
     }

@@ -3,5 +3,6 @@
 #![tactic(auto)]
 
 pub mod causes;
+pub mod counts;
 pub mod ranges;
 pub mod table;

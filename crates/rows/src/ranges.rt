@@ -5,65 +5,59 @@ ghost use Rattle.model.specs.Sizes.{sequence_numbers, halves};
 ghost use Rattle.std.specs.List.{list_all};
 ghost use Rattle.model.specs.Refusals.{buffer_ok, sequence_ok, x_ok, links_ok, x_place_ok, bank_place_ok, help_place_ok, is_idle, line_ok, count_ok, process_ok, bench_ok};
 
+use crate::counts::{Processes, Width};
 use lines::points;
 use model::{
     BankPlace, Bench, BufferNumber, HelpPlace, Process, SequenceNumber, XContent, XPlace, sizes,
 };
 
 // A buffer number is below 3N.
-pub fn buffer_ok(n: usize, b: BufferNumber) -> bool
-    requires { n ≤ 16 }
-    ensures { result ≡ buffer_ok n b }
+pub fn buffer_ok(count: Processes, b: BufferNumber) -> bool
+    ensures { result ≡ buffer_ok count.n b }
 {
-    (b.0 as usize) < sizes::buffers(n)
+    (b.0 as usize) < sizes::buffers(count.n)
 }
 
 // A sequence number is below 2N.
-pub fn sequence_ok(n: usize, s: SequenceNumber) -> bool
-    requires { n ≤ 16 }
-    ensures { result ≡ sequence_ok n s }
+pub fn sequence_ok(count: Processes, s: SequenceNumber) -> bool
+    ensures { result ≡ sequence_ok count.n s }
 {
-    (s.0 as usize) < sizes::sequence_numbers(n)
+    (s.0 as usize) < sizes::sequence_numbers(count.n)
 }
 
 // What X holds.
-pub fn x_ok(n: usize, x: XContent) -> bool
-    requires { n ≤ 16 }
-    ensures { result ≡ x_ok n x }
+pub fn x_ok(count: Processes, x: XContent) -> bool
+    ensures { result ≡ x_ok count.n x }
 {
-    buffer_ok(n, x.buf) && sequence_ok(n, x.seq)
+    buffer_ok(count, x.buf) && sequence_ok(count, x.seq)
 }
 
 // No process from N on has a link.
-pub fn links_ok(n: usize, links: u16) -> bool
-    requires { n ≤ 16 }
-    ensures { result ≡ links_ok n links }
+pub fn links_ok(count: Processes, links: u16) -> bool
+    ensures { result ≡ links_ok count.n links }
 {
-    (links as usize) < (1usize << n)
+    (links as usize) < (1usize << count.n)
 }
 
 // X with its links.
-pub fn x_place_ok(n: usize, x: XPlace) -> bool
-    requires { n ≤ 16 }
-    ensures { result ≡ x_place_ok n x }
+pub fn x_place_ok(count: Processes, x: XPlace) -> bool
+    ensures { result ≡ x_place_ok count.n x }
 {
-    x_ok(n, x.content) && links_ok(n, x.links)
+    x_ok(count, x.content) && links_ok(count, x.links)
 }
 
 // A place of Bank with its links.
-pub fn bank_place_ok(n: usize, bank: BankPlace) -> bool
-    requires { n ≤ 16 }
-    ensures { result ≡ bank_place_ok n bank }
+pub fn bank_place_ok(count: Processes, bank: BankPlace) -> bool
+    ensures { result ≡ bank_place_ok count.n bank }
 {
-    buffer_ok(n, bank.content) && links_ok(n, bank.links)
+    buffer_ok(count, bank.content) && links_ok(count, bank.links)
 }
 
 // A place of Help with its links: its flag is 0 or 1.
-pub fn help_place_ok(n: usize, help: HelpPlace) -> bool
-    requires { n ≤ 16 }
-    ensures { result ≡ help_place_ok n help }
+pub fn help_place_ok(count: Processes, help: HelpPlace) -> bool
+    ensures { result ≡ help_place_ok count.n help }
 {
-    help.content.flag <= 1 && buffer_ok(n, help.content.buf) && links_ok(n, help.links)
+    help.content.flag <= 1 && buffer_ok(count, help.content.buf) && links_ok(count, help.links)
 }
 
 // Whether a process has no open call.
@@ -84,59 +78,54 @@ pub fn line_ok(process: Process) -> bool
 }
 
 // An idle process has count 0, a busy one at most 8W+6.
-pub fn count_ok(w: usize, process: Process) -> bool
-    requires { w ≤ 64 }
-    ensures { result ≡ count_ok w process }
+// Kept: beside `moir_rows`' own, as Moir's process is another record, with another most.
+pub fn count_ok(width: Width, process: Process) -> bool
+    ensures { result ≡ count_ok width.w process }
 {
     let most = if is_idle(process) {
         0
     } else {
-        sizes::busy_most(w)
+        sizes::busy_most(width.w)
     };
     process.count <= most
 }
 
 // A process record.
-pub fn process_ok(n: usize, w: usize, process: Process) -> bool
-    requires { (n ≤ 16) × (w ≤ 64) }
-    ensures { result ≡ process_ok n w process }
+pub fn process_ok(count: Processes, width: Width, process: Process) -> bool
+    ensures { result ≡ process_ok count.n width.w process }
 {
-    buffer_ok(n, process.mybuf)
-        && x_ok(n, process.x)
-        && buffer_ok(n, process.b)
-        && buffer_ok(n, process.c)
-        && buffer_ok(n, process.d)
-        && buffer_ok(n, process.e)
+    buffer_ok(count, process.mybuf)
+        && x_ok(count, process.x)
+        && buffer_ok(count, process.b)
+        && buffer_ok(count, process.c)
+        && buffer_ok(count, process.d)
+        && buffer_ok(count, process.e)
         && line_ok(process)
-        && process.word < sizes::halves(w)
-        && count_ok(w, process)
+        && process.word < sizes::halves(width.w)
+        && count_ok(width, process)
 }
 
 // The places of Bank that N needs.
-fn banks_ok(bench: Bench) -> bool
-    requires { bench.n ≤ 16 }
-    ensures { result ≡ list_all (bank_place_ok bench.n) (take (sequence_numbers bench.n) bench.bank) }
+fn banks_ok(count: Processes, bench: Bench) -> bool
+    ensures { result ≡ list_all (bank_place_ok count.n) (take (sequence_numbers count.n) bench.bank) }
 {
-    let n = bench.n;
-    let places = sizes::sequence_numbers(n);
+    let places = sizes::sequence_numbers(count.n);
     bench
         .bank
         .iter()
         .take(places)
-        .all(|bank| bank_place_ok(n, *bank))
+        .all(|bank| bank_place_ok(count, *bank))
 }
 
 // The places of Help that N needs.
-fn helps_ok(bench: Bench) -> bool
-    requires { bench.n ≤ 16 }
-    ensures { result ≡ list_all (help_place_ok bench.n) (take bench.n bench.help) }
+fn helps_ok(count: Processes, bench: Bench) -> bool
+    ensures { result ≡ list_all (help_place_ok count.n) (take count.n bench.help) }
 {
-    let n = bench.n;
     bench
         .help
         .iter()
-        .take(n)
-        .all(|help| help_place_ok(n, *help))
+        .take(count.n)
+        .all(|help| help_place_ok(count, *help))
 }
 
 // The bench record.
@@ -145,5 +134,6 @@ pub fn bench_ok(bench: Bench) -> bool
     requires { bench.n ≤ 16 }
     ensures { result ≡ bench_ok bench }
 {
-    x_place_ok(bench.n, bench.x) && banks_ok(bench) && helps_ok(bench)
+    let count = Processes { n: bench.n };
+    x_place_ok(count, bench.x) && banks_ok(count, bench) && helps_ok(count, bench)
 }

@@ -11,6 +11,7 @@ use llsc::refusals::Refusal;
 use model::sizes;
 
 // Rows 1, 2, 3, with which a set-up begins: the first that holds.
+// Kept: beside `moir_rows`' own, as row 3 counts the words of its own bench, and the causes are shared already.
 #[tactic(auto, unfolding(crate::specs::CommandRows::lent_number))]
 pub fn lent_refusal(n: usize, w: usize, records: usize, words: usize) -> Result<(), Refusal>
     ensures { number_told result ≡ lent_number n w records words }

@@ -4,7 +4,6 @@
 #![tactic(auto)]
 
 use entry::state::Held;
-use llsc::refusals::number_of;
 use std::process::ExitCode;
 
 fn main(rt: HostRuntime) -> ExitCode {
@@ -16,7 +15,7 @@ fn main(rt: HostRuntime) -> ExitCode {
     let held = Held::empty();
     let out = run::text_run::run_by_value(held, 16, &mut words, given, &mut list);
     let ended = messages::Ended {
-        number: number_of(out.outcome),
+        outcome: out.outcome,
         entries: out.entries,
         report: out.report,
         text: given,

@@ -15,6 +15,7 @@ use rows::table;
 use words::word_runs;
 
 // The refusal by the lengths of what is lent: rows 1, 2, 3, 8.
+// Kept: beside `moir_machine`'s own, as rows 1 to 3 are its own bench's; what is left of each is row 8.
 #[tactic(auto, unfolding(crate::specs::SetUpByValue::set_up_number, rows::specs::CommandRows::lent_number))]
 pub fn set_up_refusal(
     n: usize,

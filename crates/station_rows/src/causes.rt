@@ -1,19 +1,19 @@
 // The causes that a station adds or reads anew: rows 23, 24, and what rows 3 and 7 look at.
-ghost use Rattle.std.specs.Prelude.{◌≡◌, ◌≤◌};
+ghost use Rattle.std.specs.Prelude.{◌≡◌};
 ghost use Rattle.station.specs.Station.{station_words};
 ghost use Rattle.station.specs.StationRefusals.{row23, row24, record_about, answered_for};
 
+use crate::sizes::Sizes;
 use llsc::Order;
 use station::StationProcess;
 
 pub const MOST_RECORDS: usize = 8;
 
 // The words that a station needs.
-pub fn station_words(n: usize, w: usize, r: usize) -> usize
-    requires { (n ≤ 16) × ((w ≤ 64) × (r ≤ 8)) }
-    ensures { result ≡ station_words n w r }
+pub fn station_words(sizes: Sizes) -> usize
+    ensures { result ≡ station_words sizes.n sizes.w sizes.r }
 {
-    (3 * r + 2) * n * w
+    (3 * sizes.r + 2) * sizes.n * sizes.w
 }
 
 // Row 23.

@@ -5,4 +5,5 @@
 pub mod causes;
 pub mod commands;
 pub mod ranges;
+pub mod sizes;
 pub mod table;

@@ -9,6 +9,8 @@ ghost use Rattle.station.specs.Projection.{process_of};
 ghost use Rattle.station.specs.StationRefusals.{called_ok, station_process_ok, station_in_range};
 ghost use Rattle.station_records.specs.TakenOut.{bench_in};
 
+use crate::sizes::Sizes;
+use rows::counts::{Processes, Width};
 use station::{RecordNumber, Station, StationProcess};
 
 // The open call's record is below R, and 0 when idle.
@@ -19,13 +21,13 @@ pub fn called_ok(r: usize, q: StationProcess) -> bool
 }
 
 // The process as each of the R records' benches has it.
-pub fn seen_ok(n: usize, w: usize, r: usize, q: StationProcess) -> bool
-    requires { (n ≤ 16) × ((w ≤ 64) × (r ≤ 8)) }
-    ensures { result ≡ every (λ j. process_ok n w (process_of (record { 0 = j }) q)) (numbers 0 r) }
+pub fn seen_ok(sizes: Sizes, q: StationProcess) -> bool
+    ensures { result ≡ every (λ j. process_ok sizes.n sizes.w (process_of (record { 0 = j }) q)) (numbers 0 sizes.r) }
 {
+    let Sizes { n, w, r } = sizes;
     for j in 0..r {
         let process = station_records::process_of(RecordNumber(j as u8), q);
-        if !rows::ranges::process_ok(n, w, process) {
+        if !rows::ranges::process_ok(Processes { n }, Width { w }, process) {
             return false;
         }
     }
@@ -33,19 +35,17 @@ pub fn seen_ok(n: usize, w: usize, r: usize, q: StationProcess) -> bool
 }
 
 // A process record.
-pub fn process_ok(n: usize, w: usize, r: usize, q: StationProcess) -> bool
-    requires { (n ≤ 16) × ((w ≤ 64) × (r ≤ 8)) }
-    ensures { result ≡ station_process_ok n w r q }
+pub fn process_ok(sizes: Sizes, q: StationProcess) -> bool
+    ensures { result ≡ station_process_ok sizes.n sizes.w sizes.r q }
 {
-    called_ok(r, q) && seen_ok(n, w, r, q)
+    called_ok(sizes.r, q) && seen_ok(sizes, q)
 }
 
 // The first N of sixteen process records.
-fn processes_ok(n: usize, w: usize, r: usize, all: [StationProcess; 16]) -> bool
-    requires { (n ≤ 16) × ((w ≤ 64) × (r ≤ 8)) }
-    ensures { result ≡ list_all (station_process_ok n w r) (take n all) }
+fn processes_ok(sizes: Sizes, all: [StationProcess; 16]) -> bool
+    ensures { result ≡ list_all (station_process_ok sizes.n sizes.w sizes.r) (take sizes.n all) }
 {
-    all.iter().take(n).all(|q| process_ok(n, w, r, *q))
+    all.iter().take(sizes.n).all(|q| process_ok(sizes, *q))
 }
 
 // The tables of the R records.
@@ -68,5 +68,6 @@ pub fn in_range(station: Station, all: [StationProcess; 16]) -> bool
     requires { (station.n ≤ 16) × ((station.w ≤ 64) × (station.r ≤ 8)) }
     ensures { result ≡ station_in_range (station_memory station all []) }
 {
-    benches_ok(station) && processes_ok(station.n, station.w, station.r, all)
+    let Station { n, w, r, .. } = station;
+    benches_ok(station) && processes_ok(Sizes { n, w, r }, all)
 }

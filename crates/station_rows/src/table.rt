@@ -4,6 +4,7 @@ ghost use Rattle.llsc.specs.Refusals.{number_told};
 ghost use Rattle.station_rows.specs.StationCommandRows.{station_lent_number, station_memory_number, station_number, station_late_number};
 
 use crate::commands::Command;
+use crate::sizes::Sizes;
 use crate::{causes, ranges};
 use llsc::ProcessNumber;
 use llsc::refusals::Refusal;
@@ -24,7 +25,7 @@ pub fn lent_refusal(
     Refusal::NOutOfRange.if_holds(plain::n_out_of_range(n))?;
     Refusal::WOutOfRange.if_holds(plain::w_out_of_range(w))?;
     Refusal::ROutOfRange.if_holds(causes::r_out_of_range(r))?;
-    let needed = causes::station_words(n, w, r);
+    let needed = causes::station_words(Sizes { n, w, r });
     Refusal::TooLittleLent.if_holds(plain::too_little_lent(n, needed, processes, words))
 }
 

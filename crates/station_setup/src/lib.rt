@@ -13,6 +13,7 @@ ghost use Rattle.station_setup.specs.StationSetUpByValue.{process_for, station_s
 use llsc::refusals::Refusal;
 use model::{BufferNumber, SequenceNumber, XContent, sizes};
 use station::{Holding, RecordNumber, Station, StationProcess};
+use station_rows::sizes::Sizes;
 use station_rows::{causes, table};
 use words::word_runs;
 
@@ -34,6 +35,7 @@ pub fn set_up_refusal(
     Refusal::ValueNotWWords.if_holds(value != w)
 }
 
+// Kept: n, w and r one by one, with bounds as clauses: a set-up names any numbers, and `Sizes` would bound W too.
 // The tables of the first r records.
 pub fn with_tables(mut station: Station, n: usize, w: usize, r: usize) -> Station
     requires { (n ≤ 16) × (r ≤ 8) }
@@ -60,6 +62,7 @@ pub fn station_at_set_up(station: Station, n: usize, w: usize, r: usize) -> Stat
 }
 
 // BUF of one record, from a place on: the value, then zeros.
+// Kept: a place in all words, as `word_runs` has it.
 fn block_at_set_up(words: &mut [u64], at: usize, each: usize, value: &[u64])
     requires { (at + each ≤ length words.old) × (length value.now ≤ each) }
     ensures { words.new ≡ sets words.old at (block each value.now) }
@@ -77,7 +80,7 @@ pub fn words_at_set_up(words: &mut [u64], n: usize, w: usize, r: usize, value: &
     for j in 0..r {
         block_at_set_up(words, j * each, each, value);
     }
-    word_runs::fill(words, r * each, causes::station_words(n, w, r), 0);
+    word_runs::fill(words, r * each, causes::station_words(Sizes { n, w, r }), 0);
 }
 
 // What a process holds of a record, with the buffer that it owns.

@@ -14,6 +14,7 @@ use taken::{Stepped, Taken};
 use words::layouts::FirstRows;
 use words::word_runs;
 
+// Kept: n, p, process and taken one by one, as the definitions take them: a contract would take a struct apart.
 // LL begins at line 1, SC at line 12, with its words in the offer area already, VL at line 23.
 #[tactic(auto, unfolding(crate::specs::Steps::obey_on_in))]
 pub fn obey_taken_in(

@@ -28,6 +28,7 @@ pub fn on_taken(
     ensures { (result, words.new) ≡ step_on_in (layout_from rows) (point_of process.line) p n rows.w taken process words.old }
 {
     let from = process.x.buf;
+    // Kept: an arm for each point of Figure 2, as each names its line and the place or the words that it touches.
     match process.line {
         LINE_1 => after_help(taken, on_help::do_line_1(taken.help, process)),
         LINE_2 => after_x(taken, on_x::do_line_2(LINE_3, p, taken.x, process)),

@@ -5,7 +5,6 @@
 #![tactic(auto)]
 
 use entry::state::Held;
-use llsc::refusals::number_of;
 use std::alloc::AllocError;
 use std::process::ExitCode;
 
@@ -23,7 +22,7 @@ fn main(rt: HostRuntime) -> Result<ExitCode, AllocError> {
     let trace = &list[..out.written.min(list.len())];
     let count = marking::output::mark_lines(trace, &mut marked);
     let ended = messages::Ended {
-        number: number_of(out.outcome),
+        outcome: out.outcome,
         entries: out.entries,
         report: out.report,
         text: given,

@@ -23,6 +23,7 @@ pub fn help_place(i: ProcessNumber) -> usize
     i.0 as usize
 }
 
+// Kept: i.0 < 32 is a clause, as the lent X holds a `SequenceNumber`, and lent memory may hold any number.
 // Bank[i].
 pub fn bank_at(bench: Bench, i: SequenceNumber) -> BankPlace
     requires { i.0 < 32 }
@@ -47,6 +48,7 @@ pub fn put_x(bench: Bench, x: XPlace) -> Bench
 }
 
 // The bench with another Bank[i].
+// Kept: beside `put_help`, as each table is a field of its own, reached by its own kind of number.
 pub fn put_bank(bench: Bench, i: SequenceNumber, place: BankPlace) -> Bench
     requires { i.0 < 32 }
     ensures { result ≡ put_bank bench i place }

@@ -108,6 +108,7 @@ pub fn put_back(bench: Bench, i: SequenceNumber, j: ProcessNumber, stepped: Step
 }
 
 // What a line made of X.
+// Kept: a function for each of the three places, as they differ in the field that is written, which no value names.
 pub fn after_x(taken: Taken, step: LineStep<XPlace>) -> Stepped
     ensures { result ≡ after_x taken step }
 {

@@ -4,7 +4,6 @@
 #![tactic(auto)]
 
 use entry::state::Held;
-use llsc::refusals::number_of;
 use std::alloc::AllocError;
 use std::process::ExitCode;
 
@@ -18,7 +17,7 @@ fn main(rt: HostRuntime) -> Result<ExitCode, AllocError> {
     let held = Held::empty();
     let out = run::text_run::trace_by_value(held, 16, &mut words, given, &mut list);
     let ended = messages::Ended {
-        number: number_of(out.outcome),
+        outcome: out.outcome,
         entries: out.entries,
         report: out.report,
         text: given,

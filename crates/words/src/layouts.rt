@@ -23,8 +23,7 @@ pub(crate) fn word_of_row(row: usize, w: usize, k: usize) -> usize
     row * w + k
 }
 
-// Kept: three functions that tell where a word lies, as a buffer's number and a process's are two kinds of number, and
-// an area's first row is another for each.
+// Kept: three places of a word, as buffers and areas have numbers of two kinds, and each its own first row.
 impl FirstRows {
     ghost use Rattle.model.specs.Words.{buffer_in, return_in, offer_in};
     ghost use Rattle.words.specs.Layouts.{layout_from, OneRecord};

@@ -7,6 +7,7 @@ use crate::layouts::{FirstRows, word_of_row};
 use llsc::ProcessNumber;
 use model::BufferNumber;
 
+// Kept: k < 64 is a clause, as a word place stands in a lent process record, which may hold any number.
 // Where word k of BUF[b] lies.
 pub fn buffer_word(w: usize, b: BufferNumber, k: usize) -> usize
     requires { (w ≤ 64) × (k < 64) }

@@ -1,4 +1,5 @@
 // Runs of words: a value copied in, and one number again and again.
+// Kept: all words and a place, as a contract says what all of them are then (`sets`), and std says it of the part.
 ghost use Rattle.std.specs.Prelude.{◌≡◌, ◌+◌, ◌-◌, ◌≤◌, length, replicate};
 ghost use Rattle.std.proofs.lemmas.List.Edits.{sets};
 

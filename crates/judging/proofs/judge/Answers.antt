@@ -12,8 +12,8 @@ returns-in-Err c = let a = c.args in judged_refused a.n a.w a.value.now a.log.no
 pub invariant_of-calls : goal.invariant_of-calls
 invariant_of-calls c = let a = c.args in record { narrow = (taken a.n a.w a.value.now a.log.now (sym c.in_default.ensures)).narrow }
 
-pub earns-requires : goal.earns-requires
-earns-requires c = let a = c.args in (taken a.n a.w a.value.now a.log.now (sym c.in_default.ensures)).fits
+pub invariant_of-admitted : goal.invariant_of-admitted
+invariant_of-admitted c = let a = c.args in record { fits = (taken a.n a.w a.value.now a.log.now (sym c.in_default.ensures)).fits }
 
 pub returns-then-earns : goal.returns-then-earns
 returns-then-earns c =

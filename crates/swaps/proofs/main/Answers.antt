@@ -3,5 +3,4 @@ use Rattle.run.proofs.RecordLaws.{fillers}
 use Rattle.swaps.proofs.main.Goals as goal
 
 pub trace_by_value-out-requires : goal.trace_by_value-out-requires
-trace_by_value-out-requires c =
-    fillers _ c.empty-held.ensures
+trace_by_value-out-requires c = fillers c.empty-held.result c.empty-held.ensures

@@ -6,9 +6,9 @@ use Rattle.judging.proofs.object.alike.Goals as goal
 
 pub returns-then-e-eq-LL : goal.returns-then-e-eq-LL
 returns-then-e-eq-LL c =
-    let a = c.args.calls.now in
+    let a = c.args.admitted.now.calls in
     c.eq.ensures
     ∙ told_ll a.w a.log.now c.args.k c.args.held.now c.args.value.now (sym (ap (λ (e : Head). e.kind) c.head-e.ensures) ∙ c.if-e-eq-LL.true) _ _ c.words_held.ensures c.words.ensures
 
 pub bounds-held-e : goal.bounds-held-e
-bounds-held-e c = let a = c.args.calls.now in low_process a.w a.log.now c.requires.0 c.args.k c.requires.1.0 _ c.head-e.ensures
+bounds-held-e c = let a = c.args.admitted.now.calls in low_process a.w a.log.now c.args.admitted.now.fits c.args.k c.requires.call _ c.head-e.ensures

@@ -7,6 +7,6 @@ use Rattle.judging.proofs.object.first_unlike.Goals as goal
 
 pub loop-k-preserved : goal.loop-k-preserved
 loop-k-preserved c =
-    let a = c.args.calls.now in
+    let a = c.args.admitted.now.calls in
     serve_go a.w a.log.now c.args.value.now (calls_of c.args.order.now) c.loop-k.held c.loop-k.k-index c.loop-k.invariant c.loop-k-test.true
     (sym c.alike.ensures ∙ (search rules)) _ c.serve.ensures

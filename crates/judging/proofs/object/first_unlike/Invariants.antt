@@ -4,4 +4,4 @@ use Rattle.judging.proofs.ObjectLaws.{ServeInv}
 use Rattle.judging.proofs.object.first_unlike.Given as goal
 
 abbrev pub invariant-loop-k : goal.invariant-loop-k
-invariant-loop-k l = ServeInv l.calls.w l.calls.log.now l.value (calls_of l.order) l.held l.k-index
+invariant-loop-k l = ServeInv l.admitted.calls.w l.admitted.calls.log.now l.value (calls_of l.order) l.held l.k-index

@@ -5,11 +5,11 @@ use lib.Dec.{eqb}
 use Rattle.verdicts.specs.declared.Fault.TheVariants.{Unknown, Overlap, Moment, Outside, Unled}
 use Rattle.verdicts.specs.Log.{entries}
 use Rattle.verdicts.specs.Verdicts.{kind_known, inside, ll_before}
-use Rattle.verdicts.specs.Reasons.{reason_of_no}
+use Rattle.verdicts.specs.Reasons.{at_one, reason_of_no}
 use Rattle.judging.specs.declared.heads.Head.{Head}
 use Rattle.judging.specs.Heads.{known, apart}
 use Rattle.judging.specs.Heads.{inside as Heads·inside}
-use Rattle.reasons.proofs.FailingLaws.{from_2, from_3, from_4, from_5, from_6, from_7, here, over, one_found, one_none, two_found, two_none, twice}
+use Rattle.reasons.proofs.FailingLaws.{from_2, from_3, from_4, from_5, from_6, here, over, one_found, one_none, one_last, two_found, two_none, twice}
 use borrow.Author.Rules.{rules}
 use Rattle.reasons.proofs.failing.reason_of_no.Goals as goal
 
@@ -19,7 +19,7 @@ moment e f b h = h ∙ twice (eqb e.moment f.moment)
 pub returns-in-Some : goal.returns-in-Some
 unfolding reason_of_no
 returns-in-Some c =
-    let a = c.args.calls.now in
+    let a = c.args.admitted.now.calls in
     let es = entries a.w a.log.now in
     let v = c.args.value.now in
     here _ (from_2 v es) _ (one_found Unknown (λ e. not (kind_known e)) es _ (c.in-Some.ensures (λ h. not (known h)) (λ e b p. search rules)))
@@ -27,7 +27,7 @@ returns-in-Some c =
 pub returns-in-Some-first_two : goal.returns-in-Some-first_two
 unfolding reason_of_no
 returns-in-Some-first_two c =
-    let a = c.args.calls.now in
+    let a = c.args.admitted.now.calls in
     let es = entries a.w a.log.now in
     let v = c.args.value.now in
     over _ (from_2 v es) _ (one_none Unknown (λ e. not (kind_known e)) es (c.in_default.ensures (λ h. not (known h)) (λ e b p. search rules)))
@@ -36,7 +36,7 @@ returns-in-Some-first_two c =
 pub returns-in-Some-first_two-2 : goal.returns-in-Some-first_two-2
 unfolding reason_of_no
 returns-in-Some-first_two-2 c =
-    let a = c.args.calls.now in
+    let a = c.args.admitted.now.calls in
     let es = entries a.w a.log.now in
     let v = c.args.value.now in
     over _ (from_2 v es) _ (one_none Unknown (λ e. not (kind_known e)) es (c.in_default.ensures (λ h. not (known h)) (λ e b p. search rules)))
@@ -46,7 +46,7 @@ returns-in-Some-first_two-2 c =
 pub returns-in-Some-first : goal.returns-in-Some-first
 unfolding reason_of_no
 returns-in-Some-first c =
-    let a = c.args.calls.now in
+    let a = c.args.admitted.now.calls in
     let es = entries a.w a.log.now in
     let v = c.args.value.now in
     over _ (from_2 v es) _ (one_none Unknown (λ e. not (kind_known e)) es (c.in_default.ensures (λ h. not (known h)) (λ e b p. search rules)))
@@ -57,7 +57,7 @@ returns-in-Some-first c =
 pub returns-in-Some-first_unlike : goal.returns-in-Some-first_unlike
 unfolding reason_of_no
 returns-in-Some-first_unlike c =
-    let a = c.args.calls.now in
+    let a = c.args.admitted.now.calls in
     let es = entries a.w a.log.now in
     let v = c.args.value.now in
     over _ (from_2 v es) _ (one_none Unknown (λ e. not (kind_known e)) es (c.in_default.ensures (λ h. not (known h)) (λ e b p. search rules)))
@@ -66,29 +66,16 @@ returns-in-Some-first_unlike c =
     (over _ (from_5 v es) _ (one_none Outside (λ e. not (inside e)) es (c.in_default-first.ensures (λ h. not (Heads·inside h)) (λ e b p. search rules)))
     (here _ (from_6 v es) _ (c.in-Some-first_unlike.ensures)))))
 
-pub returns-in-Some-first_unled : goal.returns-in-Some-first_unled
+pub returns : goal.returns
 unfolding reason_of_no
-returns-in-Some-first_unled c =
-    let a = c.args.calls.now in
+returns c =
+    let a = c.args.admitted.now.calls in
     let es = entries a.w a.log.now in
     let v = c.args.value.now in
+    let told : c.map.result ≡ at_one Unled c.first_unled.result = search rules in
     over _ (from_2 v es) _ (one_none Unknown (λ e. not (kind_known e)) es (c.in_default.ensures (λ h. not (known h)) (λ e b p. search rules)))
     (over _ (from_3 v es) _ (two_none Overlap _ (c.in_default-first_two.ensures (λ e f. not (apart e f)) (λ e f b p. search rules)))
     (over _ (from_4 v es) _ (two_none Moment _ (c.in_default-first_two-2.ensures (λ e f. not (not (eqb e.moment f.moment))) (λ e f b p. moment e f b (search rules))))
     (over _ (from_5 v es) _ (one_none Outside (λ e. not (inside e)) es (c.in_default-first.ensures (λ h. not (Heads·inside h)) (λ e b p. search rules)))
     (over _ (from_6 v es) _ c.in_default-first_unlike.ensures
-    (here _ (from_7 v es) _ (one_found Unled (λ e. not (ll_before es e)) es _ c.in-Some-first_unled.ensures))))))
-
-pub returns-in-None : goal.returns-in-None
-unfolding reason_of_no
-returns-in-None c =
-    let a = c.args.calls.now in
-    let es = entries a.w a.log.now in
-    let v = c.args.value.now in
-    over _ (from_2 v es) _ (one_none Unknown (λ e. not (kind_known e)) es (c.in_default.ensures (λ h. not (known h)) (λ e b p. search rules)))
-    (over _ (from_3 v es) _ (two_none Overlap _ (c.in_default-first_two.ensures (λ e f. not (apart e f)) (λ e f b p. search rules)))
-    (over _ (from_4 v es) _ (two_none Moment _ (c.in_default-first_two-2.ensures (λ e f. not (not (eqb e.moment f.moment))) (λ e f b p. moment e f b (search rules))))
-    (over _ (from_5 v es) _ (one_none Outside (λ e. not (inside e)) es (c.in_default-first.ensures (λ h. not (Heads·inside h)) (λ e b p. search rules)))
-    (over _ (from_6 v es) _ c.in_default-first_unlike.ensures
-    (over _ (from_7 v es) _ (one_none Unled (λ e. not (ll_before es e)) es c.in-None.ensures)
-    refl)))))
+    (told ∙ one_last Unled (λ e. not (ll_before es e)) es _ c.first_unled.ensures)))))

@@ -15,4 +15,5 @@ abbrev pub seen : ℕ → ℕ → StationProcess → ℕ → Bool
 seen n w q j = process_ok n w (process_of (record { 0 = j }) q)
 
 abbrev pub invariant-loop-j : goal.invariant-loop-j
-invariant-loop-j l = every (seen l.n l.w l.q) (numbers 0 l.r) ≡ every (seen l.n l.w l.q) (from l.j l.r)
+invariant-loop-j l =
+    let s = l.fn.sizes in every (seen s.n s.w l.q) (numbers 0 s.r) ≡ every (seen s.n s.w l.q) (from l.j s.r)
