@@ -1,9 +1,10 @@
 // Text runs for C, on a bench of their own.
 ghost use Rattle.std.specs.Prelude.{◌≡◌, true, false};
-ghost use Rattle.besklaun.specs.OwnBench.{text_run};
+ghost use Rattle.besklaun.specs.OwnBench.{text_run, told};
 
 use entry::state::Held;
 use llsc::refusals::number_of;
+use text_runs::runs::Finished;
 
 // What a text run returns: its number, 0 at `end`, the entries done and the bytes written.
 // Kept: no enum crosses to C.
@@ -15,6 +16,16 @@ pub struct TextRun {
     pub written: usize,
 }
 
+fn told(out: Finished<Held>) -> TextRun
+    ensures { result ≡ told out }
+{
+    TextRun {
+        number: number_of(out.outcome),
+        entries: out.entries,
+        written: out.written,
+    }
+}
+
 // A run on a bench of its own, of its listing or, where `traced`, of its trace.
 fn own_run(traced: bool, text: &[u8], into: &mut [u8]) -> TextRun
     ensures { (result, into.new) ≡ text_run traced text.now into.old }
@@ -22,11 +33,7 @@ fn own_run(traced: bool, text: &[u8], into: &mut [u8]) -> TextRun
     let mut words = [0; 5120];
     let held = Held::empty();
     let out = run::text_run::run_by_value(held, 16, traced, &mut words, text, into);
-    TextRun {
-        number: number_of(out.outcome),
-        entries: out.entries,
-        written: out.written,
-    }
+    told(out)
 }
 
 // A whole text run, whose listing goes to the bytes lent.
