@@ -13,7 +13,7 @@ use taken::Taken;
 use words::word_places;
 
 // What stands for no access: an idle process makes none.
-// Kept: a trace asks also at a start, and drops what it gets; an Option would be opened at each step, which has an access.
+// Kept: a trace asks also at a start, and drops what it gets; an Option would be opened at each step, which has one.
 fn no_access() -> Access
     ensures { result ≡ no_access }
 {

@@ -1,13 +1,11 @@
 -- Laws on lists that the loops cite.
 use mathlib.Core.Path.{◌≡◌, refl, ap, sym, ◌∙◌}
 use mathlib.Core.List.{List, [], ◌∷◌, ◌++◌}
-use mathlib.Core.Bool.{Bool, true, false, ◌&&◌}
-use Prim.Native.Nat.{ℕ, zero, suc, ◌+◌, ◌-◌, ◌≤◌, ◌<◌}
+use mathlib.Core.Bool.{Bool, true, ◌&&◌}
+use Prim.Native.Nat.{ℕ, zero, suc, ◌+◌, ◌-◌, ◌<◌}
 use native.Mathlib.Nat.{add-zero, add-suc, suc-add, le_of_suc-le-suc, not-suc-le-zero}
-use native.Mathlib.Numerals.{add-one}
-use native.Mathlib.Omega.{arith}
-use lib.ListN.{length, take, drop, get_or, set, replicate, length-take, length-replicate, replicate-append-replicate}
-use lib.Seq.{sets, take-suc, drop-cons}
+use lib.ListN.{length, get_or, set, replicate, length-replicate, replicate-append-replicate}
+use lib.Seq.{sets}
 use Rattle.std.specs.List.{list_all}
 use Rattle.llsc.specs.Rows.{every}
 use Rattle.laws.proofs.AndLaws.{left, right}

@@ -7,7 +7,7 @@ use crate::{Line, NamedItem, Touch};
 use answers::{Read, numbers};
 
 // A number and the text behind it. Where none stands, as in no line of a trace, it is one more than the largest.
-// Kept: `number_in` and `line_in` say such a text with that number, too; an Option would stand in Line and in each item.
+// Kept: `number_in` and `line_in` give such a text that number, too; an Option would stand in Line and each item.
 fn or_too_large(read: Read<'_, u64>) -> (u64, &[u8])
     ensures { GivesGot read.entry result }
 {

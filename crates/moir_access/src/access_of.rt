@@ -12,7 +12,7 @@ use moir_model::{Bench, Process};
 use moir_steps::before::Before;
 
 // What stands for no access: an idle process makes none.
-// Kept: a trace asks also at a start, and drops what it gets; an Option would be opened at each step, which has an access.
+// Kept: a trace asks also at a start, and drops what it gets; an Option would be opened at each step, which has one.
 fn no_access() -> Access
     ensures { result ≡ no_access }
 {

@@ -16,7 +16,7 @@ use notation::Entry;
 use text_runs::entries::{order_of, process_of};
 use text_runs::limits;
 
-// A run in progress: bench and records, the entries done, and whether it is traced. Its listing or trace goes to a writer.
+// A run in progress: bench and records, the entries done, and whether it is traced. Its lines go to a writer.
 #[derive(Clone, Copy)]
 pub struct Run {
     pub bench: Bench,

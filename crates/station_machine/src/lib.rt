@@ -2,7 +2,7 @@
 
 #![tactic(auto)]
 
-ghost use Rattle.std.specs.Prelude.{◌≡◌, ◌≤◌, ◌<◌, Ok, length};
+ghost use Rattle.std.specs.Prelude.{◌≡◌, ◌<◌, Ok, length};
 ghost use Rattle.station_rows.specs.StationCommandRows.{station_number};
 ghost use Rattle.station_machine.specs.StationDecision.{Sizes, RowsOf, obeyed_outcome, numbered, station_decided};
 
@@ -75,6 +75,7 @@ pub fn obey(lent: Gathered, command: Command, value: &[u64], words: &mut [u64]) 
     obeyed(station, j, q, moved, p)
 }
 
+// A command: refused by the first row that holds, and else obeyed.
 pub fn decide(
     lent: Gathered,
     command: Command,

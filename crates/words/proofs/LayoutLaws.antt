@@ -3,7 +3,7 @@ use mathlib.Core.Path.{◌≡◌, ap, fun_ext}
 use Prim.Native.Nat.{ℕ, ◌+◌}
 use native.Mathlib.Omega.{arith}
 use Rattle.model.specs.Sizes.{buffers, rows_before_offers}
-use Rattle.model.specs.Words.{Layout, one_record}
+use Rattle.model.specs.Words.{one_record}
 use Rattle.words.specs.declared.layouts.FirstRows.{FirstRows}
 use Rattle.words.specs.Layouts.{layout_from, OneRecord}
 

@@ -1,5 +1,5 @@
 -- `station_machine::obey` meets its contract: where no row holds the order can be obeyed.
-use mathlib.Core.Path.{◌≡◌, refl, sym, ap, ◌∙◌}
+use mathlib.Core.Path.{◌≡◌, ap}
 use native.Mathlib.Omega.{arith}
 use lib.ListN.{length, get_or}
 use Prim.Native.Nat.{ℕ, ◌<◌}

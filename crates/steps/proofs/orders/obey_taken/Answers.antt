@@ -1,7 +1,6 @@
 -- `steps::orders::obey_taken` meets its contract: the rows of one record alone are its layout.
-use Rattle.std.proofs.Common.{ap, ap₂, ◌∙◌, ℕ}
+use Rattle.std.proofs.Common.{ap₂, ◌∙◌, ℕ}
 use Rattle.model.specs.Words.{Layout}
-use Rattle.words.specs.Layouts.{layout_from}
 use Rattle.words.proofs.LayoutLaws.{one_layout}
 use Rattle.steps.specs.Steps.{obey_on_in}
 use Rattle.steps.proofs.LayoutLaws.{one_ready}
