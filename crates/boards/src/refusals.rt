@@ -1,5 +1,6 @@
 // The causes for which a merge is refused, and their order: 25, 26, 27, 28.
 ghost use Rattle.std.specs.Prelude.{◌≡◌, ◌≤◌, MatchResult};
+ghost use Rattle.boards.specs.Files.{largest};
 ghost use Rattle.boards.specs.Merging.{file_size, too_large};
 ghost use Rattle.boards.specs.Merged.{Both, RefusedWith};
 
@@ -11,7 +12,7 @@ use llsc::refusals::Refusal;
 
 // Row 28, for so many records.
 fn too_large(count: usize, room: usize) -> bool
-    requires { count ≤ 2796202 }
+    requires { count ≤ largest }
     ensures { result ≡ too_large (file_size count) room }
 {
     let size = RECORD_SIZE * count + TRAILER_SIZE;
@@ -19,7 +20,7 @@ fn too_large(count: usize, room: usize) -> bool
 }
 
 // The records of two files that may be merged; refused for the first cause that holds.
-pub fn records_of_both<'a>(
+pub(crate) fn records_of_both<'a>(
     first: &'a [u8],
     second: &'a [u8],
     room: usize,

@@ -1,4 +1,4 @@
--- Inner: what the code finds of a turn, in the terms of Turns.
+-- Inner: what `choose` and `take` find, in the terms of Turns; `TurnLaws` ties these to `schedule_for` and `number_for`.
 use Rattle.std.specs.Prelude.{Option, Some, None}
 use Rattle.enumeration.specs.declared.turns.Chosen.{Chosen}
 use Rattle.enumeration.specs.declared.turns.Taken.{Taken}

@@ -30,7 +30,8 @@ abbrev pub told : {A : Type 0} → Option A → ℕ → Result (A × ℕ) ℕ
 told (Some x) at = Ok (x, at)
 told None at = Err at
 
-pub record Reads {A : Type 0} (P : List ℕ → ℕ → Result (A × ℕ) ℕ → Type 0) (a b : Reader) (r : Option A) : Type 0 where
+-- read on by a method: P holds of the text from the old place, with what was read and the new place
+pub record ReadsAs {A : Type 0} (P : List ℕ → ℕ → Result (A × ℕ) ℕ → Type 0) (a b : Reader) (r : Option A) : Type 0 where
   pub same : b.text.now ≡ a.text.now
   pub says : P a.text.now a.at (told r b.at)
 

@@ -12,7 +12,7 @@ mod turns;
 ghost use Rattle.std.specs.Prelude.{◌≡◌};
 ghost use Rattle.notation.specs.Bytes.{kind_of, entry_of};
 ghost use Rattle.notation.specs.Readers.{HeaderSays};
-ghost use Rattle.notation.specs.Cursor.{HeadSays, Reads};
+ghost use Rattle.notation.specs.Cursor.{HeadSays, ReadsAs};
 
 use reader::Reader;
 
@@ -105,7 +105,7 @@ pub fn entry_of(m: Mark, p: u64) -> Entry
 // N, W and the initial number, and where the items begin.
 fn header(reader: &mut Reader) -> Option<First>
     requires { reader.old.at ≡ 0 }
-    ensures { Reads HeadSays reader.old reader.new result }
+    ensures { ReadsAs HeadSays reader.old reader.new result }
 {
     let n = reader.field(b' ')?;
     let w = reader.field(b' ')?;

@@ -30,7 +30,7 @@ fn is_count(n: u64) -> bool
 
 impl<'a> Reader<'a> {
     ghost use Rattle.notation.specs.Readers.{NumberSays, NumberAtSays, FieldSays, BeginSays, Follows};
-    ghost use Rattle.notation.specs.Cursor.{KindAt, DigitAt, Reads, Passes};
+    ghost use Rattle.notation.specs.Cursor.{KindAt, DigitAt, ReadsAs, Passes};
 
     // What the next byte is; nothing at the end.
     fn kind(&self) -> Option<Kind>
@@ -55,7 +55,7 @@ impl<'a> Reader<'a> {
     // The digits from here on, after digits that make v.
     fn digits(&mut self, v: u64) -> Option<u64>
         requires { v ≤ largest }
-        ensures { Reads (λ s at o. NumberSays s at v o) self.old self.new result }
+        ensures { ReadsAs (λ s at o. NumberSays s at v o) self.old self.new result }
     {
         let mut value = v;
         while let Some(d) = self.digit() {
@@ -70,7 +70,7 @@ impl<'a> Reader<'a> {
 
     // The number that begins here.
     fn number(&mut self) -> Option<u64>
-        ensures { Reads NumberAtSays self.old self.new result }
+        ensures { ReadsAs NumberAtSays self.old self.new result }
     {
         let d = self.digit()?;
         self.at += 1;
@@ -79,7 +79,7 @@ impl<'a> Reader<'a> {
 
     // A number and the one byte that ends it.
     pub fn field(&mut self, stop: u8) -> Option<u64>
-        ensures { Reads (λ s at o. FieldSays s at stop o) self.old self.new result }
+        ensures { ReadsAs (λ s at o. FieldSays s at stop o) self.old self.new result }
     {
         let v = self.number()?;
         if self.text.len() <= self.at || self.text[self.at] != stop {
@@ -100,7 +100,7 @@ impl<'a> Reader<'a> {
 
     // An item up to its end, or to the `(` of a group.
     pub fn begin(&mut self) -> Option<Start>
-        ensures { Reads BeginSays self.old self.new result }
+        ensures { ReadsAs BeginSays self.old self.new result }
     {
         let v = self.number()?;
         let sign = self.kind()?;
@@ -127,7 +127,7 @@ impl<'a> Reader<'a> {
 
     // What follows an item. Only behind a gap may another begin.
     pub fn after(&mut self) -> Option<Follow>
-        ensures { Reads Follows self.old self.new result }
+        ensures { ReadsAs Follows self.old self.new result }
     {
         let end = self.at;
         self.skip();

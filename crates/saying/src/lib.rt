@@ -1,4 +1,4 @@
-// Bytes and places of a text to a writer, for the programs, which hand in standard error. What can't be written
+// Names of bytes, and places of a text, to a writer, for the programs, which hand in standard error. What can't be written
 // there is lost: there is no other place to say so, and so a program lets the error go.
 
 #![tactic(auto)]

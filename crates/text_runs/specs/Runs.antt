@@ -1,5 +1,6 @@
 -- How a text run ends, as the code holds it, over what a bench holds.
--- Inner: the crates of both benches prove that this is the end of `TextRun`'s run.
+-- Inner: `closed_answers` (`run/proofs/RunLaws`) and `closed_seen` (`moir_run/proofs/StartLaws`) prove that this is the end
+-- of `TextRun`'s run.
 use Rattle.std.specs.Prelude.{ℕ, ◌+◌, ◌≤◌, List, Result, length}
 use Rattle.std.proofs.lemmas.List.Edits.{sets}
 use Rattle.llsc.specs.declared.refusals.Refusal.{Refusal}
@@ -14,6 +15,7 @@ use Rattle.text_runs.specs.Parts.{last_text}
 abbrev pub Outcome : Type 0
 Outcome = Result (Unit {0}) Refusal
 
+-- what a run returns, and what it leaves of what it held
 abbrev pub finished_of : {H : Type 0} → H → ℕ → Outcome → StopReport → ℕ → Finished H
 finished_of held entries o report written = record { held = held; outcome = o; entries = entries; written = written; report = report }
 

@@ -15,7 +15,7 @@ use Rattle.text_runs.specs.TextRun.{Progress, process_of, carry, carry_all, begu
 abbrev pub reported_process : ℕ → ℕ
 reported_process p = cond (leb p 15) p 16
 
--- N and W
+-- N and W, as the first line has them
 abbrev pub sizes : ℕ → ℕ → Sizes
 sizes n w = record { n = n; w = w }
 
