@@ -28,7 +28,7 @@ fn no_access() -> Access
 
 // From the memory before the step: the places taken out for it and the words. An idle process and a line that is none
 // are never stepped.
-// Kept: each line by its own number, as Figure 2 has it; 7, 12 and 14 stand for two points each.
+// Kept: an arm for each point, as each names its line and the item that it looks at.
 #[tactic(auto, unfolding(crate::specs::AccessOn::access_on), using(crate::proofs::PlaceLaws::word_lies))]
 pub fn access_of(
     n: usize,

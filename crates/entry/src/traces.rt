@@ -42,7 +42,7 @@ fn answers(reply: Reply) -> bool
 }
 
 // The trace's line of an accepted entry.
-// Kept: an entry and its reply have no struct: they meet here alone, and each is a value of another crate.
+// Kept: an entry and its reply have no struct: they meet in these lines alone, and in Moir's.
 fn entry_line(entry: usize, access: Access, e: Entry, reply: Reply, to: &mut Writer<'_>)
     requires { Fits to.old (entry_line entry access e reply) }
     ensures { Writes to.old (entry_line entry access e reply) to.new }

@@ -20,7 +20,7 @@ fn no_access() -> Access
 }
 
 // From the memory before the step. An idle process and a line that is none are never stepped.
-// Kept: each line by its own number, as Figure 6 has it; the arms differ in that number and in what they take.
+// Kept: an arm for each point, as each names its line and what it looks at.
 #[tactic(auto, unfolding(crate::specs::Accesses::access_of))]
 pub fn access_of(bench: Bench, p: ProcessNumber, process: Process, words: &[u64]) -> Access
     requires { Ready bench process p words.now }

@@ -39,7 +39,7 @@ fn unchanged(reply: TurnReply, left: usize) -> TurnOutcome
 fn refused(refusal: Refusal, left: usize) -> TurnOutcome
     ensures { result ≡ refused_turn (refusal_number refusal) left }
 {
-    // Kept: 01 promises its users a number.
+    // Kept: 01, and 02 for 22 to 24, promise users a number.
     let reply = Reply::Refused(refusal.number());
     unchanged(TurnReply::Replied(reply), left)
 }
