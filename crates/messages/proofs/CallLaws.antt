@@ -1,16 +1,15 @@
 -- The calls that are made of a bench's records: each of its record, as `OpenCalls` finds it.
-use Rattle.std.proofs.Common.{◌≡◌, ℕ, ◌<◌, List, length, map, get_or, arith, sym, ◌∙◌}
+use Rattle.std.proofs.Common.{◌≡◌, refl, ℕ, zero, suc, ◌<◌, List, [], ◌∷◌, length, map, get_or, arith, sym, ◌∙◌}
 use Rattle.std.proofs.lemmas.List.{ext_get_or, get_or-map, length-map}
 use Rattle.std.specs.Prelude.{None}
 use Rattle.model.specs.declared.Process.{Process}
 use Rattle.model.specs.Records.{no_process}
-use Rattle.messages.specs.OpenCalls.{place_of}
 use Rattle.messages.specs.OpenCalls.{call_of, call_at}
 
-pub told_at : (p : ℕ) (records : List Process) → length records ≡ 16 → get_or (map call_of records) (place_of p) None ≡ call_at p records
-told_at p records n =
-    let lt : place_of p < length records = grind arith in
-    get_or-map call_of records (place_of p) no_process None lt
+pub told_at : (p : ℕ) (records : List Process) → get_or (map call_of records) p None ≡ call_at p records
+told_at p [] = refl
+told_at zero (q ∷ records) = refl
+told_at (suc p) (q ∷ records) = told_at p records
 
 -- a list of sixteen whose elements are made one by one is made whole
 pub made_whole : {A B : Type 0} (f : A → B) (d : A) (e : B) (xs : List A) (ys : List B) → length xs ≡ 16 → length ys ≡ 16

@@ -1,6 +1,6 @@
 -- The open call of a process of Figure 2's bench, as a message tells it: by the numbers of program points
 -- (`model/specs/Points`); `proofs/Points` computes that they are these for each point.
-use Rattle.std.specs.Prelude.{ℕ, cond, List, eqb, leb, ltb, get_or, Option, None, Some}
+use Rattle.std.specs.Prelude.{ℕ, cond, List, eqb, leb, get_or, Option, None, Some}
 use Rattle.std.specs.Option.{option_map}
 use Rattle.model.specs.declared.Process.{Process}
 use Rattle.model.specs.Records.{no_process}
@@ -31,9 +31,6 @@ call_of q =
     (λ kind. record { kind = kind; line = figure_line q.line; moves = moves_of q.line; place = q.word; count = q.count })
     (kind_of q.line)
 
--- the call of process p among sixteen records; a number that is none of N is refused before it is looked at
-abbrev pub place_of : ℕ → ℕ
-place_of p = cond (ltb p 16) p 0
-
+-- the call of process p among these records; none of a number that is no process of them
 abbrev pub call_at : ℕ → List Process → Option Call
-call_at p records = call_of (get_or records (place_of p) no_process)
+call_at p records = call_of (get_or records p no_process)

@@ -1,10 +1,8 @@
 // The open call of a process: its kind, the line that comes next, the word place where that line moves words, and the
 // own steps so far. The same words for every method.
-ghost use Rattle.std.specs.Prelude.{◌≡◌, ◌<◌, Some};
-ghost use Rattle.messages.specs.OpenCalls.{place_of};
+ghost use Rattle.std.specs.Prelude.{◌≡◌, Some};
 ghost use Rattle.messages.specs.OpenLines.{kind_text, figure_text, word_text, steps_text, told_text};
 
-use llsc::ProcessNumber;
 use std::fmt;
 
 #[derive(Clone, Copy, PartialEq, Eq)]
@@ -123,11 +121,4 @@ impl fmt::Display for Word {
             }
         }
     }
-}
-
-// The process whose record is looked at: process 0 where p is no number of sixteen.
-pub fn process_number(p: u64) -> ProcessNumber
-    ensures { (result ≡ record { 0 = place_of p }) × (result.0 < 16) }
-{
-    ProcessNumber(if p < 16 { p as u8 } else { 0 })
 }

@@ -51,11 +51,10 @@ fn broken(to: &mut impl Write, before: &[u8], rest: &[u8]) -> io::Result<()> {
 
 // Where the group begins that is open at the text's end.
 fn unclosed(to: &mut impl Write, text: &[u8]) -> io::Result<()> {
-    let at = positions::unclosed(text);
-    if at < text.len() {
-        write!(to, "; its ( is at {}", Place::of(text, at))?;
+    match positions::unclosed(text) {
+        None => Ok(()),
+        Some(at) => write!(to, "; its ( is at {}", Place::of(text, at)),
     }
-    Ok(())
 }
 
 fn is_order_mark(rest: &[u8]) -> bool

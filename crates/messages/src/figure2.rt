@@ -8,6 +8,7 @@ use lines::points;
 use model::Process;
 
 // The calls of the processes with these records.
+// Kept: beside Moir's own, as the records are; what is alike is one `map`.
 pub fn left(all: [Process; 16]) -> Left
     ensures figure { result.figure ≡ Figure.Two }
     ensures calls { result.calls ≡ map call_of all }

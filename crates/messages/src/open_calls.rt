@@ -1,20 +1,19 @@
 // The calls of sixteen processes, where they are open.
 ghost use Rattle.std.specs.Prelude.{◌≡◌, None, get_or, OnOk};
 ghost use Rattle.std.specs.Io.KnownBytes.{Appends};
-ghost use Rattle.messages.specs.OpenCalls.{place_of};
 ghost use Rattle.messages.specs.OpenLines.{open_line, open_below, still_open};
 
+use crate::Left;
 use crate::calls::{Call, Method, Told};
-use crate::{Left, calls};
 use positions::{Sizes, StopReport};
 use std::io;
 use std::io::Write;
 
-// The call of process p; of a number that is none of N it is not looked at.
+// The call of process p, if there is such a process and it has one.
 pub(crate) fn call_at(p: u64, calls: &[Option<Call>; 16]) -> Option<Call>
-    ensures { result ≡ get_or calls.now (place_of p) None }
+    ensures { result ≡ get_or calls.now p None }
 {
-    calls[calls::process_number(p).0 as usize]
+    calls.get(p as usize).copied().flatten()
 }
 
 // The calls that a run leaves open, where its text gave N and W.

@@ -9,7 +9,6 @@ use Rattle.messages.specs.declared.calls.Kind.{Kind}
 use Rattle.messages.specs.declared.calls.Kind.TheVariants.{Ll, Sc, Vl}
 use Rattle.messages.specs.declared.calls.Moves.{Moves}
 use Rattle.messages.specs.declared.calls.Moves.TheVariants.{Whole}
-use Rattle.messages.specs.OpenCalls.{place_of}
 
 -- none where the process is idle
 abbrev pub kind_of : ℕ → Option Kind
@@ -30,6 +29,6 @@ call_of q =
     (λ kind. record { kind = kind; line = line; moves = moves_of line; place = q.word; count = q.count })
     (kind_of q.line)
 
--- the call of process p among sixteen records
+-- the call of process p among these records; none of a number that is no process of them
 abbrev pub call_at : ℕ → List Process → Option Call
-call_at p records = call_of (get_or records (place_of p) no_process)
+call_at p records = call_of (get_or records p no_process)

@@ -12,6 +12,7 @@ use moir_lines::points;
 use moir_model::Process;
 
 // The calls of the processes with these records.
+// Kept: beside Figure 2's own, as the records are; what is alike is one `map`.
 pub fn left(all: [Process; 16]) -> Left
     ensures figure { result.figure ≡ Figure.Six }
     ensures calls { result.calls ≡ map call_of all }

@@ -98,7 +98,7 @@ fn checked(traced: bool, first: First, text: &[u8], list: &mut [u8]) -> Finished
         StopInText figure6 traced at_start text.now list.old result.report }
 {
     let mut kept = lists::empty_list();
-    match items::read_items(text, first.items, limits::DEEPEST, &mut kept, 0) {
+    match items::read_items(text, first.items, limits::DEEPEST, &mut kept) {
         Err(fault) => refused(fault.cause, StopReport::AtFault(fault.place), list),
         Ok(Items::Closed(next, _)) => {
             refused(Refusal::TextBroken, StopReport::AtFault(next - 1), list)

@@ -1,5 +1,5 @@
 // An entry and the place of its item as one number.
-// Kept: a number and no struct, since the list of 60,001 of them stands in memory of a fixed size: no heap.
+// Kept: 8 bytes and no struct of an entry and a place: 60,001 of these stand in a caller's own memory (no heap).
 ghost use Rattle.std.specs.Prelude.{◌≡◌, ◌≤◌, ◌<◌};
 ghost use Rattle.notation.specs.EntryWords.{kept_process, kept_entry, entry_of_kind, entry_in, place_unit, largest_place, place_in};
 ghost use Rattle.notation.specs.Grammar.{largest};

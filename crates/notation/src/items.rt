@@ -106,19 +106,13 @@ fn read_on(reader: &mut Reader, depth: usize, entries: &mut EntryList) -> Result
     }
 }
 
-// The items of a text from a place on; their entries go into the list from a place of its own on.
-// Kept: both places, as the caller has them: a first line says where its items begin, and a reader is this crate's own.
-pub fn read_items(
-    text: &[u8],
-    at: usize,
-    depth: usize,
-    list: &mut [u64],
-    from: usize,
-) -> Result<Items, Fault>
-    requires { (at ≤ length text.now) × (from ≤ length list.old) × (Placeable text.now) }
-    ensures { ItemsSay text.now at depth list.old list.new from result }
+// The items of a text from a place on; their entries go into the list from its beginning on.
+// Kept: a place beside its text: a first line says where its items begin, and a reader is this crate's own.
+pub fn read_items(text: &[u8], at: usize, depth: usize, list: &mut [u64]) -> Result<Items, Fault>
+    requires { (at ≤ length text.now) × (Placeable text.now) }
+    ensures { ItemsSay text.now at depth list.old list.new 0 result }
 {
     let mut reader = Reader { text, at };
-    let mut entries = EntryList { list, count: from };
+    let mut entries = EntryList { list, count: 0 };
     read_on(&mut reader, depth, &mut entries)
 }

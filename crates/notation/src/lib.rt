@@ -77,7 +77,7 @@ pub fn class(b: u8) -> Kind
     ensures { result ≡ kind_of b }
 {
     match b {
-        b'0'..=b'9' => Kind::Digit((b as u64) - 48),
+        b'0'..=b'9' => Kind::Digit((b - b'0') as u64),
         b'\n' | b' ' => Kind::Gap,
         b'!' => Kind::Marked(Mark::All),
         b'(' => Kind::Open,

@@ -5,30 +5,31 @@ use mathlib.Core.List.{List}
 use mathlib.Core.Bool.{Bool, true, false, cond}
 use native.Mathlib.Omega.{arith}
 use lib.Dec.{eqb}
-use lib.ListN.{length, get_or}
+use lib.ListN.{get_or}
+use Rattle.std.specs.Prelude.{None, Some}
 use Rattle.positions.specs.Brackets.{opens_here, closed_with, unclosed_below}
 
 -- one byte lower
 pub below : (text : List ℕ) (left closed : ℕ) → 0 < left → let b = get_or text (left - 1) 0 in
-    unclosed_below text left closed ≡ cond (opens_here b closed) (left - 1) (unclosed_below text (left - 1) (closed_with b closed))
+    unclosed_below text left closed ≡ cond (opens_here b closed) (Some (left - 1)) (unclosed_below text (left - 1) (closed_with b closed))
 unfolding unclosed_below
-below text zero closed h = omega arith
+below text zero closed h = absurd (omega arith)
 below text (suc i) closed h =
     let less : i ≡ suc i - 1 = omega arith in
-    ap (λ (j : ℕ). cond (opens_here (get_or text j 0) closed) j (unclosed_below text j (closed_with (get_or text j 0) closed))) less
+    ap (λ (j : ℕ). cond (opens_here (get_or text j 0) closed) (Some j) (unclosed_below text j (closed_with (get_or text j 0) closed))) less
 
 pub found : (text : List ℕ) (left closed : ℕ) {r : Bool} → 0 < left → r ≡ opens_here (get_or text (left - 1) 0) closed → r ≡ true
-    → left - 1 ≡ unclosed_below text left closed
+    → Some (left - 1) ≡ unclosed_below text left closed
 found text left closed h e t = sym (below text left closed h ∙ simp (sym e ∙ t))
 
 pub passed : (text : List ℕ) (left closed : ℕ) {r : Bool} → 0 < left → r ≡ opens_here (get_or text (left - 1) 0) closed → r ≡ false
     → unclosed_below text left closed ≡ unclosed_below text (left - 1) (closed_with (get_or text (left - 1) 0) closed)
 passed text left closed h e t = below text left closed h ∙ simp (sym e ∙ t)
 
-pub none_left : (text : List ℕ) (left closed : ℕ) → left ≤ 0 → length text ≡ unclosed_below text left closed
+pub none_left : (text : List ℕ) (left closed : ℕ) → left ≤ 0 → None ≡ unclosed_below text left closed
 unfolding unclosed_below
 none_left text zero closed h = refl
-none_left text (suc i) closed h = omega arith
+none_left text (suc i) closed h = absurd (omega arith)
 
 -- at most one more is closed
 pub one_more : (b closed : ℕ) → closed_with b closed ≤ closed + 1

@@ -1,7 +1,7 @@
 -- Lines and columns by computation.
 use mathlib.Core.Path.{◌≡◌, refl}
 use mathlib.Core.List.{[]}
-use Rattle.std.specs.Prelude.{Some}
+use Rattle.std.specs.Prelude.{None, Some}
 use Rattle.listing.specs.Quoted.{quoted}
 use Rattle.positions.specs.Brackets.{unclosed_below, unclosed_in}
 use Rattle.positions.specs.Positions.{on_byte, seen_from, seen_in, line_after, column_after}
@@ -37,9 +37,9 @@ in_brackets = refl
 
 -- the `(` that the text ends in: the last one, not the one that a `)` closes, and none
 record Unclosed : Type 0 where
-  last : unclosed_in (quoted "2 1 5\n2(0l 3(1.") ≡ 12
-  closed : unclosed_in (quoted "2 1 5\n2(0l 3(1.) 0.") ≡ 7
-  none : unclosed_in (quoted "2 1 5\n2(0l)") ≡ 11
+  last : unclosed_in (quoted "2 1 5\n2(0l 3(1.") ≡ Some 12
+  closed : unclosed_in (quoted "2 1 5\n2(0l 3(1.) 0.") ≡ Some 7
+  none : unclosed_in (quoted "2 1 5\n2(0l)") ≡ None
 
 unclosed : Unclosed
 unfolding unclosed_below

@@ -29,6 +29,7 @@ pub struct Sizes {
 }
 
 // An item of a text: its place, and the process of its entry, 16 for any number above 15.
+// Kept: 16 is refused as every number above 15, and the item's own bytes show the number.
 #[derive(Clone, Copy)]
 pub struct Item {
     pub place: usize,
@@ -103,19 +104,19 @@ fn counted(n: usize, more: bool) -> usize
     if more { n + 1 } else { n }
 }
 
-// The place of the last `(` that no `)` closes; the end of the text where there is none.
-pub fn unclosed(text: &[u8]) -> usize
+// The place of the last `(` that no `)` closes, if there is one.
+pub fn unclosed(text: &[u8]) -> Option<usize>
     ensures { result ≡ unclosed_in text.now }
 {
     let mut closed = 0;
     for i in (0..text.len()).rev() {
         let b = text[i];
         if opens_here(b, closed) {
-            return i;
+            return Some(i);
         }
         closed = closed_with(b, closed);
     }
-    text.len()
+    None
 }
 
 fn opens_here(b: u8, closed: usize) -> bool

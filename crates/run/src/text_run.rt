@@ -98,7 +98,7 @@ fn checked(
         StopInText traced (memory_of held len words.old) text.now list.old result.report }
 {
     let mut kept = lists::empty_list();
-    let read = match items::read_items(text, first.items, limits::DEEPEST, &mut kept, 0) {
+    let read = match items::read_items(text, first.items, limits::DEEPEST, &mut kept) {
         Ok(read) => read,
         Err(fault) => {
             let report = StopReport::AtFault(fault.place);

@@ -14,7 +14,7 @@ use Rattle.run.proofs.text_run.checked.Goals as goal
 
 pub read_items-requires : goal.read_items-requires
 read_items-requires c =
-    (headed_within c.requires.1.line, omega arith, c.requires.1.placeable)
+    (headed_within c.requires.1.line, c.requires.1.placeable)
 
 pub refused-requires : goal.refused-requires
 refused-requires c = (c.requires.0, broken_small c.in-Err.ensures.are.is)
