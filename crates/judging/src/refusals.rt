@@ -41,6 +41,7 @@ fn not_after_start(calls: &Calls) -> bool
 }
 
 // Refuses for the first cause that holds.
+// Kept: tried by `if_holds(..)?`: goals about the error stayed open.
 #[tactic(auto, unfolding(verdicts::specs::Verdicts::log_checked))]
 pub fn checked(n: usize, w: usize, value: &[u64], log: &[u64]) -> Result<(), Refusal>
     ensures { result ≡ log_checked n w value.now log.now }
