@@ -35,11 +35,5 @@ pub fn stray_place(text: &[u8]) -> Option<usize>
     ensures within { (i : ℕ) → result ≡ Some i → i < length text.now }
     ensures place { unwrap_or result (length text.now) ≡ stray_place text.now }
 {
-    first_stray(text)
-}
-
-fn first_stray(text: &[u8]) -> Option<usize>
-    ensures { result ≡ position is_stray text.now }
-{
     text.iter().position(|b| is_stray(*b))
 }
