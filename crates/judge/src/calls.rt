@@ -130,7 +130,7 @@ fn words_from<'a>(numbers: &'a [u64], from: usize) -> Words<'a>
 }
 
 // A number of the text, 0 where there is none.
-// Kept: one expression of std; 0 where the text lacks the number, as `part_of` says: a fault names calls that are there.
+// Kept: one expression of std; 0 where the text lacks the number, as `part_of` says: a fault is of calls in the text.
 pub(crate) fn at(numbers: &[u64], i: usize) -> u64
     ensures { result ≡ get_or numbers.now i 0 }
 {
