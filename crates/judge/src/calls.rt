@@ -130,7 +130,7 @@ fn words_from<'a>(numbers: &'a [u64], from: usize) -> Words<'a>
 }
 
 // A number of the text, 0 where there is none.
-// Kept: `lent::record_or` has this body, but a log is no lent memory, and the judge stands on no bench's crates.
+// Kept: one expression of std; 0 where the text lacks the number, as `part_of` says: a fault is of calls in the text.
 pub(crate) fn at(numbers: &[u64], i: usize) -> u64
     ensures { result ≡ get_or numbers.now i 0 }
 {
@@ -138,6 +138,7 @@ pub(crate) fn at(numbers: &[u64], i: usize) -> u64
 }
 
 // W, where it is at most 64.
+// Kept: 0 is no W (row 2), so that it says "none up to 64", as `width_told` does.
 pub(crate) fn width(numbers: &[u64]) -> usize
     ensures upper_bound { result ≤ 64 }
     ensures value { result ≡ width_told numbers.now }
@@ -150,6 +151,7 @@ pub(crate) fn width(numbers: &[u64]) -> usize
 }
 
 // The index of a call's first number.
+// Kept: 0, where no call begins, keeps the product in range, as `first_of` says: a text has no call above 65,536.
 pub(crate) fn first_of(numbers: &[u64], call: usize) -> usize
     ensures upper_bound { result ≤ 5000000 }
     ensures value { result ≡ first_of numbers.now call }

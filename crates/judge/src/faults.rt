@@ -21,7 +21,7 @@ pub(crate) fn lacks_n_and_w(to: &mut impl Write, count: usize) -> io::Result<()>
 // The fault, and how many numbers were read before it.
 pub(crate) fn tell(to: &mut impl Write, fault: Fault, count: usize, text: &[u8]) -> io::Result<()> {
     match fault {
-        Fault::StrayByte => stray(to, number_places::stray_place(text), text),
+        Fault::StrayByte => stray(to, text),
         Fault::TooLarge => {
             saying::position(to, text, number_places::number_place(text, count))?;
             write!(to, ": a number of 2^64 or more")
@@ -34,11 +34,10 @@ pub(crate) fn tell(to: &mut impl Write, fault: Fault, count: usize, text: &[u8])
     writeln!(to, "; nothing was judged")
 }
 
-fn stray(to: &mut impl Write, place: usize, text: &[u8]) -> io::Result<()> {
+fn stray(to: &mut impl Write, text: &[u8]) -> io::Result<()> {
+    let Some(place) = number_places::stray_place(text) else {
+        return Ok(());
+    };
     saying::position(to, text, place)?;
-    write!(to, ": ")?;
-    if let Some(here) = text.get(place) {
-        write!(to, "{}", Named(*here))?;
-    }
-    write!(to, " is no digit and no space")
+    write!(to, ": {} is no digit and no space", Named(text[place]))
 }

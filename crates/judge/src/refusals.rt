@@ -14,24 +14,18 @@ pub(crate) fn refused(
     log: Log,
 ) -> io::Result<()> {
     write!(to, "refused {}: ", refusal.number())?;
-    // Kept: each refusal is about something of its own (N or W, a call, a place), so that no two arms ask alike.
-    match refusal {
-        Refusal::NOutOfRange => range(to, 0, "N", 16, log),
-        Refusal::WOutOfRange => range(to, 1, "W", 64, log),
-        Refusal::NoSuchProcess => process(to, call_of(place, log), log),
-        Refusal::ValueNotWWords => cut_off(to, place, log),
-        Refusal::TooManyCalls => too_many(to, log),
-        _ => backwards(to, call_of(place, log)),
+    // Kept: each arm writes what its own refusal is about: N or W, a call, or a place.
+    match (refusal, place) {
+        (Refusal::NOutOfRange, _) => range(to, 0, "N", 16, log),
+        (Refusal::WOutOfRange, _) => range(to, 1, "W", 64, log),
+        (Refusal::NoSuchProcess, Some(Place::Call(call))) => process(to, log.call(call), log),
+        (Refusal::ValueNotWWords, Some(Place::Call(call))) => call_cut_off(to, call, log),
+        (Refusal::ValueNotWWords, _) => value_cut_off(to, log),
+        (Refusal::TooManyCalls, _) => too_many(to, log),
+        (Refusal::AnswerNotAfterStart, Some(Place::Call(call))) => backwards(to, log.call(call)),
+        _ => Ok(()),
     }?;
     writeln!(to)
-}
-
-// The call that a refusal is about, which 4 and 17 have.
-fn call_of<'a>(place: Option<Place>, log: Log<'a>) -> Call<'a> {
-    match place {
-        Some(Place::Call(call)) => log.call(call),
-        _ => log.call(0),
-    }
 }
 
 // N or W, the number of an index, is not in its range.
@@ -50,20 +44,20 @@ fn process(to: &mut impl Write, call: Call, log: Log) -> io::Result<()> {
     )
 }
 
-fn cut_off(to: &mut impl Write, place: Option<Place>, log: Log) -> io::Result<()> {
+fn call_cut_off(to: &mut impl Write, call: usize, log: Log) -> io::Result<()> {
     let w = calls::width(log.numbers);
-    match place {
-        Some(Place::Call(call)) => {
-            let line = log.line(call);
-            let left = log.left(call);
-            write!(
-                to,
-                "line {line}: the last call has {left} numbers, not {}",
-                6 + w
-            )
-        }
-        _ => write!(to, "the text ends within the value; W is {w}"),
-    }
+    let line = log.line(call);
+    let left = log.left(call);
+    write!(
+        to,
+        "line {line}: the last call has {left} numbers, not {}",
+        6 + w
+    )
+}
+
+fn value_cut_off(to: &mut impl Write, log: Log) -> io::Result<()> {
+    let w = calls::width(log.numbers);
+    write!(to, "the text ends within the value; W is {w}")
 }
 
 fn too_many(to: &mut impl Write, log: Log) -> io::Result<()> {

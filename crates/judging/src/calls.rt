@@ -49,6 +49,7 @@ impl<'a> Calls<'a> {
     }
 
     // The first call that passes a test, of those from an index on.
+    // Kept: tried by `find`: its closure, which calls `head` and a test handed in, would need a `requires` of its own.
     pub fn first<F: Fn(Head) -> bool>(&self, from: usize, passes: F) -> Option<usize>
         requires { F.IsAlwaysCallable passes }
         ensures { (f : Head → Bool) → Decides (F.post passes) f

@@ -45,24 +45,11 @@ fn not_after_start(calls: &Calls) -> bool
 pub fn checked(n: usize, w: usize, value: &[u64], log: &[u64]) -> Result<(), Refusal>
     ensures { result ≡ log_checked n w value.now log.now }
 {
-    if causes::n_out_of_range(n) {
-        return Err(Refusal::NOutOfRange);
-    }
-    if causes::w_out_of_range(w) {
-        return Err(Refusal::WOutOfRange);
-    }
+    Refusal::NOutOfRange.if_holds(causes::n_out_of_range(n))?;
+    Refusal::WOutOfRange.if_holds(causes::w_out_of_range(w))?;
     let calls = Calls { log, w };
-    if no_such_process(n, &calls) {
-        return Err(Refusal::NoSuchProcess);
-    }
-    if not_w_words(w, value, log) {
-        return Err(Refusal::ValueNotWWords);
-    }
-    if too_many(&calls) {
-        return Err(Refusal::TooManyCalls);
-    }
-    if not_after_start(&calls) {
-        return Err(Refusal::AnswerNotAfterStart);
-    }
-    Ok(())
+    Refusal::NoSuchProcess.if_holds(no_such_process(n, &calls))?;
+    Refusal::ValueNotWWords.if_holds(not_w_words(w, value, log))?;
+    Refusal::TooManyCalls.if_holds(too_many(&calls))?;
+    Refusal::AnswerNotAfterStart.if_holds(not_after_start(&calls))
 }

@@ -1,5 +1,5 @@
 // Where the numbers of a text stand, and the first byte that is in none.
-ghost use Rattle.std.specs.Prelude.{◌≡◌, position};
+ghost use Rattle.std.specs.Prelude.{◌≡◌, ◌<◌, ℕ, Some, length, position, unwrap_or};
 ghost use Rattle.logtext.specs.Places.{is_stray, place_of, stray_place};
 
 fn is_stray(b: u8) -> bool
@@ -29,15 +29,11 @@ pub fn number_place(text: &[u8], index: usize) -> usize
     text.len()
 }
 
-// The place of the first byte that is no digit and no gap; the end of the text where there is none.
-pub fn stray_place(text: &[u8]) -> usize
-    ensures { result ≡ stray_place text.now }
-{
-    first_stray(text).unwrap_or(text.len())
-}
-
-fn first_stray(text: &[u8]) -> Option<usize>
-    ensures { result ≡ position is_stray text.now }
+// The place of the first byte that is no digit and no gap, if there is one.
+pub fn stray_place(text: &[u8]) -> Option<usize>
+    ensures found { result ≡ position is_stray text.now }
+    ensures within { (i : ℕ) → result ≡ Some i → i < length text.now }
+    ensures place { unwrap_or result (length text.now) ≡ stray_place text.now }
 {
     text.iter().position(|b| is_stray(*b))
 }

@@ -26,24 +26,18 @@ pub fn refused_at(refusal: Refusal, n: usize, w: usize, value: &[u64], log: &[u6
     requires { Err refusal ≡ log_checked n w value.now log.now }
     ensures { result ≡ refused_at (refusal_number refusal) n w value.now log.now }
 {
-    let number = refusal.number();
-    if number <= Refusal::WOutOfRange.number() {
-        return None;
-    }
-    if number == Refusal::ValueNotWWords.number() {
-        return Some(cut_off(w, value, log));
-    }
     let calls = Calls { log, w };
-    if number == Refusal::NoSuchProcess.number() {
-        let n = n as u64;
-        return Some(Place::Call(calls.first(0, |e| n <= e.process).unwrap_or(calls.len())));
+    match refusal {
+        Refusal::ValueNotWWords => Some(cut_off(w, value, log)),
+        Refusal::NoSuchProcess => {
+            let n = n as u64;
+            let first = calls.first(0, |e| n <= e.process);
+            Some(Place::Call(first.unwrap_or(calls.len())))
+        }
+        Refusal::AnswerNotAfterStart => {
+            let first = calls.first(0, |e| e.answer <= e.start);
+            Some(Place::Call(first.unwrap_or(calls.len())))
+        }
+        _ => None,
     }
-    if number == Refusal::AnswerNotAfterStart.number() {
-        return Some(Place::Call(
-            calls
-                .first(0, |e| e.answer <= e.start)
-                .unwrap_or(calls.len()),
-        ));
-    }
-    None
 }

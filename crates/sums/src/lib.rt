@@ -35,6 +35,7 @@ pub enum NotAdded {
 
 impl NotAdded {
     // The number that users are told.
+    // Kept: 02 promises its users a number.
     pub fn number(self) -> u8
         ensures { result ≡ not_added_number self }
     {

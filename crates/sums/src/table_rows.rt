@@ -20,7 +20,7 @@ fn gcd_of(a: u64, b: u64) -> u64
 }
 
 impl Fraction {
-    // 0 over 0.
+    // Kept: 02, CR 2: "A process with no such call gets 0 over 0".
     const NONE: Fraction = Fraction { over: 0, under: 0 };
 
     // The fraction in lowest terms, 0 over 0 where it is of no call.

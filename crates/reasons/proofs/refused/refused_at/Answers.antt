@@ -2,7 +2,7 @@
 use mathlib.Core.Path.{sym, ap, ◌∙◌}
 use native.Mathlib.Omega.{arith}
 use lib.Dec.{leb}
-use Rattle.llsc.specs.Refusals.{number_told}
+use Rattle.llsc.specs.Refusals.{refusal_number, number_told}
 use Rattle.verdicts.proofs.VerdictLaws.{verdict_says}
 use Rattle.judging.specs.declared.heads.Head.{Head}
 use Rattle.judging.proofs.CallLoops.{entries_length, es}
@@ -14,37 +14,37 @@ pub cut_off-requires : goal.cut_off-requires
 cut_off-requires c =
     let a = c.args in
     narrow a.n a.w a.value.now a.log.now _ (ap number_told c.requires ∙ (verdict_says a.n a.w a.value.now a.log.now).checked)
-    (let x = c.number-number.ensures in let y = c.number.ensures in let z = c.if-number.false in omega (arith, x, y, z))
+    (let x = ap refusal_number c.in-ValueNotWWords.is in omega (arith, x))
 
 pub invariant_of-calls : goal.invariant_of-calls
 invariant_of-calls c =
     let a = c.args in
     record {
       narrow = narrow a.n a.w a.value.now a.log.now _ (ap number_told c.requires ∙ (verdict_says a.n a.w a.value.now a.log.now).checked)
-          (let x = c.number-number.ensures in let y = c.number.ensures in let z = c.if-number.false in omega (arith, x, y, z));
+          (let x = ap refusal_number c.in-NoSuchProcess.is in omega (arith, x));
     }
 
-pub returns-then-number-3 : goal.returns-then-number-3
-returns-then-number-3 c =
-    let a = c.args in
-    at_4 a.n a.w a.value.now a.log.now _ (ap number_told c.requires ∙ (verdict_says a.n a.w a.value.now a.log.now).checked)
-    (let x = c.number-number.ensures in let y = c.number-3.ensures in let z = c.if-number-3.true in omega (arith, x, y, z)) _
-    (c.unwrap_or.ensures
-    ∙ index_told _ (es a.w a.log.now) _ _ (c.first.ensures (λ (e : Head). leb a.n e.process) (λ e b p. search rules)) (c.len.ensures ∙ sym (entries_length a.w a.log.now)))
-
-pub invariant_of-calls-then-number-4 : goal.invariant_of-calls-then-number-4
-invariant_of-calls-then-number-4 c =
+pub invariant_of-calls-in-AnswerNotAfterStart : goal.invariant_of-calls-in-AnswerNotAfterStart
+invariant_of-calls-in-AnswerNotAfterStart c =
     let a = c.args in
     record {
       narrow = narrow a.n a.w a.value.now a.log.now _ (ap number_told c.requires ∙ (verdict_says a.n a.w a.value.now a.log.now).checked)
-          (let x = c.number-number.ensures in let y = c.number.ensures in let z = c.if-number.false in omega (arith, x, y, z));
+          (let x = ap refusal_number c.in-AnswerNotAfterStart.is in omega (arith, x));
     }
 
-pub returns-then-number-4 : goal.returns-then-number-4
-returns-then-number-4 c =
+pub returns-in-NoSuchProcess : goal.returns-in-NoSuchProcess
+returns-in-NoSuchProcess c =
+    let a = c.args in
+    at_4 a.n a.w a.value.now a.log.now _ (ap number_told c.requires ∙ (verdict_says a.n a.w a.value.now a.log.now).checked)
+    (ap refusal_number c.in-NoSuchProcess.is) _
+    (c.unwrap_or.ensures
+    ∙ index_told _ (es a.w a.log.now) _ _ (c.first-first.ensures (λ (e : Head). leb a.n e.process) (λ e b p. search rules)) (c.len.ensures ∙ sym (entries_length a.w a.log.now)))
+
+pub returns-in-AnswerNotAfterStart : goal.returns-in-AnswerNotAfterStart
+returns-in-AnswerNotAfterStart c =
     let a = c.args in
     at_17 a.n a.w a.value.now a.log.now _ (ap number_told c.requires ∙ (verdict_says a.n a.w a.value.now a.log.now).checked)
-    (let x = c.number-number.ensures in let y = c.number-4.ensures in let z = c.if-number-4.true in omega (arith, x, y, z)) _
-    (c.unwrap_or-then-number-4.ensures
-    ∙ index_told _ (es a.w a.log.now) _ _ (c.first-then-number-4.ensures (λ (e : Head). leb e.answer e.start) (λ e b p. search rules))
-    (c.len-then-number-4.ensures ∙ sym (entries_length a.w a.log.now)))
+    (ap refusal_number c.in-AnswerNotAfterStart.is) _
+    (c.unwrap_or-in-AnswerNotAfterStart.ensures
+    ∙ index_told _ (es a.w a.log.now) _ _ (c.first-first-in-AnswerNotAfterStart.ensures (λ (e : Head). leb e.answer e.start) (λ e b p. search rules))
+    (c.len-in-AnswerNotAfterStart.ensures ∙ sym (entries_length a.w a.log.now)))
