@@ -154,7 +154,7 @@ module _ {h : RunState} (b : Between h) (e : Entry) (small : Small e) where
 
 -- a list of one entry, as the code keeps it
 pub only_entry : {h h' : RunState} {at : ℕ} (word : ℕ) (e : Entry) → Between h → entry_in word ≡ kept_entry e
-    → Carries 16 (entries_in 1 (word ∷ [])) h h' at → Becomes 16 (carry e) h h'
+    → Carries 16 (entries_in (word ∷ [])) h h' at → Becomes 16 (carry e) h h'
 unfolding TR.carry_all
 only_entry {h} word e b w x = record {
   same = x.becomes.same ∙ ap (λ (y : Entry). carry_all (y ∷ []) (progress 16 h)) w ∙ kept_run figure2 far_refused (e ∷ []) (progress 16 h) b.none;

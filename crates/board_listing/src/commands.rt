@@ -41,5 +41,5 @@ pub fn obey(run: Run, e: Entry, words: &mut [u64], list: &mut [u8]) -> Carried<R
         (state_of result.run (number_told result.outcome) words.new list.new) }
 {
     let entries = [entry_words::word_of(e); 1];
-    carrying::carry_out(run, 16, &entries, 1, words, list)
+    carrying::carry_out(run, 16, &entries, words, list)
 }

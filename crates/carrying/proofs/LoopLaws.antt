@@ -5,12 +5,11 @@ use mathlib.Core.List.{List}
 use Prim.Native.Nat.{ℕ, ◌+◌, ◌-◌, ◌≤◌, ◌<◌}
 use native.Mathlib.Omega.{arith}
 use lib.Dec.{eqb, ltb}
-use lib.ListN.{length, get_or, set, take, length-map, length-take, get_or-map}
-use lib.Seq.{get_or-take}
+use lib.ListN.{length, get_or, set, take, length-map, get_or-map}
 use borrow.Author.Tests.{ltb-true}
 use Rattle.std.specs.Prelude.{Result, Ok, Err}
 use Rattle.llsc.specs.declared.refusals.Refusal.{Refusal}
-use Rattle.llsc.specs.Refusals.{refusal_number, number_told}
+use Rattle.llsc.specs.Refusals.{number_told}
 use Rattle.model.specs.declared.SequenceNumber.{SequenceNumber}
 use Rattle.llsc.specs.declared.ProcessNumber.{ProcessNumber}
 use Rattle.model.specs.declared.Bench.{Bench}
@@ -28,7 +27,6 @@ use Rattle.notation.specs.declared.Entry.{Entry}
 use Rattle.notation.specs.declared.Entry.TheVariants.{StartLl, StartVl, StartSc, Step, Finish}
 use Rattle.notation.specs.Grammar.{largest}
 use Rattle.notation.specs.EntryWords.{entry_in, entry_of_kind, kind_in, process_in, number_in}
-use Rattle.entry.specs.declared.state.Held.{Held}
 use Rattle.entry.specs.declared.state.Run.{Run}
 use Rattle.listing.specs.declared.Writer.{Writer}
 use Rattle.entry.specs.declared.turn.Turn.{Turn}
@@ -72,21 +70,13 @@ pub taken_at_lem : (b : Bench) {i : SequenceNumber} {j : ProcessNumber} {bank he
     → places ≡ record { x = b.x; bank = get_or b.bank bank no_bank; help = get_or b.help help no_help } → places ≡ taken_at b i j
 taken_at_lem b d f e = rw (d, f) at e
 
--- as many entries as numbers, one from each
-pub count_entries : (count : ℕ) (entries : List ℕ) → count ≤ length entries → length (entries_in count entries) ≡ count
-count_entries count entries l = length-map (take count entries) entry_in ∙ omega (arith, length-take count entries, l)
-
-entry_at : (count at : ℕ) (entries : List ℕ) → at < count → get_or (entries_in count entries) at (entry_in 0) ≡ entry_in (get_or entries at 0)
-entry_at count at entries t = get_or-map entry_in (take count entries) at 0 ∙ ap entry_in (get_or-take count entries at 0 t)
-
 -- a run that goes on, as the loop has it
 abbrev pub going_run : Bench → List Process → ℕ → ℕ → Bool → Run
 going_run b all written done traced = record { held = record { bench = b; all = all }; written = written; entries = done; traced = traced }
 
 -- at the head of the loop, after what h was before it
-pub record Head (count : ℕ) (entries : List ℕ) (len n w needed : ℕ) (h : RunState) (at : ℕ) (h₁ : RunState) : Type 0 where
-  pub fits : count ≤ length entries
-  pub carrying : Carrying len (entries_in count entries) h at h₁
+pub record Head (entries : List ℕ) (len n w needed : ℕ) (h : RunState) (at : ℕ) (h₁ : RunState) : Type 0 where
+  pub carrying : Carrying len (entries_in entries) h at h₁
   pub n_is : n ≡ h₁.run.held.bench.n
   pub w_is : w ≡ h₁.run.held.bench.w
   pub w_most : w ≤ 64
@@ -97,12 +87,11 @@ pub in_list : {len k : ℕ} {r : Run} {ws l l' : List ℕ} {es : List Entry} {h 
     → Carries len es h (state_of r k ws l) at → Carries len es h (state_of r k ws l') at
 in_list {len} {k} {r} {ws} {es = es} {h = h} {at = at} e x = subst (λ (y : List ℕ). Carries len es h (state_of r k ws y) at) (sym e) x
 
-pub first_head : {len count n w needed : ℕ} {entries : List ℕ} {r : Run} {ws list : List ℕ} → let h = state_of (going_run r.held.bench r.held.all r.written r.entries r.traced) 0 ws list in
-    count ≤ length entries → Sound len (state_of r 0 ws list) → n ≡ r.held.bench.n → w ≡ r.held.bench.w
-    → needed ≡ room_needed r.traced → Head count entries len n w needed h 0 h
-first_head {count = count} {entries = entries} l s en ew er = record {
-  fits = l;
-  carrying = carrying_none (entries_in count entries) s refl;
+pub first_head : {len n w needed : ℕ} {entries : List ℕ} {r : Run} {ws list : List ℕ} → let h = state_of (going_run r.held.bench r.held.all r.written r.entries r.traced) 0 ws list in
+    Sound len (state_of r 0 ws list) → n ≡ r.held.bench.n → w ≡ r.held.bench.w
+    → needed ≡ room_needed r.traced → Head entries len n w needed h 0 h
+first_head {entries = entries} s en ew er = record {
+  carrying = carrying_none (entries_in entries) s refl;
   n_is = en;
   w_is = ew;
   w_most = omega (arith, ew, (s.going refl).width);
@@ -110,54 +99,54 @@ first_head {count = count} {entries = entries} l s en ew er = record {
 }
 
 -- behind the last entry
-pub head_all : {len count n w needed at : ℕ} {entries : List ℕ} {h h₁ : RunState} → Head count entries len n w needed h at h₁ → count ≤ at → Carries len (entries_in count entries) h h₁ at
-head_all {count = count} {entries = entries} x l = carrying_all x.carrying (omega (arith, l, count_entries count entries x.fits))
+pub head_all : {len n w needed at : ℕ} {entries : List ℕ} {h h₁ : RunState} → Head entries len n w needed h at h₁ → length entries ≤ at → Carries len (entries_in entries) h h₁ at
+head_all {entries = entries} x l = carrying_all x.carrying (omega (arith, l, length-map entries entry_in))
 
 -- with an entry to carry out: what the code has in its hands
-pub record Looking (count : ℕ) (entries : List ℕ) (len n w needed : ℕ) (h : RunState) (at : ℕ) (h₁ : RunState) (e : Entry) (p : ℕ) (k : ProcessNumber) (q : Process) (o : Order) : Type 0 where
-  pub head : Head count entries len n w needed h at h₁
-  pub more : at < count
+pub record Looking (entries : List ℕ) (len n w needed : ℕ) (h : RunState) (at : ℕ) (h₁ : RunState) (e : Entry) (p : ℕ) (k : ProcessNumber) (q : Process) (o : Order) : Type 0 where
+  pub head : Head entries len n w needed h at h₁
+  pub more : at < length entries
   pub entry_is : e ≡ entry_in (get_or entries at 0)
   pub process_is : p ≡ process_of e
   pub number_is : k ≡ record { 0 = place_of p }
   pub record_is : q ≡ get_or h₁.run.held.all k.0 no_process
   pub order_is : o ≡ order_of e
 
-pub looking : {count : ℕ} {entries : List ℕ} {len n w needed at p place : ℕ} {k : ProcessNumber} {h h₁ : RunState} {e : Entry} {o : Order}
-    → Head count entries len n w needed h at h₁ → at < count → e ≡ entry_in (get_or entries at 0) → p ≡ process_of e → k ≡ record { 0 = place_of p } → place ≡ k.0
-    → o ≡ order_of e → Looking count entries len n w needed h at h₁ e p k (get_or h₁.run.held.all place no_process) o
+pub looking : {entries : List ℕ} {len n w needed at p place : ℕ} {k : ProcessNumber} {h h₁ : RunState} {e : Entry} {o : Order}
+    → Head entries len n w needed h at h₁ → at < length entries → e ≡ entry_in (get_or entries at 0) → p ≡ process_of e → k ≡ record { 0 = place_of p } → place ≡ k.0
+    → o ≡ order_of e → Looking entries len n w needed h at h₁ e p k (get_or h₁.run.held.all place no_process) o
 looking {h₁ = h₁} x m a b c d o =
     record { head = x; more = m; entry_is = a; process_is = b; number_is = c; record_is = ap (λ (i : ℕ). get_or h₁.run.held.all i no_process) d; order_is = o }
 
-module _ {count : ℕ} {entries : List ℕ} {len n w needed at p : ℕ} {k : ProcessNumber} {h h₁ : RunState} {e : Entry} {q : Process} {o : Order}
-    (x : Looking count entries len n w needed h at h₁ e p k q o) where
+module _ {entries : List ℕ} {len n w needed at p : ℕ} {k : ProcessNumber} {h h₁ : RunState} {e : Entry} {q : Process} {o : Order}
+    (x : Looking entries len n w needed h at h₁ e p k q o) where
   abbrev b : Bench
   b = h₁.run.held.bench
 
   abbrev list : List Process
   list = h₁.run.held.all
 
-  abbrev c : Carrying len (entries_in count entries) h at h₁
+  abbrev c : Carrying len (entries_in entries) h at h₁
   c = x.head.carrying
 
   abbrev s : Sound len h₁
   s = c.kept.sound
 
   abbrev es : List Entry
-  es = entries_in count entries
+  es = entries_in entries
 
   abbrev own : Process
   own = record_at list (record { 0 = process_of e })
 
   inside : at < length es
-  inside = omega (arith, x.more, count_entries count entries x.head.fits)
+  inside = omega (arith, x.more, length-map entries entry_in)
 
   small : Small e
   small = subst Small (sym x.entry_is) (kept_small (get_or entries at 0))
 
   -- what the entry does, done to the one in the list
   this : {h' : RunState} → Becomes len (single e) h₁ h' → Becomes len (single (get_or es at (entry_in 0))) h₁ h'
-  this {h'} y = subst (λ (d : Entry). Becomes len (single d) h₁ h') (x.entry_is ∙ sym (entry_at count at entries x.more)) y
+  this {h'} y = subst (λ (d : Entry). Becomes len (single d) h₁ h') (x.entry_is ∙ sym (get_or-map entry_in entries at 0)) y
 
   abbrev refusal : ℕ
   refusal = refusal_of o h₁.run.entries (length h₁.listing - h₁.run.written) needed n p q
@@ -235,7 +224,7 @@ module _ {count : ℕ} {entries : List ℕ} {len n w needed at p : ℕ} {k : Pro
           made = this (entry_made e small s c.goes x.head.needed_is free at_bank at_help et g.0 g.1 turn_own)
 
           here : process_of (get_or es at (entry_in 0)) ≡ process_of e
-          here = ap process_of (entry_at count at entries x.more ∙ sym x.entry_is)
+          here = ap process_of (get_or-map entry_in entries at 0 ∙ sym x.entry_is)
 
           line : (record_at (take len (set list (process_of e) r.process)) (record { 0 = process_of (get_or es at (entry_in 0)) })).line ≡ r.process.line
           line =
@@ -243,12 +232,11 @@ module _ {count : ℕ} {entries : List ℕ} {len n w needed at p : ℕ} {k : Pro
               ∙ own_line e small s c.goes x.head.needed_is free at_bank at_help et g.0 g.1 turn_own
 
           same_stay : stays_at (get_or es at (entry_in 0)) r.process.line ≡ stays_at e r.process.line
-          same_stay = ap (λ (d : Entry). stays_at d r.process.line) (entry_at count at entries x.more ∙ sym x.entry_is)
+          same_stay = ap (λ (d : Entry). stays_at d r.process.line) (get_or-map entry_in entries at 0 ∙ sym x.entry_is)
 
-          headed : {at' : ℕ} → Carrying len es h at' (after_at (process_of e)) → Head count entries len n w needed h at' (after_at k.0)
-          headed {at'} y = stored (λ d. Head count entries len n w needed h at' d)
+          headed : {at' : ℕ} → Carrying len es h at' (after_at (process_of e)) → Head entries len n w needed h at' (after_at k.0)
+          headed {at'} y = stored (λ d. Head entries len n w needed h at' d)
               (record {
-                fits = x.head.fits;
                 carrying = y;
                 n_is = x.head.n_is;
                 w_is = x.head.w_is;
@@ -256,8 +244,8 @@ module _ {count : ℕ} {entries : List ℕ} {len n w needed at p : ℕ} {k : Pro
                 needed_is = x.head.needed_is;
               })
 
-          pub loop_over : stays_at e r.process.line ≡ false → Head count entries len n w needed h (at + 1) (after_at k.0)
+          pub loop_over : stays_at e r.process.line ≡ false → Head entries len n w needed h (at + 1) (after_at k.0)
           loop_over y = headed (goes_over c inside (entry_in 0) made refl line (same_stay ∙ y))
 
-          pub loop_further : stays_at e r.process.line ≡ true → Head count entries len n w needed h at (after_at k.0)
+          pub loop_further : stays_at e r.process.line ≡ true → Head entries len n w needed h at (after_at k.0)
           loop_further y = headed (goes_further c inside (entry_in 0) made refl line (same_stay ∙ y))

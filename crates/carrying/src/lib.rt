@@ -2,7 +2,6 @@
 
 #![tactic(auto)]
 
-ghost use Rattle.std.specs.Prelude.{◌≤◌, length};
 ghost use Rattle.llsc.specs.Refusals.{number_told};
 ghost use Rattle.entry.specs.RunState.{state_of, Sound};
 ghost use Rattle.text_runs.specs.KeptEntries.{entries_in};
@@ -21,12 +20,11 @@ pub fn carry_out(
     run: Run,
     len: usize,
     entries: &[u64],
-    count: usize,
     words: &mut [u64],
     list: &mut [u8],
 ) -> Carried<Run>
-    requires { (count ≤ length entries.now) × (Sound len (state_of run 0 words.old list.old)) }
-    ensures { Carries len (entries_in count entries.now) (state_of run 0 words.old list.old)
+    requires { Sound len (state_of run 0 words.old list.old) }
+    ensures { Carries len (entries_in entries.now) (state_of run 0 words.old list.old)
         (state_of result.run (number_told result.outcome) words.new list.new) result.at }
 {
     let n = run.held.bench.n;
@@ -44,7 +42,7 @@ pub fn carry_out(
     let mut outcome = Ok(());
     let mut at = 0;
     // Kept: a `!` stays at its place, so that the place does not rise with each turn of the loop.
-    while at < count {
+    while at < entries.len() {
         let e = entry_words::entry_in(entries[at]);
         let p = text_entries::process_of(e);
         let k = entries::process_number(p);

@@ -4,8 +4,7 @@ use mathlib.Core.Bool.{true, false}
 use mathlib.Core.List.{List}
 use Prim.Native.Nat.{ℕ, ◌+◌, ◌≤◌, ◌<◌}
 use native.Mathlib.Omega.{arith}
-use lib.ListN.{length, get_or, take, length-map, length-take, get_or-map}
-use lib.Seq.{get_or-take}
+use lib.ListN.{length, get_or, length-map, get_or-map}
 use Rattle.notation.specs.declared.Entry.{Entry}
 use Rattle.notation.specs.EntryWords.{entry_in}
 use Rattle.text_runs.specs.TextRun.{most_entries, single}
@@ -18,27 +17,19 @@ use Rattle.moir_run.specs.Turned.{stays_in}
 use Rattle.moir_run.proofs.EntryLaws.{kept_as, goes_stays}
 use Rattle.moir_run.proofs.TurnLaws.{sound_single, single_words, single_listing}
 
--- as many entries as numbers, one from each
-count_entries : (count : ℕ) (kept : List ℕ) → count ≤ length kept → length (entries_in count kept) ≡ count
-count_entries count kept l = length-map (take count kept) entry_in ∙ omega (arith, length-take count kept, l)
-
-entry_at : (count at : ℕ) (kept : List ℕ) → at < count → get_or (entries_in count kept) at (entry_in 0) ≡ entry_in (get_or kept at 0)
-entry_at count at kept t = get_or-map entry_in (take count kept) at 0 ∙ ap entry_in (get_or-take count kept at 0 t)
-
 -- at the head of the loop
-pub record Turning (kept : List ℕ) (count : ℕ) (first : Progress) (at : ℕ) (s : Progress) : Type 0 where
-  pub fits : count ≤ length kept
-  pub middle : Middle figure6 (entries_in count kept) first at s
+pub record Turning (kept : List ℕ) (first : Progress) (at : ℕ) (s : Progress) : Type 0 where
+  pub middle : Middle figure6 (entries_in kept) first at s
   pub sound : Sound s
   pub goes : s.stop ≡ 0
   pub words : length s.memory.words ≡ length first.memory.words
   pub listing : length s.listing ≡ length first.listing
 
 -- behind the last entry
-pub turning_all : {kept : List ℕ} {count at : ℕ} {first s : Progress} → Turning kept count first at s → count ≤ at → Over figure6 (entries_in count kept) first at s
-turning_all {kept} {count} t l = middle_all figure6 t.middle (omega (arith, count_entries count kept t.fits, l))
+pub turning_all : {kept : List ℕ} {at : ℕ} {first s : Progress} → Turning kept first at s → length kept ≤ at → Over figure6 (entries_in kept) first at s
+turning_all {kept} t l = middle_all figure6 t.middle (omega (arith, length-map kept entry_in, l))
 
-module _ {kept : List ℕ} {count at : ℕ} {first s : Progress} (t : Turning kept count first at s) (more : at < count) {e : Entry} (ee : e ≡ entry_in (get_or kept at 0))
+module _ {kept : List ℕ} {at : ℕ} {first s : Progress} (t : Turning kept first at s) (more : at < length kept) {e : Entry} (ee : e ≡ entry_in (get_or kept at 0))
     {s' : Progress} (es : s' ≡ single figure6 e s) where
   pub turn_sound : Sound s'
   turn_sound = subst Sound (sym es) (sound_single e t.sound t.goes (kept_as e (get_or kept at 0) ee))
@@ -56,24 +47,23 @@ module _ {kept : List ℕ} {count at : ℕ} {first s : Progress} (t : Turning ke
       let one : s'.entries ≡ s.entries + 1 = ap (λ (x : Progress). x.entries) (es ∙ made.is) in
       (omega (arith, one), omega (arith, one, made.fewer))
 
-  here : e ≡ get_or (entries_in count kept) at (entry_in 0)
-  here = ee ∙ sym (entry_at count at kept more)
+  here : e ≡ get_or (entries_in kept) at (entry_in 0)
+  here = ee ∙ sym (get_or-map entry_in kept at 0)
 
-  inside : at < length (entries_in count kept)
-  inside = omega (arith, count_entries count kept t.fits, more)
+  inside : at < length (entries_in kept)
+  inside = omega (arith, length-map kept entry_in, more)
 
-  is_single : s' ≡ single figure6 (get_or (entries_in count kept) at (entry_in 0)) s
+  is_single : s' ≡ single figure6 (get_or (entries_in kept) at (entry_in 0)) s
   is_single = es ∙ ap (λ (x : Entry). single figure6 x s) here
 
-  goes_on : s'.stop ≡ 0 → gone_on figure6 (get_or (entries_in count kept) at (entry_in 0)) s' ≡ stays_in e s'.memory.records
+  goes_on : s'.stop ≡ 0 → gone_on figure6 (get_or (entries_in kept) at (entry_in 0)) s' ≡ stays_in e s'.memory.records
   goes_on z = ap (λ (x : Entry). gone_on figure6 x s') (sym here) ∙ goes_stays e s' z
 
-  pub turn_ends : (s'.stop ≡ 0 → ⊥) → Over figure6 (entries_in count kept) first at s'
+  pub turn_ends : (s'.stop ≡ 0 → ⊥) → Over figure6 (entries_in kept) first at s'
   turn_ends n = middle_refused figure6 t.middle t.goes inside (entry_in 0) is_single n
 
-  pub turn_over : s'.stop ≡ 0 → stays_in e s'.memory.records ≡ false → Turning kept count first (at + 1) s'
+  pub turn_over : s'.stop ≡ 0 → stays_in e s'.memory.records ≡ false → Turning kept first (at + 1) s'
   turn_over z q = record {
-    fits = t.fits;
     middle = middle_over figure6 t.middle t.goes inside (entry_in 0) is_single z (goes_on z ∙ q);
     sound = turn_sound;
     goes = z;
@@ -81,9 +71,8 @@ module _ {kept : List ℕ} {count at : ℕ} {first s : Progress} (t : Turning ke
     listing = turn_listing;
   }
 
-  pub turn_further : s'.stop ≡ 0 → stays_in e s'.memory.records ≡ true → Turning kept count first at s'
+  pub turn_further : s'.stop ≡ 0 → stays_in e s'.memory.records ≡ true → Turning kept first at s'
   turn_further z q = record {
-    fits = t.fits;
     middle = middle_further figure6 t.middle t.goes inside (entry_in 0) is_single (goes_on z ∙ q);
     sound = turn_sound;
     goes = z;

@@ -12,7 +12,7 @@ use Rattle.notation.specs.Grammar.{largest}
 use Rattle.positions.specs.declared.StopReport.{StopReport}
 use Rattle.positions.specs.declared.StopReport.TheVariants.{NotRead}
 use Rattle.text_runs.specs.TextRun.{room_needed, carry_all, begun, ended}
-use Rattle.text_runs.specs.StopPlaces.{at_no_item, item_report, StopsAt}
+use Rattle.text_runs.specs.StopPlaces.{at_no_item, item_report}
 use Rattle.text_runs.specs.KeptEntries.{entries_in, refused_with, started_with, report_with}
 use Rattle.text_runs.proofs.MiddleLaws.{Over}
 use Rattle.text_runs.proofs.TextLaws.{not_begun, is_begun, run_14}
@@ -179,10 +179,10 @@ module _ (t : Bool) (n w v : ℕ) (list : List ℕ) where
 
 -- the entries carried out, with the last line
 pub carried_closed : (t : Bool) (n w v : ℕ) (list ps : List ℕ) → 0 ≡ set_up_number n w 16 3136 w
-    → {kept ws ws' l l' : List ℕ} {to to' : Writer} {count : ℕ} {run : Run} {out : Carried Run} {report : StopReport} {fin : Finished (List Process)}
-    → Carries kept count run ws to out ws' to' → progress run 0 ws to ≡ first_state t n w v list
+    → {kept ws ws' l l' : List ℕ} {to to' : Writer} {run : Run} {out : Carried Run} {report : StopReport} {fin : Finished (List Process)}
+    → Carries kept run ws to out ws' to' → progress run 0 ws to ≡ first_state t n w v list
     → ◌≡◌ {A = Finished (List Process) × List ℕ} (fin, l) (closed out.run.all out.run.entries out.outcome report to') → l' ≡ l
-    → returned fin l' ≡ seen (started_with figure6 t n w v (entries_in count kept) at_start list)
-carried_closed t n w v list ps e {kept = kept} {ws' = ws'} {to' = to'} {count = count} {out = out} {fin = fin} x q c el =
+    → returned fin l' ≡ seen (started_with figure6 t n w v (entries_in kept) at_start list)
+carried_closed t n w v list ps e {kept = kept} {ws' = ws'} {to' = to'} {out = out} {fin = fin} x q c el =
     ap (returned fin) el ∙ closed_seen out.run out.outcome ws' to' c
-    ∙ carried_start t n w v list (entries_in count kept) ps e refl q x.over
+    ∙ carried_start t n w v list (entries_in kept) ps e refl q x.over

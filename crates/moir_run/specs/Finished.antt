@@ -1,6 +1,6 @@
 -- The whole text run on Moir's bench as the code holds it: what its parts are given and what they answer.
 -- Inner: `StartLaws`, and `TextLaws` and `StopLaws` of `text_runs`, put the parts together to `TextRan`.
-use Rattle.std.specs.Prelude.{◌≡◌, Bool, false, ℕ, ◌+◌, ◌≤◌, List, length, replicate}
+use Rattle.std.specs.Prelude.{◌≡◌, Bool, false, ℕ, ◌≤◌, List, length, replicate}
 use Rattle.notation.specs.EntryWords.{largest_place}
 use Rattle.notation.specs.declared.First.{First}
 use Rattle.notation.specs.Readers as R
@@ -20,8 +20,8 @@ abbrev pub fresh_run : Bench → Bool → Run
 fresh_run b t = record { bench = b; all = replicate 16 no_process; entries = 0; traced = t }
 
 -- the list of entries carried out, up to its end or to the entry at `at` that is refused
-pub record Carries (kept : List ℕ) (count : ℕ) (r : Run) (words : List ℕ) (to : Writer) (out : Carried Run) (words' : List ℕ) (to' : Writer) : Type 0 where
-  pub over : Over figure6 (entries_in count kept) (progress r 0 words to) out.at (progress out.run (number_told out.outcome) words' to')
+pub record Carries (kept : List ℕ) (r : Run) (words : List ℕ) (to : Writer) (out : Carried Run) (words' : List ℕ) (to' : Writer) : Type 0 where
+  pub over : Over figure6 (entries_in kept) (progress r 0 words to) out.at (progress out.run (number_told out.outcome) words' to')
   pub sound : Sound (progress out.run (number_told out.outcome) words' to')
   pub same : to'.list.ghost_name ≡ to.list.ghost_name
 

@@ -1,5 +1,4 @@
 // The one loop of a run: the list of a text's entries carried out on the bench that it holds.
-ghost use Rattle.std.specs.Prelude.{◌≤◌, length};
 ghost use Rattle.moir_run.specs.RunState.{progress, Sound};
 ghost use Rattle.moir_run.specs.Finished.{Carries};
 
@@ -10,20 +9,14 @@ use notation::entry_words;
 use text_runs::runs::Carried;
 
 // An entry that is refused stops the run; `!` stays at its place in the list until its call answers.
-pub fn carry_out(
-    run: Run,
-    kept: &[u64],
-    count: usize,
-    words: &mut [u64],
-    to: &mut Writer<'_>,
-) -> Carried<Run>
-    requires { (count ≤ length kept.now) × (Sound (progress run 0 words.old to.old)) }
-    ensures { Carries kept.now count run words.old to.old result words.new to.new }
+pub fn carry_out(run: Run, kept: &[u64], words: &mut [u64], to: &mut Writer<'_>) -> Carried<Run>
+    requires { Sound (progress run 0 words.old to.old) }
+    ensures { Carries kept.now run words.old to.old result words.new to.new }
 {
     let mut now = run;
     let mut at = 0;
     // Kept: a while, since `!` takes several turns at one place of the list.
-    while at < count {
+    while at < kept.len() {
         let e = entry_words::entry_in(kept[at]);
         match turns::turn(now, e, to, words) {
             Ok(next) => now = next,

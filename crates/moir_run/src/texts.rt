@@ -1,6 +1,6 @@
 // A whole text: "A text run takes 14 at its start, then 12 for length, then 10 and 11 over the whole text, then 1, 2, 3, then
 // the set-up, then the entries".
-ghost use Rattle.std.specs.Prelude.{◌≡◌, ◌≤◌, length, replicate};
+ghost use Rattle.std.specs.Prelude.{◌≡◌, ◌≤◌, replicate};
 ghost use Rattle.llsc.specs.Refusals.{refusal_number};
 ghost use Rattle.notation.specs.Grammar.{largest};
 ghost use Rattle.text_runs.specs.StopPlaces.{StopInText};
@@ -52,18 +52,12 @@ fn no_words() -> [u64; 3136]
     [0; 3136]
 }
 
-// "then 1, 2, 3, then the set-up, then the entries": those of the list, up to `count`. The records are at their set-up from
-// the start.
-fn started(
-    traced: bool,
-    first: First,
-    kept: &[u64],
-    count: usize,
-    list: &mut [u8],
-) -> Finished<[Process; 16]>
-    requires { (Roomy list.old) × (first.initial ≤ largest) × (count ≤ length kept.now) }
-    ensures { (returned result list.new ≡ seen (started_with figure6 traced first.n first.w first.initial (entries_in count kept.now) at_start list.old)) ×
-        (result.report ≡ report_with figure6 traced first.n first.w first.initial (entries_in count kept.now) (places_in count kept.now) at_start list.old) }
+// "then 1, 2, 3, then the set-up, then the entries": those of the list. The records are at their set-up from the
+// start.
+fn started(traced: bool, first: First, kept: &[u64], list: &mut [u8]) -> Finished<[Process; 16]>
+    requires { (Roomy list.old) × (first.initial ≤ largest) }
+    ensures { (returned result list.new ≡ seen (started_with figure6 traced first.n first.w first.initial (entries_in kept.now) at_start list.old)) ×
+        (result.report ≡ report_with figure6 traced first.n first.w first.initial (entries_in kept.now) (places_in kept.now) at_start list.old) }
 {
     let n = first.n as usize;
     let w = first.w as usize;
@@ -82,7 +76,7 @@ fn started(
             let bench = setting_up::bench_at_set_up(moir_model::empty_bench(), n, w);
             let run = fresh(bench, traced);
             let mut to = Writer { list, written: 0 };
-            let carried = entry_loop::carry_out(run, kept, count, &mut words, &mut to);
+            let carried = entry_loop::carry_out(run, kept, &mut words, &mut to);
             let outcome = carried.outcome;
             let report = reports::stop_report(first.n, first.w, outcome, kept, carried.at);
             let run = carried.run;
@@ -103,7 +97,7 @@ fn checked(traced: bool, first: First, text: &[u8], list: &mut [u8]) -> Finished
         Ok(Items::Closed(next, _)) => {
             refused(Refusal::TextBroken, StopReport::AtFault(next - 1), list)
         },
-        Ok(Items::Ended(count)) => started(traced, first, &kept, count, list),
+        Ok(Items::Ended(count)) => started(traced, first, &kept[..count], list),
     }
 }
 

@@ -6,7 +6,6 @@ use Prim.Native.Nat.{ℕ, ◌+◌, ◌≤◌}
 use native.Mathlib.Omega.{arith}
 use lib.ListN.{length, take, replicate}
 use lib.Seq.{sets}
-use Rattle.model.specs.declared.Bench.{Bench}
 use Rattle.model.specs.declared.Process.{Process}
 use Rattle.model.specs.Records.{no_process}
 use Rattle.model.specs.Machine.{Memory}
@@ -68,7 +67,7 @@ answers_as x e = record { same = x.same ∙ e; filled = x.filled }
 module _ (t : Bool) (s : List ℕ) (f : First) (m : Memory) (list : List ℕ) where
   pub kept_says : {list₀ entries : List ℕ} {to : ℕ} {Q : List ℕ → Type 0} → length list₀ ≡ 60001
       → Keeps s list₀ entries 0 to (λ es. ItemsEnded s f.items deepest es) Q
-      → started_with t f (entries_in to entries) m list ≡ says_after t s f m list
+      → started_with t f (entries_in (take to entries)) m list ≡ says_after t s f m list
   kept_says l k = T.kept_says figure2 t s f.n f.w f.initial f.items m list far_refused l k
 
 -- what the entries leave

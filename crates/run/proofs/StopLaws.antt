@@ -31,16 +31,16 @@ use Rattle.run.proofs.StartLaws.{set_up_same, first, begun_same}
 use Rattle.text_runs.proofs.TextLaws.{not_begun, is_begun}
 
 -- what the loop leaves
-module _ {len count at : ℕ} (entries : List ℕ) {h h' : RunState} (fits : count ≤ length entries) (z : h.stop ≡ 0) (x : Carries len (entries_in count entries) h h' at) where
-  abbrev over : Over figure2 (entries_in count entries) (progress len h) at (progress len h')
+module _ {len at : ℕ} (entries : List ℕ) {h h' : RunState} (x : Carries len (entries_in entries) h h' at) where
+  abbrev over : Over figure2 (entries_in entries) (progress len h) at (progress len h')
   over = record { same = x.becomes.same; index = x.index }
 
-  pub stop_within : (h'.stop ≡ 0 → ⊥) → at < length entries
-  stop_within n = S.stop_within figure2 entries fits z over n
+  pub stop_within : h.stop ≡ 0 → (h'.stop ≡ 0 → ⊥) → at < length entries
+  stop_within z n = S.stop_within figure2 entries over z n
 
   pub item_read : (n w : ℕ) → cond (eqb h'.stop 0) (at_no_item n w) (word_report n w (get_or entries at 0))
-      ≡ item_report n w (entries_in count entries) (places_in count entries) (progress len h)
-  item_read n w = S.item_read figure2 entries fits z over n w
+      ≡ item_report n w (entries_in entries) (places_in entries) (progress len h)
+  item_read n w = S.item_read figure2 entries over n w
 
 -- "then 1, 2, 3, then the set-up, then the entries"
 module _ {len : ℕ} {list : List ℕ} (t : Bool) (f : First) (es : List Entry) (ps : List ℕ) (held : Held) (ws : List ℕ) (x : Lending len held.all list)

@@ -1,6 +1,6 @@
 // A whole text run (01, "When the bench says no"): "A text run takes 14 at its start, then 12 for length, then 10 and
 // 11 over the whole text, then 1, 2, 3, then the set-up, then the entries".
-ghost use Rattle.std.specs.Prelude.{◌≡◌, true, false, ◌≤◌, length, take};
+ghost use Rattle.std.specs.Prelude.{◌≡◌, true, false, ◌≤◌, take};
 ghost use Rattle.llsc.specs.Refusals.{refusal_number};
 ghost use Rattle.model.specs.Records.{no_process};
 ghost use Rattle.lent.specs.Gathered.{gathered};
@@ -37,8 +37,8 @@ fn refused(
     runs::ended(held, 0, Err(cause), report, &mut to)
 }
 
-// "then 1, 2, 3, then the set-up, then the entries": those of the list, up to `count`. The value is looked at only
-// where W is in its range.
+// "then 1, 2, 3, then the set-up, then the entries": those of the list. The value is looked at only where
+// W is in its range.
 // Kept: the run takes `held` and `traced` with it, and not `len`, so that a struct of the three would be taken apart here.
 fn started(
     held: Held,
@@ -46,14 +46,13 @@ fn started(
     traced: bool,
     first: First,
     entries: &[u64],
-    count: usize,
     words: &mut [u64],
     list: &mut [u8],
 ) -> Finished<Held>
-    requires { (Lending len held.all list.old) × (first.initial ≤ largest) × (count ≤ length entries.now) }
+    requires { (Lending len held.all list.old) × (first.initial ≤ largest) }
     ensures { Answers len result words.new list.new
-        (started_with traced first (entries_in count entries.now) (memory_of held len words.old) list.old) ×
-        (result.report ≡ report_with traced first (entries_in count entries.now) (places_in count entries.now)
+        (started_with traced first (entries_in entries.now) (memory_of held len words.old) list.old) ×
+        (result.report ≡ report_with traced first (entries_in entries.now) (places_in entries.now)
         (memory_of held len words.old) list.old) }
 {
     let n = first.n as usize;
@@ -70,7 +69,7 @@ fn started(
     let bench = setup::bench_at_set_up(held.bench, n, w);
     let all = set_up::records_at_set_up(held.all, n);
     let run = Run::fresh(Held { bench, all }, traced);
-    let carried = carrying::carry_out(run, len, entries, count, words, list);
+    let carried = carrying::carry_out(run, len, entries, words, list);
     let outcome = carried.outcome;
     let report = reports::stop_report(first.n, first.w, outcome, entries, carried.at);
     let run = carried.run;
@@ -106,7 +105,7 @@ fn checked(
         }
     };
     match read {
-        Items::Ended(count) => started(held, len, traced, first, &kept, count, words, list),
+        Items::Ended(count) => started(held, len, traced, first, &kept[..count], words, list),
         Items::Closed(next, _) => {
             let report = StopReport::AtFault(next - 1);
             refused(held, len, Refusal::TextBroken, report, words, list)

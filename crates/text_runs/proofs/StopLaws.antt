@@ -68,13 +68,12 @@ kept_entry_lem n w es ps i small =
     ∙ ap (λ (p : ℕ). AtItem (sizes n w) (record { place = get_or ps i 0; process = p })) process
 
 -- the word of an entry has the place of its item, and its process
-word_at : (n w count at : ℕ) (entries : List ℕ) → at < count → at_entry n w (entries_in count entries) (places_in count entries) at ≡ word_report n w (get_or entries at 0)
+word_at : (n w at : ℕ) (entries : List ℕ) → at_entry n w (entries_in entries) (places_in entries) at ≡ word_report n w (get_or entries at 0)
 unfolding entry_in
-word_at n w count at entries l =
-    let word : get_or (take count entries) at 0 ≡ get_or entries at 0 = get_or-take count entries at 0 l in
-    let place : get_or (places_in count entries) at 0 ≡ place_in (get_or entries at 0) = get_or-map place_in (take count entries) at 0 ∙ ap place_in word in
-    let entry : get_or (entries_in count entries) at (StartLl 0) ≡ entry_in (get_or entries at 0) = get_or-map entry_in (take count entries) at 0 ∙ ap entry_in word in
-    ap (λ (j : ℕ). AtItem (sizes n w) (record { place = j; process = process_at (entries_in count entries) at })) place
+word_at n w at entries =
+    let place : get_or (places_in entries) at 0 ≡ place_in (get_or entries at 0) = get_or-map place_in entries at 0 in
+    let entry : get_or (entries_in entries) at (StartLl 0) ≡ entry_in (get_or entries at 0) = get_or-map entry_in entries at 0 in
+    ap (λ (j : ℕ). AtItem (sizes n w) (record { place = j; process = process_at (entries_in entries) at })) place
     ∙ ap (λ (e : Entry). AtItem (sizes n w) (record { place = place_in (get_or entries at 0); process = reported_process (process_of e) })) entry
 
 module _ (M : Machine) where
@@ -89,27 +88,21 @@ module _ (M : Machine) where
       pick false f = omega arith
 
   -- what the list of a text's entries leaves
-  module _ {count at : ℕ} (entries : List ℕ) {s s' : Progress M} (fits : count ≤ length entries) (z : s.stop ≡ 0) (x : Over M (entries_in count entries) s at s') where
-    abbrev stop_is : s'.stop ≡ (carry_all M (entries_in count entries) s).stop
+  module _ {at : ℕ} (entries : List ℕ) {s s' : Progress M} (x : Over M (entries_in entries) s at s') where
+    abbrev stop_is : s'.stop ≡ (carry_all M (entries_in entries) s).stop
     stop_is = ap (λ (y : Progress M). y.stop) x.same
 
-    count_entries : length (entries_in count entries) ≡ count
-    count_entries = length-map (take count entries) entry_in ∙ omega (arith, length-take count entries, fits)
-
-    in_list : (s'.stop ≡ 0 → ⊥) → at < count
-    in_list n =
-        let inside = stop_inside (entries_in count entries) s z (λ y. n (stop_is ∙ y)) in
-        omega (arith, inside, x.index, count_entries)
-
-    pub stop_within : (s'.stop ≡ 0 → ⊥) → at < length entries
-    stop_within n = omega (arith, in_list n, fits)
+    pub stop_within : s.stop ≡ 0 → (s'.stop ≡ 0 → ⊥) → at < length entries
+    stop_within z n =
+        let inside = stop_inside (entries_in entries) s z (λ y. n (stop_is ∙ y)) in
+        omega (arith, inside, x.index, length-map entries entry_in)
 
     pub item_read : (n w : ℕ) → cond (eqb s'.stop 0) (at_no_item n w) (word_report n w (get_or entries at 0))
-        ≡ item_report M n w (entries_in count entries) (places_in count entries) s
+        ≡ item_report M n w (entries_in entries) (places_in entries) s
     item_read n w =
-        let report : ℕ → StopReport = at_entry n w (entries_in count entries) (places_in count entries) in
-        same_item s'.stop n w (λ z. sym (word_at n w count at entries (in_list z)) ∙ ap report x.index)
-        ∙ ap (λ (k : ℕ). cond (eqb k 0) (at_no_item n w) (report (stop_index M (entries_in count entries) s))) stop_is
+        let report : ℕ → StopReport = at_entry n w (entries_in entries) (places_in entries) in
+        same_item s'.stop n w (λ z. sym (word_at n w at entries) ∙ ap report x.index)
+        ∙ ap (λ (k : ℕ). cond (eqb k 0) (at_no_item n w) (report (stop_index M (entries_in entries) s))) stop_is
 
   -- a text with a fault, wherever the reader says that it stands
   module _ {t : Bool} {m : M.Memory} {s list : List ℕ} where
@@ -162,18 +155,18 @@ module _ (M : Machine) where
       right_text = let told = read_is_right s _ (text_ended h k.read) in record { tree = told.tree; text = told.text }
 
       kept_report : (x : Text deepest) → bytes x ≡ s → let a = says x in
-          report_with M t n w v (entries_in to entries) (places_in to entries) m list ≡ started_report M t list a (places x) (M.set_up m a.n a.w (replicate a.w a.initial))
+          report_with M t n w v (entries_in (take to entries)) (places_in (take to entries)) m list ≡ started_report M t list a (places x) (M.set_up m a.n a.w (replicate a.w a.initial))
       kept_report x is =
           let es : List Entry = (says x).entries in
           let kept : List Entry = map kept_entry (take 60001 es) in
           let here : ℕ × M.Memory = M.set_up m n w (replicate w v) in
-          let entries_are : entries_in to entries ≡ kept = words_say x is h k ∙ ap (λ (j : ℕ). map kept_entry (take j es)) l in
-          let places_are : places_in to entries ≡ take 60001 (places x) = words_stand x is h k ∙ ap (λ (j : ℕ). take j (places x)) l in
-          ap (λ (y : List Entry). started_report M t list (said_with n w v y) (places_in to entries) here) entries_are
+          let entries_are : entries_in (take to entries) ≡ kept = words_say x is h k ∙ ap (λ (j : ℕ). map kept_entry (take j es)) l in
+          let places_are : places_in (take to entries) ≡ take 60001 (places x) = words_stand x is h k ∙ ap (λ (j : ℕ). take j (places x)) l in
+          ap (λ (y : List Entry). started_report M t list (said_with n w v y) (places_in (take to entries)) here) entries_are
           ∙ ap (λ (y : List ℕ). started_report M t list (said_with n w v kept) y here) places_are
           ∙ kept_started t list n w v es (places x) here
           ∙ ap (λ (a : Said). started_report M t list (record { n = a.n; w = a.w; initial = a.initial; entries = es }) (places x) (M.set_up m a.n a.w (replicate a.w a.initial)))
           (sym (listed_says x is h k))
 
-      pub kept_stops : {report : StopReport} → report ≡ report_with M t n w v (entries_in to entries) (places_in to entries) m list → StopInText M t m s list report
+      pub kept_stops : {report : StopReport} → report ≡ report_with M t n w v (entries_in (take to entries)) (places_in (take to entries)) m list → StopInText M t m s list report
       kept_stops e = record { fault = λ j p. absurd (fault_is_wrong s j p right_text); item = λ x is. e ∙ kept_report x is }

@@ -43,11 +43,11 @@ module _ (M : Machine) (t : Bool) (s : List ℕ) (n w v items : ℕ) (m : M.Memo
   -- a right text, by what its list keeps
   pub kept_says : ((m : M.Memory) → FarRefused M m) → {list₀ entries : List ℕ} {to : ℕ} {Q : List ℕ → Type 0} → length list₀ ≡ 60001
       → Keeps s list₀ entries 0 to (λ es. ItemsEnded s items deepest es) Q
-      → started_with M t n w v (entries_in to entries) m list ≡ says_after M t s n w v items m list
+      → started_with M t n w v (entries_in (take to entries)) m list ≡ says_after M t s n w v items m list
   unfolding whole
   kept_says far {list₀} {entries} {to} l k =
       let es = k.says in
-      let kept : entries_in to entries ≡ map kept_entry (take 60001 es) = kept_entries k.lists ∙ ap (λ (j : ℕ). map kept_entry (take j es)) l in
+      let kept : entries_in (take to entries) ≡ map kept_entry (take 60001 es) = kept_entries k.lists ∙ ap (λ (j : ℕ). map kept_entry (take j es)) l in
       ap (λ (x : List Entry). started_with M t n w v x m list) kept ∙ same_started es ∙ sym (ap (λ x. carried_out M t m list (whole n w v x)) k.read.same)
     where
       prepared : ℕ × M.Memory

@@ -1,6 +1,6 @@
 -- A text's entries as the list of numbers keeps them, and a run and its report by that list.
 -- Inner: `TextLaws` and `StopLaws` prove that these are the parts of `TextRun`'s run and of `StopPlaces`' report.
-use Rattle.std.specs.Prelude.{ℕ, List, [], map, Bool, false, take, drop, replicate}
+use Rattle.std.specs.Prelude.{ℕ, List, [], map, Bool, false, drop, replicate}
 use Rattle.notation.specs.declared.Entry.{Entry}
 use Rattle.notation.specs.Grammar.{Said, deepest}
 use Rattle.notation.specs.EntryWords.{entry_in, place_in}
@@ -14,12 +14,12 @@ use Rattle.text_runs.specs.TextRun.{Ended, process_of, ended, begun, started, ca
 use Rattle.text_runs.specs.StopPlaces.{reported_process, sizes, started_report}
 
 -- the entries that the list of a text keeps
-abbrev pub entries_in : ℕ → List ℕ → List Entry
-entries_in count list = map entry_in (take count list)
+abbrev pub entries_in : List ℕ → List Entry
+entries_in list = map entry_in list
 
 -- and the places of their items
-abbrev pub places_in : ℕ → List ℕ → List ℕ
-places_in count list = map place_in (take count list)
+abbrev pub places_in : List ℕ → List ℕ
+places_in list = map place_in list
 
 -- what a number of the list reports of the item that it keeps
 abbrev pub word_item : ℕ → Item

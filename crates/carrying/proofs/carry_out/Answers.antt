@@ -10,11 +10,11 @@ use Rattle.carrying.proofs.carry_out.Goals.{else-loop-at-test, then-loop-at-test
 
 pub loop-at-init : goal.loop-at-init
 loop-at-init c =
-    (first_head c.requires.0 c.requires.1 refl refl c.room_needed-needed.ensures, (refl, refl))
+    (first_head c.requires refl refl c.room_needed-needed.ensures, (refl, refl))
 
 pub bounds-entries-at : goal.bounds-entries-at
 bounds-entries-at c =
-    omega (arith, c.loop-at-test.true, c.requires.0)
+    omega (arith, c.loop-at-test.true)
 
 pub offset_bounds-all-record_place : goal.offset_bounds-all-record_place
 offset_bounds-all-record_place c = omega (arith, place_small c.process_of-p.result c.process_number-k.ensures c.record_place.ensures)
@@ -137,10 +137,6 @@ loop-at-preserved-then-stays c =
           (refl, refl) c.carry-turn.ensures (sym c.stays.ensures ∙ c.if-stays.true)),
       (c.loop-at.invariant.1.0, c.carry-turn.ensures.wrote.same ∙ c.loop-at.invariant.1.1),
     )
-
-pub overflow_add-at : goal.overflow_add-at
-overflow_add-at c =
-    omega (arith, c.loop-at-test.true, c.ranges.count)
 
 pub loop-at-smaller : goal.loop-at-smaller
 loop-at-smaller c =

@@ -8,7 +8,7 @@ use Rattle.carrying.proofs.carry_out.Given as goal
 
 abbrev pub invariant-loop-at : goal.invariant-loop-at
 invariant-loop-at l =
-    Head l.count l.entries l.len l.n l.w l.needed (state_of (going_run l.initial.bench l.initial.all l.initial.to.written l.initial.done l.traced) 0 l.initial.words l.initial.to.list.now) l.at
+    Head l.entries l.len l.n l.w l.needed (state_of (going_run l.initial.bench l.initial.all l.initial.to.written l.initial.done l.traced) 0 l.initial.words l.initial.to.list.now) l.at
     (state_of (going_run l.bench l.all l.to.written l.done l.traced) 0 l.words l.to.list.now) × ((l.outcome ≡ Ok tt) × (l.to.list.ghost_name ≡ l.initial.to.list.ghost_name))
 
 abbrev pub decreases-loop-at : goal.decreases-loop-at

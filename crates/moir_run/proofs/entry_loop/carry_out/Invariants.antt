@@ -7,7 +7,7 @@ use Rattle.moir_run.proofs.entry_loop.carry_out.Given as goal
 
 abbrev pub invariant-loop-at : goal.invariant-loop-at
 invariant-loop-at l = record {
-  turning : Turning l.kept l.count (progress l.initial.now 0 l.initial.words l.initial.to) l.at (progress l.now 0 l.words l.to);
+  turning : Turning l.kept (progress l.initial.now 0 l.initial.words l.initial.to) l.at (progress l.now 0 l.words l.to);
   same : l.to.list.ghost_name ≡ l.initial.to.list.ghost_name;
 }
 

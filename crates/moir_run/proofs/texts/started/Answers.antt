@@ -1,13 +1,9 @@
 -- `moir_run::texts::started`: the set-up refused, or done and the entries carried out.
 use mathlib.Core.Path.{refl, sym, ap, subst, ◌∙◌}
-use mathlib.Core.Bool.{cond}
-use Prim.Native.Nat.{ℕ}
 use native.Mathlib.Omega.{arith}
 use Rattle.std.proofs.Common.{rules}
-use lib.Dec.{eqb}
-use lib.ListN.{length, get_or, length-replicate}
-use Rattle.text_runs.specs.StopPlaces.{at_no_item}
-use Rattle.text_runs.specs.KeptEntries.{entries_in, places_in, word_report}
+use lib.ListN.{length, length-replicate}
+use Rattle.text_runs.specs.KeptEntries.{entries_in, places_in}
 use Rattle.text_runs.proofs.StopLaws.{stop_within, item_read}
 use Rattle.moir_machine.proofs.RowLaws.{told_some}
 use Rattle.moir_semantics.specs.TextRun.{figure6}
@@ -24,8 +20,8 @@ pub returns-in-Err : goal.returns-in-Err
 returns-in-Err c =
     let a = c.args in
     let f = a.first in
-    let es = entries_in a.count a.kept.now in
-    let ps = places_in a.count a.kept.now in
+    let es = entries_in a.kept.now in
+    let ps = places_in a.kept.now in
     let some = told_some c.in-Err.refusal in (
       c.refused.ensures.0 ∙ refused_start a.traced f.n f.w f.initial a.list.now es ps c.in-Err.ensures some,
       c.refused.ensures.1 ∙ refused_report a.traced f.n f.w f.initial a.list.now es ps c.in-Err.ensures some,
@@ -69,18 +65,18 @@ carry_out-carried-requires c =
     let first =
     first_state_is a.traced f.n f.w f.initial a.list.now refl refl x.w_most c.fresh-run.ensures c.bench_at_set_up-bench.ensures
     c.empty_bench.ensures c.words_at_set_up.ensures c.no_words-words.ensures c.repeated-value.ensures in
-    (c.requires.2, subst Sound (sym first) (first_sound a.traced f.n f.w f.initial a.list.now c.requires.1 c.requires.0))
+    subst Sound (sym first) (first_sound a.traced f.n f.w f.initial a.list.now c.requires.1 c.requires.0)
 
 pub stop_report-report-requires : goal.stop_report-report-requires
 stop_report-report-requires c =
-    stop_within figure6 c.args.kept.now c.requires.2 refl c.carry_out-carried.ensures.over
+    stop_within figure6 c.args.kept.now c.carry_out-carried.ensures.over refl
 
 pub returns-in-Ok : goal.returns-in-Ok
 returns-in-Ok c =
     let a = c.args in
     let f = a.first in
-    let es = entries_in a.count a.kept.now in
-    let ps = places_in a.count a.kept.now in
+    let es = entries_in a.kept.now in
+    let ps = places_in a.kept.now in
     let x = accepted a.traced f.n f.w f.initial a.list.now (sym c.in-Ok.ensures) in
     let first =
     first_state_is a.traced f.n f.w f.initial a.list.now refl refl x.w_most c.fresh-run.ensures c.bench_at_set_up-bench.ensures
@@ -88,6 +84,6 @@ returns-in-Ok c =
     let out = c.carry_out-carried in (
       carried_closed a.traced f.n f.w f.initial a.list.now ps c.in-Ok.ensures out.ensures first c.ended.ensures.is (search rules),
       closed_report out.result.run out.result.outcome c.ended.ensures.is ∙ c.stop_report-report.ensures
-          ∙ item_read figure6 a.kept.now c.requires.2 refl out.ensures.over f.n f.w
+          ∙ item_read figure6 a.kept.now out.ensures.over f.n f.w
           ∙ begun_report a.traced f.n f.w f.initial a.list.now es ps c.in-Ok.ensures refl first,
     )

@@ -2,7 +2,6 @@
 use native.Mathlib.Omega.{arith}
 use Rattle.notation.proofs.HeaderLaws.{headed_within, headed_small}
 use Rattle.notation.proofs.ItemsLaws.{items_as}
-use Rattle.notation.proofs.ListedLaws.{kept_within}
 use Rattle.run.specs.Finished.{memory_of}
 use Rattle.text_runs.proofs.FaultLaws.{broken_small}
 use Rattle.text_runs.proofs.TextLaws.{broken_says, closed_says}
@@ -26,7 +25,7 @@ pub refused-requires-in-Closed : goal.refused-requires-in-Closed
 refused-requires-in-Closed c = (c.requires.0, omega arith)
 
 pub started-requires : goal.started-requires
-started-requires c = (c.requires.0, (headed_small c.requires.1.line).2, kept_within (items_as c.in-Ok.ensures c.in-Ended.is).lists)
+started-requires c = (c.requires.0, (headed_small c.requires.1.line).2)
 
 pub returns-in-Err : goal.returns-in-Err
 returns-in-Err c =

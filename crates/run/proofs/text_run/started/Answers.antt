@@ -25,8 +25,8 @@ refused-requires c =
 pub returns-in-Err : goal.returns-in-Err
 returns-in-Err c =
     let a = c.args in
-    let es = entries_in a.count a.entries.now in
-    let ps = places_in a.count a.entries.now in
+    let es = entries_in a.entries.now in
+    let ps = places_in a.entries.now in
     let x = c.refused.ensures in (
       answers_as x.0 (refused_start a.traced a.first es a.held a.words.now c.requires.0 c.in-Err.ensures (number_some c.in-Err.cause)),
       x.1 ∙ refused_report a.traced a.first es ps a.held a.words.now c.requires.0 c.in-Err.ensures (number_some c.in-Err.cause),
@@ -75,11 +75,11 @@ carry_out-carried-requires c =
     c.fresh-run.ensures c.bench_at_set_up-bench.ensures c.records_at_set_up-all.ensures c.words_at_set_up.ensures c.repeated-value.ensures in
     let sound = begun_sound a.traced a.held a.words.now c.requires.0 a.first.n a.first.w a.first.initial c.requires.1 e
     (record { bank = omega arith; help = omega arith }) in
-    (c.requires.2, subst (Sound _) (sym begins) sound)
+    subst (Sound _) (sym begins) sound
 
 pub stop_report-report-requires : goal.stop_report-report-requires
 stop_report-report-requires c =
-    stop_within c.args.entries.now c.requires.2 refl c.carry_out-carried.ensures
+    stop_within c.args.entries.now c.carry_out-carried.ensures refl
 
 pub ended-requires : goal.ended-requires
 ended-requires c =
@@ -95,11 +95,11 @@ returns c =
     let e = not_refused c.set_up_refusal.result c.set_up_refusal.ensures c.in_default.not-Err in
     let begins = first_state_is a.traced a.held a.words.now c.requires.0 a.first.n a.first.w a.first.initial c.requires.1 e
     c.fresh-run.ensures c.bench_at_set_up-bench.ensures c.records_at_set_up-all.ensures c.words_at_set_up.ensures c.repeated-value.ensures in
-    let es = entries_in a.count a.entries.now in
-    let ps = places_in a.count a.entries.now in
+    let es = entries_in a.entries.now in
+    let ps = places_in a.entries.now in
     let out = c.carry_out-carried.ensures in
     let made = carried_start a.traced a.first es a.held a.words.now c.requires.0 refl c.requires.1 e begins out.becomes in
-    let item = item_read a.entries.now c.requires.2 refl out a.first.n a.first.w in
+    let item = item_read a.entries.now out a.first.n a.first.w in
     let begun = begun_report a.traced a.first es ps a.held a.words.now c.requires.0 refl c.requires.1 e begins in (
       answers_as (closed_answers c.carry_out-carried.result.run c.carry_out-carried.result.outcome _ _ c.carry_out-carried.ensures.becomes.kept.sound.filled c.ended.ensures.is (search rules)) made.same,
       closed_report c.carry_out-carried.result.run c.carry_out-carried.result.outcome _ c.ended.ensures.is ∙ c.stop_report-report.ensures ∙ item ∙ begun,
