@@ -7,4 +7,4 @@ pub run_listed-out-requires : goal.run_listed-out-requires
 run_listed-out-requires c = fillers _ c.empty-held.ensures
 
 pub returns : goal.returns
-returns c = board_alone _ _ _ _ _ _ c.run_listed-out.result _ _ c.empty-held.ensures c.run_listed-out.ensures
+returns c = rw c.number_of.ensures (board_alone _ _ _ _ _ _ c.run_listed-out.result _ _ c.empty-held.ensures c.run_listed-out.ensures)
