@@ -40,7 +40,7 @@ pub fn besklaun_run_board(
 ) -> BoardRun
     ensures { (result, listing.new) ≡ board_run n w initial file.now listing.old }
 {
-    // Kept: the words stand here and in `texts`, for a function that handed them out would copy all 5,120.
+    // Kept: one expression, here, in `texts` and in three programs: a function would say no more.
     let mut words = [0; 5120];
     let held = Held::empty();
     let out = board_listing::listed::run_listed(held, n, w, initial, file, &mut words, listing);

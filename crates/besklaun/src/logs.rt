@@ -78,60 +78,71 @@ fn plain_no() -> Reasoned
 fn fault_of(fault: Fault) -> Reasoned
     ensures { result ≡ fault_of fault }
 {
-    let mut r = plain_no();
+    let no = plain_no();
     match fault {
-        Fault::Unknown(call) => {
-            r.condition = 1;
-            r.call = call;
-        }
-        Fault::Overlap(call, other) => {
-            r.condition = 2;
-            r.call = call;
-            r.other = other;
-        }
-        Fault::Moment(call, other) => {
-            r.condition = 3;
-            r.call = call;
-            r.other = other;
-        }
-        Fault::Outside(call) => {
-            r.condition = 4;
-            r.call = call;
-        }
-        Fault::Answer(call, Shown::Value) => {
-            r.condition = 5;
-            r.call = call;
-            r.given = true;
-        }
-        Fault::Answer(call, Shown::WordsOf(other)) => {
-            r.condition = 5;
-            r.call = call;
-            r.other = other;
-        }
-        Fault::Answer(call, Shown::Truth(truth)) => {
-            r.condition = 5;
-            r.call = call;
-            r.truth = truth;
-        }
-        Fault::Unled(call) => {
-            r.condition = 6;
-            r.call = call;
-        }
+        Fault::Unknown(call) => Reasoned {
+            condition: 1,
+            call,
+            ..no
+        },
+        Fault::Overlap(call, other) => Reasoned {
+            condition: 2,
+            call,
+            other,
+            ..no
+        },
+        Fault::Moment(call, other) => Reasoned {
+            condition: 3,
+            call,
+            other,
+            ..no
+        },
+        Fault::Outside(call) => Reasoned {
+            condition: 4,
+            call,
+            ..no
+        },
+        Fault::Answer(call, Shown::Value) => Reasoned {
+            condition: 5,
+            call,
+            given: true,
+            ..no
+        },
+        Fault::Answer(call, Shown::WordsOf(other)) => Reasoned {
+            condition: 5,
+            call,
+            other,
+            ..no
+        },
+        Fault::Answer(call, Shown::Truth(truth)) => Reasoned {
+            condition: 5,
+            call,
+            truth,
+            ..no
+        },
+        Fault::Unled(call) => Reasoned {
+            condition: 6,
+            call,
+            ..no
+        },
     }
-    r
 }
 
 fn refused_of(number: u8, place: Option<Place>) -> Reasoned
     ensures { result ≡ refused_of number place }
 {
-    let mut r = plain_no();
-    r.number = number;
+    let refused = Reasoned {
+        number,
+        ..plain_no()
+    };
     match place {
-        None => {}
-        Some(Place::Value) => r.given = true,
-        Some(Place::Call(call)) => r.call = call,
+        None => refused,
+        Some(Place::Value) => Reasoned {
+            given: true,
+            ..refused
+        },
+        Some(Place::Call(call)) => Reasoned { call, ..refused },
     }
-    r
 }
 
 fn reasoned_of(said: verdicts::Judgement) -> Reasoned
@@ -139,11 +150,10 @@ fn reasoned_of(said: verdicts::Judgement) -> Reasoned
 {
     match said {
         verdicts::Judgement::Refused(refusal, place) => refused_of(refusal.number(), place),
-        verdicts::Judgement::Yes => {
-            let mut r = plain_no();
-            r.yes = true;
-            r
-        }
+        verdicts::Judgement::Yes => Reasoned {
+            yes: true,
+            ..plain_no()
+        },
         verdicts::Judgement::No(fault) => fault_of(fault),
     }
 }

@@ -1,18 +1,24 @@
--- A file's records, cut into their bytes; their tests, in one pass or in two.
-use mathlib.Core.Path.{◌≡◌, refl, sym, ap, ap₂, ◌∙◌}
+-- A file's records, cut into their bytes; their tests, as the library makes them.
+use mathlib.Core.Path.{◌≡◌, refl, sym, ap, ap₂, subst, ◌∙◌}
 use mathlib.Core.List.{List, [], ◌∷◌}
-use mathlib.Core.Bool.{Bool, true, false, ◌&&◌}
+use mathlib.Core.Bool.{Bool, true, false, cond, ◌&&◌}
 use Prim.Native.Nat.{ℕ, zero, suc, ◌+◌, ◌*◌, ◌≤◌, ◌<◌}
 use native.Mathlib.Omega.{arith}
-use lib.Dec.{eqb, leb}
+use lib.Dec.{eqb, leb, ltb}
 use lib.ListN.{length, get_or, take, drop}
 use native.Mathlib.Numerals.{add-one}
-use borrow.Author.Tests.{le-leb, lt-leb}
-use lib.Seq.{drop-cons, get_or-drop}
-use Rattle.std.proofs.lemmas.List.{get_or-take, take-take, drop-take, drop_all}
+use borrow.Author.Tests.{le-leb, leb-true, eq-eqb, ltb-false}
+use lib.Seq.{get_or-drop}
+use Rattle.std.proofs.lemmas.List.{get_or-take, take-take, drop-take}
 use Rattle.std.specs.Simd.{first_chunks}
+use Rattle.std.specs.List.{IsAllAdjacentAnswer}
+use Rattle.std.specs.Ordering.{is_le, nat_cmp}
+use Rattle.std.proofs.lemmas.Bool.{false≢true}
+use Rattle.std.proofs.lemmas.Map.Keys.{le_from_is_le}
+use Rattle.std.specs.declared.cmp.Ordering.TheVariants.{Less, Equal, Greater}
+use Rattle.laws.proofs.AndLaws.{left, right}
 use Rattle.boards.specs.Files.{BoardRecord, byte_at, number4, record_of, records_of, good_record, good_front, good_fronts, rising}
-use Rattle.boards.specs.Places.{read, all_good, good_from}
+use Rattle.boards.specs.Places.{read, all_good}
 
 -- the number at a place is at the front of what is left from there
 pub four_drop : (bs : List ℕ) (at i : ℕ) → number4 (drop at bs) i ≡ number4 bs (at + i)
@@ -67,46 +73,44 @@ chunks_taken (suc k) bs =
     let e : suc k * 12 ≡ 12 + k * 12 = omega arith in
     rw (e, take-take 12 (12 + k * 12) bs (omega arith), drop-take 12 (k * 12) bs) (ap (take 12 bs ∷◌) (chunks_taken k (drop 12 bs)))
 
--- in one pass, or in two
-pub one_pass : (t : ℕ) (rs : List (List ℕ)) → good_from t rs ≡ (all_good rs && rising t (read rs))
-unfolding good_from rising
-one_pass t [] = refl
-one_pass t (r ∷ rs) =
-    let next = (record_of r).tick in
-    ap (λ (x : Bool). good_front r && (leb t next && x)) (one_pass next rs)
-    ∙ shuffle (good_front r) (leb t next) (all_good rs) (rising next (read rs))
+-- ticks that the library finds sorted never fall
+abbrev ticks : (k : ℕ) → List (List ℕ) → List ℕ → ℕ
+ticks k rs d = (record_of (get_or rs k d)).tick
+
+rising_if : (t : ℕ) (rs : List (List ℕ)) → ((d : List ℕ) → 0 < length rs → t ≤ ticks 0 rs d)
+    → ((k : ℕ) (d : List ℕ) → suc k < length rs → ticks k rs d ≤ ticks (suc k) rs d) → rising t (read rs) ≡ true
+unfolding rising
+rising_if t [] f h = refl
+rising_if t (r ∷ rs) f h =
+    ap₂ ◌&&◌ (le-leb t (record_of r).tick (f [] (omega arith)))
+    (rising_if (record_of r).tick rs (λ d l. h 0 d (omega (arith, l))) (λ k d l. h (suc k) d (omega (arith, l))))
+
+each_rises : (t : ℕ) (rs : List (List ℕ)) → rising t (read rs) ≡ true → (k : ℕ) (d : List ℕ) → suc k < length rs → ticks k rs d ≤ ticks (suc k) rs d
+unfolding rising
+each_rises t [] e k d l = absurd (omega (arith, l))
+each_rises t (r ∷ []) e k d l = absurd (omega (arith, l))
+each_rises t (r ∷ s ∷ rs) e zero d l =
+    let more = right (leb t (record_of r).tick) (rising (record_of r).tick (read (s ∷ rs))) e in
+    leb-true (record_of r).tick (record_of s).tick (left (leb (record_of r).tick (record_of s).tick) (rising (record_of s).tick (read rs)) more)
+each_rises t (r ∷ s ∷ rs) e (suc k) d l =
+    each_rises (record_of r).tick (s ∷ rs) (right (leb t (record_of r).tick) (rising (record_of r).tick (read (s ∷ rs))) e) k d (omega (arith, l))
+
+le_if : (a b : ℕ) → a ≤ b → is_le (nat_cmp a b) ≡ true
+le_if a b h = by (ltb a b) refl
   where
-    shuffle : (a b c d : Bool) → (a && (b && (c && d))) ≡ ((a && c) && (b && d))
-    shuffle true true c d = refl
-    shuffle true false true d = refl
-    shuffle true false false d = refl
-    shuffle false b c d = refl
+    by : (t : Bool) → ltb a b ≡ t → is_le (cond t Less (cond (eqb a b) Equal Greater)) ≡ true
+    by true e = refl
+    by false e = rw (eq-eqb a b (let z = ltb-false a b e in omega (arith, z, h))) refl
 
--- the loop over a file's records: those from the first on are good exactly where those left are, from the last tick on
-module _ (rs : List (List ℕ)) (t i : ℕ) (same : good_from 0 rs ≡ good_from t (drop i rs)) where
-  abbrev r : List ℕ
-  r = get_or rs i []
-
-  abbrev rest : ℕ → Bool
-  rest n = good_from n (drop (i + 1) rs)
-
-  abbrev all : Bool
-  all = all_good rs && rising 0 (read rs)
-
-  module _ (h : i < length rs) where
-    next_good : good_from 0 rs ≡ (good_front r && (leb t (record_of r).tick && rest (record_of r).tick))
-    unfolding good_from
-    next_good = same ∙ rw (drop-cons rs i [] h, add-one i) refl
-
-    pub record_fails : good_front r ≡ false → false ≡ all
-    record_fails f = sym (sym (one_pass 0 rs) ∙ next_good ∙ rw f refl)
-
-    pub tick_falls : good_front r ≡ true → (record_of r).tick < t → false ≡ all
-    tick_falls g l = sym (sym (one_pass 0 rs) ∙ next_good ∙ rw (g, lt-leb t (record_of r).tick l) refl)
-
-    pub record_passes : good_front r ≡ true → t ≤ (record_of r).tick → good_from 0 rs ≡ rest (record_of r).tick
-    record_passes g l = next_good ∙ rw (g, le-leb t (record_of r).tick l) refl
-
-  pub all_pass : length rs ≤ i → true ≡ all
-  unfolding good_from
-  all_pass h = sym (sym (one_pass 0 rs) ∙ same ∙ rw (drop_all i rs h) refl)
+pub rising_is : (rs : List (List ℕ)) (t : Bool)
+    → IsAllAdjacentAnswer (λ x y b. b ≡ is_le (nat_cmp (record_of x).tick (record_of y).tick)) rs t → t ≡ rising 0 (read rs)
+rising_is rs true h =
+    sym (rising_if 0 rs (λ d l. omega arith)
+    (λ k d l. subst (λ (j : ℕ). ticks k rs d ≤ ticks j rs d) (add-one k) (le_from_is_le _ _ (sym (h k d (omega (arith, l)))))))
+rising_is rs false h = by (rising 0 (read rs)) refl
+  where
+    by : (t : Bool) → rising 0 (read rs) ≡ t → false ≡ t
+    by true e =
+        absurd (false≢true (h.2 [] ∙ le_if _ _
+        (subst (λ (j : ℕ). ticks h.0 rs [] ≤ ticks j rs []) (sym (add-one h.0)) (each_rises 0 rs e h.0 [] (omega (arith, h.1))))))
+    by false e = refl

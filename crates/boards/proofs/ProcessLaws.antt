@@ -10,6 +10,7 @@ use borrow.Author.Tests.{eqb-true, eqb-false}
 use lib.ListN.{length, get_or, set, drop, replicate, length-set, length-replicate, get_or-replicate}
 use lib.Seq.{drop-cons, get_or-set_same, get_or-set_other}
 use native.Mathlib.Numerals.{add-one}
+use Rattle.std.specs.List.{list_any}
 use Rattle.llsc.specs.Rows.{some}
 use Rattle.llsc.specs.Linearizable.{All}
 use Rattle.laws.proofs.AllLaws.{or_right}
@@ -86,20 +87,14 @@ module _ (rs : List (List ℕ)) (table : List Bool) (i : ℕ) where
   unfolding marks
   all_marked h e = sym (e ∙ rw (drop_all i rs h) refl)
 
--- the loop that looks: what is left to be looked at
-module _ (xs : List BoardRecord) (rs : List (List ℕ)) (i : ℕ) where
-  module _ (h : i < length rs) {t : List Bool} {p : ℕ} (f : t ≡ marks xs (replicate 256 false)) (e : p ≡ (record_of (get_or rs i [])).process) (small : p < 256) where
-    look : some (of_these xs) (read (drop i rs)) ≡ (get_or t p false || some (of_these xs) (read (drop (i + 1) rs)))
-    look =
-        rw (drop-cons rs i [] h, add-one i) refl
-        ∙ ap (λ (b : Bool). b || some (of_these xs) (read (drop (i + 1) rs)))
-        (sym (ap (λ (u : List Bool). get_or u p false) f ∙ in_table xs p small ∙ ap (λ (q : ℕ). some (λ x. eqb x.process q) xs) e))
+pub in_marks : (xs : List BoardRecord) {t : List Bool} → t ≡ marks xs (replicate 256 false)
+    → (p q : ℕ) → p ≡ q → p < 256 → get_or t p false ≡ some (λ x. eqb x.process q) xs
+in_marks xs f p q e h = ap (λ (u : List Bool). get_or u p false) f ∙ in_table xs p h ∙ ap (λ (q : ℕ). some (λ x. eqb x.process q) xs) e
 
-    pub found : get_or t p false ≡ true → some (of_these xs) (read (drop i rs)) ≡ true
-    found g = look ∙ rw g refl
-
-    pub look_on : get_or t p false ≡ false → some (of_these xs) (read (drop i rs)) ≡ some (of_these xs) (read (drop (i + 1) rs))
-    look_on g = look ∙ rw g refl
-
-  pub none_found : length rs ≤ i → some (of_these xs) (read (drop i rs)) ≡ false
-  none_found h = rw (drop_all i rs h) refl
+-- row 27 as the library asks it of the records
+pub any_shares : (xs : List BoardRecord) (rs : List (List ℕ)) → list_any (λ r. of_these xs (record_of r)) rs ≡ share_process xs (read rs)
+any_shares xs rs = one rs ∙ shared xs (read rs)
+  where
+    one : (rs : List (List ℕ)) → list_any (λ r. of_these xs (record_of r)) rs ≡ some (of_these xs) (read rs)
+    one [] = refl
+    one (r ∷ rs) = ap (λ (t : Bool). of_these xs (record_of r) || t) (one rs)

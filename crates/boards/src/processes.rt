@@ -20,10 +20,5 @@ pub fn share_process(first: &[Record], second: &[Record]) -> bool
     ensures { result ≡ share_process (read first.now) (read second.now) }
 {
     let table = marked(first);
-    for record in second {
-        if table[process(record) as usize] {
-            return true;
-        }
-    }
-    false
+    second.iter().any(|record| table[process(record) as usize])
 }

@@ -63,13 +63,5 @@ fn is_good(bytes: &Record) -> bool
 pub fn good_records(records: &[Record]) -> bool
     ensures { result ≡ (all_good records.now && rising 0 (read records.now)) }
 {
-    let mut last = 0;
-    for record in records {
-        let next = tick(record);
-        if !is_good(record) || next < last {
-            return false;
-        }
-        last = next;
-    }
-    true
+    records.iter().all(|record| is_good(record)) && records.is_sorted_by_key(|record| tick(record))
 }

@@ -1,27 +1,26 @@
 -- The marks of a trace line by line; bytes, marks and lines written one after the other.
 use mathlib.Core.Path.{◌≡◌, refl, sym, ap, subst, ◌∙◌}
-use mathlib.Core.List.{List, [], ◌∷◌, ◌++◌, append_assoc, append-nil}
-use mathlib.Core.Bool.{Bool, true, false, cond}
-use Prim.Native.Nat.{ℕ, ◌+◌, ◌-◌, ◌*◌, ◌≤◌, ◌<◌}
+use mathlib.Core.List.{List, [], ◌∷◌, ◌++◌}
+use mathlib.Core.Bool.{Bool, true, false, not, cond}
+use Prim.Native.Nat.{ℕ, suc, ◌+◌, ◌-◌, ◌*◌, ◌≤◌, ◌<◌}
 use native.Mathlib.Omega.{arith}
-use native.Mathlib.Numerals.{add-one}
-use lib.Dec.{eqb}
-use lib.ListN.{length, get_or, set, take, drop, drop_of_length-le}
-use lib.Seq.{sets, length-sets, take-length, drop-cons}
-use borrow.Author.Tests.{eqb-true, eqb-false, eq-eqb, ne_eqb}
+use lib.Dec.{eqb, ltb}
+use lib.ListN.{length, get_or, set, take}
+use lib.Seq.{sets}
+use borrow.Author.Tests.{eqb-true, eqb-false, lt-ltb, le-ltb, ltb-true, ltb-false}
 use Rattle.listing.specs.Lines.{line_feed}
 use Rattle.listing.specs.declared.Writer.{Writer}
 use Rattle.listing.specs.Writing.{Wrote, Writes}
-use Rattle.listing.proofs.WritingLaws.{then, kept, wrote, written, writes_then, writes_same}
+use Rattle.listing.proofs.WritingLaws.{then, wrote, written, writes_then, writes_same}
 use Rattle.listing.proofs.LineLaws.{take_more}
-use Rattle.std.proofs.lemmas.List.{length-take-le, take_all}
-use Rattle.std.specs.Prelude.{Option}
+use Rattle.std.specs.Prelude.{Option, Some, None, MatchOption, position}
+use Rattle.std.specs.List.{position_or_len}
 use Rattle.answers.specs.Readers.{Text}
 use Rattle.marking.specs.declared.Line.{Line}
 use Rattle.marking.specs.Marks.{may_swap}
 use Rattle.marking.specs.Reading.{no_line, line_in}
 use Rattle.marking.specs.Marked.{mark_text, marked_from, marked}
-use Rattle.marking.specs.CopiedLines.{line_bytes, behind, LineEnd, CopiedLine}
+use Rattle.marking.specs.CopiedLines.{is_feed, line_bytes, behind, LineEnd, CopiedLine}
 
 -- in a line, up to its end
 line_split : (before : Option Line) (bs : List ℕ) → marked_from false before bs ≡ line_bytes bs ++ marked_from true before (behind bs)
@@ -51,52 +50,50 @@ pub marked_first : (before : Option Line) (bs : List ℕ) → 0 < length bs → 
 marked_first before [] h = absurd (omega arith)
 marked_first before (b ∷ bs) h = marked_line before b bs
 
--- where the first line ends, byte by byte
-pub record NoFeedYet (bs : List ℕ) (i : ℕ) : Type 0 where
-  pub line : line_bytes bs ≡ take i bs ++ line_bytes (drop i bs)
-  pub left : behind bs ≡ behind (drop i bs)
-
-pub no_feed_first : (bs : List ℕ) → NoFeedYet bs 0
-no_feed_first bs = record { line = refl; left = refl }
-
-module _ {bs : List ℕ} {i : ℕ} (n : NoFeedYet bs i) where
-  pub end_of_text : length bs ≤ i → LineEnd bs (length bs)
+-- where the first line ends, as the library looks for its line feed
+module _ (b : ℕ) (bs : List ℕ) where
+  feed_here : is_feed b ≡ true → LineEnd (b ∷ bs) 1
   unfolding line_bytes behind
-  end_of_text h =
-      let none : drop i bs ≡ [] = drop_of_length-le bs h in
-      record {
-        within = omega arith;
-        line = take-length bs ∙ sym (n.line ∙ ap (λ (x : List ℕ). take i bs ++ line_bytes x) none ∙ append-nil (take i bs) ∙ take_all i bs h);
-        left = drop_of_length-le bs (omega arith) ∙ sym (n.left ∙ ap behind none);
-      }
+  feed_here e = record {
+    within = omega arith;
+    line = sym (ap (λ (t : Bool). b ∷ cond t [] (line_bytes bs)) e);
+    left = sym (ap (λ (t : Bool). cond t bs (behind bs)) e);
+  }
 
-  module _ (h : i < length bs) where
-    abbrev here : ℕ
-    here = get_or bs i 0
+  feed_later : {k : ℕ} → is_feed b ≡ false → LineEnd bs k → LineEnd (b ∷ bs) (suc k)
+  unfolding line_bytes behind
+  feed_later {k} e end = record {
+    within = let h = end.within in omega (arith, h);
+    line = ap (λ (x : List ℕ). b ∷ x) end.line ∙ sym (ap (λ (t : Bool). b ∷ cond t [] (line_bytes bs)) e);
+    left = end.left ∙ sym (ap (λ (t : Bool). cond t bs (behind bs)) e);
+  }
 
-    cut : drop i bs ≡ here ∷ drop (i + 1) bs
-    cut = drop-cons bs i 0 h ∙ ap (λ (j : ℕ). here ∷ drop j bs) (sym (add-one i))
+abbrev feed_at : List ℕ → ℕ
+feed_at bs = position_or_len is_feed bs
 
-    pub feed_here : here ≡ line_feed → LineEnd bs (i + 1)
-    unfolding line_bytes behind
-    feed_here e = record {
-      within = omega arith;
-      line = take_more bs i h
-          ∙ sym (n.line ∙ ap (λ (x : List ℕ). take i bs ++ line_bytes x) cut
-          ∙ ap (λ (t : Bool). take i bs ++ here ∷ cond t [] (line_bytes (drop (i + 1) bs))) (eq-eqb here line_feed e));
-      left = sym (n.left ∙ ap behind cut
-          ∙ ap (λ (t : Bool). cond t (drop (i + 1) bs) (behind (drop (i + 1) bs))) (eq-eqb here line_feed e));
-    }
+-- behind the line feed, or at the end of a text with none
+abbrev end_of : ℕ → ℕ → ℕ
+end_of n l = cond (ltb n l) (n + 1) l
 
-    pub no_feed_here : (here ≡ line_feed → ⊥) → NoFeedYet bs (i + 1)
-    unfolding line_bytes behind
-    no_feed_here e = record {
-      line = n.line ∙ ap (λ (x : List ℕ). take i bs ++ line_bytes x) cut
-          ∙ ap (λ (t : Bool). take i bs ++ here ∷ cond t [] (line_bytes (drop (i + 1) bs))) (ne_eqb here line_feed e)
-          ∙ sym (append_assoc (take i bs) (here ∷ []) (line_bytes (drop (i + 1) bs)))
-          ∙ ap (λ (x : List ℕ). x ++ line_bytes (drop (i + 1) bs)) (sym (take_more bs i h));
-      left = n.left ∙ ap behind cut ∙ ap (λ (t : Bool). cond t (drop (i + 1) bs) (behind (drop (i + 1) bs))) (ne_eqb here line_feed e);
-    }
+feed_end : (bs : List ℕ) → LineEnd bs (end_of (feed_at bs) (length bs))
+unfolding line_bytes behind
+feed_end [] = record { within = omega arith; line = refl; left = refl }
+feed_end (b ∷ bs) = by (is_feed b) refl (feed_end bs)
+  where
+    further : (n l : ℕ) (t : Bool) → ltb n l ≡ t → suc (cond t (n + 1) l) ≡ end_of (1 + n) (suc l)
+    further n l true h = rw (lt-ltb (1 + n) (suc l) (let z = ltb-true n l h in omega (arith, z))) (omega arith)
+    further n l false h = rw (le-ltb (1 + n) (suc l) (let z = ltb-false n l h in omega (arith, z))) refl
+
+    by : (t : Bool) → is_feed b ≡ t → LineEnd bs (end_of (feed_at bs) (length bs)) → LineEnd (b ∷ bs) (end_of (cond (not t) (1 + feed_at bs) 0) (length (b ∷ bs)))
+    by true e end = let one : end_of 0 (length (b ∷ bs)) ≡ 1 = rw (lt-ltb 0 (length (b ∷ bs)) (omega arith)) refl in subst (LineEnd (b ∷ bs)) (sym one) (feed_here b bs e)
+    by false e end = subst (LineEnd (b ∷ bs)) (further (feed_at bs) (length bs) (ltb (feed_at bs) (length bs)) refl) (feed_later b bs e end)
+
+pub line_end_found : (bs : List ℕ) {o : Option ℕ} {k : ℕ} {Q : ℕ → Type 0} → o ≡ position is_feed bs → MatchOption o (k ≡ length bs) Q → ((i : ℕ) → Q i → k ≡ i + 1) → LineEnd bs k
+line_end_found bs {o} {k} {Q} e m q = by (ltb (feed_at bs) (length bs)) (feed_end bs) (subst (λ (x : Option ℕ). MatchOption x (k ≡ length bs) Q) e m)
+  where
+    by : (t : Bool) → LineEnd bs (cond t (feed_at bs + 1) (length bs)) → MatchOption (cond t (Some (feed_at bs)) None) (k ≡ length bs) Q → LineEnd bs k
+    by true end m = subst (LineEnd bs) (sym (q (feed_at bs) m)) end
+    by false end m = subst (LineEnd bs) (sym m) end
 
 -- a line and what is behind it are the bytes, and a line has one
 pub line_lengths : (bs : List ℕ) → length (line_bytes bs) + length (behind bs) ≡ length bs

@@ -1,10 +1,13 @@
 -- A trace copied line by line, as the loop that marks it does.
 -- Inner: `MarkedLaws` proves that the lines, each behind its mark, make `Marked`.
-use Rattle.std.specs.Prelude.{◌≡◌, ℕ, ◌≤◌, List, [], ◌∷◌, cond, eqb, length, take, drop}
+use Rattle.std.specs.Prelude.{◌≡◌, ℕ, ◌≤◌, List, [], ◌∷◌, Bool, cond, eqb, length, take, drop}
 use Rattle.listing.specs.Lines.{line_feed}
 use Rattle.listing.specs.declared.Writer.{Writer}
 use Rattle.listing.specs.Writing.{Writes}
 use Rattle.answers.specs.Readers.{Text}
+
+abbrev pub is_feed : ℕ → Bool
+is_feed b = eqb b line_feed
 
 -- the first line of bs with its line feed, and what is behind it
 unfoldable pub line_bytes : List ℕ → List ℕ

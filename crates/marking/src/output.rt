@@ -1,8 +1,9 @@
 // A trace with the marks of its lines, two columns before each.
 ghost use Rattle.std.specs.Prelude.{◌≡◌, ◌+◌, ◌≤◌, ◌<◌, length, take, drop};
+ghost use Rattle.std.specs.List.{position};
 ghost use Rattle.listing.specs.Writing.{Wrote, Writes};
 ghost use Rattle.marking.specs.Marked.{mark_text, marked};
-ghost use Rattle.marking.specs.CopiedLines.{LineEnd, CopiedLine};
+ghost use Rattle.marking.specs.CopiedLines.{is_feed, LineEnd, CopiedLine};
 
 use crate::{may_swap, reading};
 use listing::Writer;
@@ -28,16 +29,18 @@ fn put_mark(to: &mut Writer<'_>, marked: bool)
     put(to, if marked { b"~ " } else { b"  " });
 }
 
+// The place of the first line feed.
+fn first_feed(text: &[u8]) -> Option<usize>
+    ensures { result ≡ position is_feed text.now }
+{
+    text.iter().position(|byte| *byte == b'\n')
+}
+
 // Where the first line ends, behind its line feed.
 fn line_end(text: &[u8]) -> usize
     ensures { LineEnd text.now result }
 {
-    for (i, byte) in text.iter().enumerate() {
-        if *byte == b'\n' {
-            return i + 1;
-        }
-    }
-    text.len()
+    first_feed(text).map_or(text.len(), |i| i + 1)
 }
 
 // The first line with its line feed; the text behind it.

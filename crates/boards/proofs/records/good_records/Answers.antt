@@ -1,27 +1,27 @@
--- `boards::records::good_records` meets its contract.
-use mathlib.Core.Path.{sym, ap, ◌∙◌}
-use Prim.Native.Nat.{ℕ, ◌+◌}
-use native.Mathlib.Omega.{arith}
-use lib.ListN.{drop}
-use Rattle.boards.specs.Places.{good_from}
-use Rattle.boards.proofs.FrontLaws.{record_fails, tick_falls, record_passes, all_pass}
+-- `boards::records::good_records`: all are good, and their ticks are sorted.
+use mathlib.Core.Path.{◌≡◌, refl, sym, ◌∙◌}
+use mathlib.Core.Bool.{true, false}
+use Rattle.std.proofs.Common.{rules, tests}
+use Rattle.std.proofs.lemmas.Fn.{always_returns_same}
+use Rattle.std.proofs.lemmas.Iterator.{YieldsList-from_slice}
+use Rattle.std.proofs.lemmas.Iterator.Search.{all_from_yields_List}
+use Rattle.laws.proofs.ListLaws.{every_is_all}
+use Rattle.boards.specs.Files.{record_of, good_front}
+use Rattle.boards.specs.Places.{all_good}
+use Rattle.boards.proofs.FrontLaws.{rising_is}
 use Rattle.boards.proofs.records.good_records.Goals as goal
-use Rattle.boards.proofs.records.good_records.Goals.{then-not-is_good-via-then-not-is_good, then-not-is_good-via-else-not-is_good+then-next-last}
 
-pub returns-then-not-is_good : goal.returns-then-not-is_good
-returns-then-not-is_good c =
-    let i = c.loop-record.invariant in
-    elim c.then-not-is_good.branch [
-      | then-not-is_good-via-then-not-is_good w ↦ record_fails _ _ _ i (omega (arith, c.loop-record-test.true)) (sym c.is_good.ensures ∙ w.if-not-is_good.true)
-      | then-not-is_good-via-else-not-is_good+then-next-last w ↦
-          tick_falls _ _ _ i (omega (arith, c.loop-record-test.true)) (sym c.is_good.ensures ∙ w.if-not-is_good.false) (omega (arith, c.tick-next.ensures, w.if-next-last.true))
-    ]
+pub returns-then-all : goal.returns-then-all
+returns-then-all c =
+    let rs = c.args.records.now in
+    let all = all_from_yields_List good_front _ _ _ c.all.ensures.ran (YieldsList-from_slice rs cc) (λ x b q k. search (rules, tests)) in
+    let good : all_good rs ≡ true = sym (all ∙ every_is_all good_front rs) ∙ c.if-all.true in
+    let sorted = c.is_sorted_by_key.ensures.cases (λ r. (record_of r).tick) (always_returns_same _ (λ a r. r ≡ (record_of a.0.now).tick) _ (λ a r f k. search (rules, tests))) in
+    rw good (rising_is rs _ sorted)
 
-pub loop-record-preserved : goal.loop-record-preserved
-loop-record-preserved c =
-    record_passes _ _ _ c.loop-record.invariant (omega (arith, c.loop-record-test.true)) (sym c.is_good.ensures ∙ c.if-not-is_good.false)
-    (omega (arith, c.tick-next.ensures, c.if-next-last.false))
-    ∙ ap (λ (t : ℕ). good_from t (drop (c.loop-record.record-index + 1) c.args.records.now)) (sym c.tick-next.ensures)
-
-pub returns : goal.returns
-returns c = all_pass _ _ _ c.loop-record.invariant (omega (arith, c.loop-record-test.false))
+pub returns-else-all : goal.returns-else-all
+returns-else-all c =
+    let rs = c.args.records.now in
+    let all = all_from_yields_List good_front _ _ _ c.all.ensures.ran (YieldsList-from_slice rs cc) (λ x b q k. search (rules, tests)) in
+    let bad : all_good rs ≡ false = sym (all ∙ every_is_all good_front rs) ∙ c.if-all.false in
+    rw (c.if-all.false, bad) refl

@@ -1,5 +1,5 @@
 -- `marking::output::put`: the bytes passed are written.
-use Rattle.std.proofs.Common.{refl, sym, arith}
+use Rattle.std.proofs.Common.{refl, sym}
 use lib.Seq.{set_out}
 use Rattle.marking.proofs.MarkedLaws.{byte_put}
 use Rattle.marking.proofs.output.put.Goals as goal
