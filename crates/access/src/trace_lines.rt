@@ -1,4 +1,4 @@
-// The lines of a trace, written into lent bytes from a place on.
+// The lines of a trace, put into lent bytes by a writer.
 ghost use Rattle.listing.specs.Writing.{Fits, Writes};
 ghost use Rattle.access.specs.TraceLines.{step_line};
 

@@ -39,7 +39,7 @@ impl Head {
     pub fn known(self) -> bool
         ensures { result ≡ known self }
     {
-        LL <= self.kind && self.kind <= VL
+        matches!(self.kind, LL..=VL)
     }
 
     // The moment lies after the start and not after the answer.

@@ -44,7 +44,7 @@ module _ (N W n : ℕ) (s : State) (i : Invariant N W n s) where
     own_up true e f = on_get (lines 0 8 l.point) _ e m.asks_own f
     own_up false e f = absurd (contra f (on_get (lines 9 22 l.point) _ (above 8 l.point e) m.asks_not))
 
-    -- the ghost `hold` says what a process owns ..
+    -- the ghost `holders` says what a process owns ..
     hold_owned : h.holders (2 * N + p) ≡ owned s p
     hold_owned =
         by_test (λ b. h.holders (2 * N + p) ≡ b) (lines 0 9 l.point)

@@ -1,6 +1,7 @@
 // The arithmetic of sequence numbers.
 ghost use Rattle.std.specs.Prelude.{◌≡◌, ◌%◌, ◌<◌, ◌≤◌};
 ghost use Rattle.model.specs.Tables.{next, helped};
+// Kept: `Sized n` is a clause, as n stands in a lent bench record, which may hold any number until row 1 is seen.
 ghost use Rattle.lines.specs.Ranges.{Sized};
 
 use llsc::ProcessNumber;
@@ -14,7 +15,6 @@ fn modulo(i: usize, m: usize) -> u8
     (i % m) as u8
 }
 
-// Kept: `Sized n` is a clause, as n stands in a lent bench record, which may hold any number until row 1 is seen.
 // (s + 1) mod 2N of lines 18 and 19.
 pub fn following(n: usize, s: SequenceNumber) -> SequenceNumber
     requires { Sized n }

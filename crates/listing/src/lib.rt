@@ -1,5 +1,4 @@
-// The lines of a listing, written into lent bytes from a place on. All functions are inner: the text run is made of
-// them.
+// The lines of a listing, put into lent bytes by their `Writer`. All functions are inner: the text run is made of them.
 
 #![tactic(auto)]
 

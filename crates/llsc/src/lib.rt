@@ -33,10 +33,5 @@ pub enum Order {
 pub fn is_start(order: Order) -> bool
     ensures { result ≡ is_start order }
 {
-    match order {
-        Order::StartLl => true,
-        Order::StartSc => true,
-        Order::StartVl => true,
-        Order::Step => false,
-    }
+    !matches!(order, Order::Step)
 }

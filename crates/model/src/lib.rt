@@ -72,7 +72,7 @@ pub struct Process {
 // What a command answers: refused with its number; accepted, with no answer yet; or a call's answer with its count of
 // own steps.
 // The words of an LL's answer stand in the process's return area.
-// Kept: a refusal has its row's number, as 01 promises its users one.
+// Kept: a refusal has its row's number, since 01's table says that the number is what is returned.
 #[derive(Clone, Copy)]
 pub enum Reply {
     Refused(u8),

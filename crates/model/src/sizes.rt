@@ -1,5 +1,5 @@
 // The sizes that follow from N and W, each said once.
-// Kept: the bounds of N and W are clauses, each where it is needed, as a type with both would ask callers for both.
+// Kept: the bounds of N and W are clauses, as the types with one bound each, `rows::counts`, stand above this crate.
 ghost use Rattle.std.specs.Prelude.{◌≡◌, ◌≤◌};
 ghost use Rattle.model.specs.Sizes.{buffers, sequence_numbers, rows_before_offers, lent_words, halves, busy_most};
 

@@ -1,4 +1,4 @@
-// What a trace shows of an access, written into lent bytes from a place on.
+// What a trace shows of an access, put into lent bytes by a writer.
 ghost use Rattle.listing.specs.Writing.{Fits, Writes};
 ghost use Rattle.moir_access.specs.TraceParts.{shown};
 

@@ -1,7 +1,6 @@
 // The numbers that stand for the program points in a process record: Figure 6's own line numbers, and 20 more in the Copy
 // of an SC, which line 20 calls.
-// Kept: constants. A record's line is lent memory, which may hold any number, so that an enum would need a match of its own
-// from number to point before each of the matches that name these.
+// Kept: numbers and no enum, as lent memory holds any number for a line; row 9 refuses those that stand for none.
 pub const IDLE: u8 = 0;
 
 pub const WLL_2: u8 = 2;

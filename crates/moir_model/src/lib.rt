@@ -52,7 +52,7 @@ pub struct Process {
 
 // What a command answers: refused with its number; accepted, with no answer yet; or a call's answer with its count of
 // own steps. A WLL answers words, which stand in the process's return area, or names a process.
-// Kept: `Refused` with a number and no `Refusal`, as 01's table promises its users a number.
+// Kept: a refusal has its row's number, since 01's table says that the number is what is returned.
 #[derive(Clone, Copy)]
 pub enum Reply {
     Refused(u8),

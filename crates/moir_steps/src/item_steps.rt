@@ -32,8 +32,7 @@ pub fn step_4(copy: CopyOf, before: &Before<'_>) -> Moved
 }
 
 // Line 5: the segment is what the CAS leaves there.
-// Kept: bench, process and words one by one where a step writes: with a `&mut` in a struct each contract would say too
-// that it still is the caller's.
+// Kept: one by one where a step writes: of a `&mut` in a struct each contract would say too that it is the caller's.
 pub fn step_5(copy: CopyOf, mut bench: Bench, process: Process, words: &mut [u64]) -> Moved
     requires { Standing bench process words.old }
     ensures { (result, words.new) ≡ step5 (copy_line copy 6) bench process words.old }

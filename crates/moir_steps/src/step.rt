@@ -23,8 +23,7 @@ fn step_19(bench: Bench, process: Process) -> Moved
 }
 
 // An idle process, and a line that is none (row 9 refuses it), stay as they are.
-// Kept: a match that calls. The lines take the header, a segment, a word or the words to write to, some in two Copies: a
-// table of functions would give all of them all of it.
+// Kept: an arm for each point, as the lines take a header, a segment, a word or the words, and some are in two Copies.
 #[tactic(auto, unfolding(moir_model::specs::Machine::step_at))]
 pub fn step(p: ProcessNumber, bench: Bench, process: Process, words: &mut [u64]) -> Moved
     requires { Ready bench process p words.old }

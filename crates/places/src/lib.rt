@@ -1,5 +1,6 @@
 // LL, SC, VL and the plain write on the shared places: Figure 1's single-word object, for X, Bank and Help (01,
 // "Links").
+// Kept: p.0 < 16 is a clause, as Moir's lent header holds a `ProcessNumber`, and lent memory may hold any number.
 
 #![tactic(auto)]
 
@@ -9,7 +10,6 @@ ghost use Rattle.model.specs.Places.{linked, link, ll_place, sc_place, write_pla
 use llsc::ProcessNumber;
 use model::Place;
 
-// Kept: p.0 < 16 is a clause, as Moir's lent header holds a `ProcessNumber`, and lent memory may hold any number.
 // VL: whether p's link is set.
 pub fn is_linked(links: u16, p: ProcessNumber) -> bool
     requires { p.0 < 16 }

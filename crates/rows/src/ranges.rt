@@ -71,10 +71,12 @@ pub fn is_idle(process: Process) -> bool
 pub fn line_ok(process: Process) -> bool
     ensures { result ≡ line_ok process }
 {
-    let line = process.line;
-    line <= points::LINE_15
-        || (points::LINE_17 <= line && line <= points::LINE_19)
-        || (points::LINE_23 <= line && line <= points::LINE_14_VALID)
+    matches!(
+        process.line,
+        0..=points::LINE_15
+            | points::LINE_17..=points::LINE_19
+            | points::LINE_23..=points::LINE_14_VALID
+    )
 }
 
 // An idle process has count 0, a busy one at most 8W+6.

@@ -1,5 +1,5 @@
-// Names of bytes, and places of a text, to a writer, for the programs, which hand in standard error. What can't be written
-// there is lost: there is no other place to say so, and so a program lets the error go.
+// Names of bytes, and places of a text, to a writer, for the programs, which hand in standard error. What can't be
+// written there is lost: there is no other place to say so, and so a program lets the error go.
 
 #![tactic(auto)]
 
@@ -33,8 +33,7 @@ impl Place {
     }
 
     // The place that has so many of the text's bytes before it, or the text's end.
-    // Kept: a place beside its text, here and in `line` and `position`: what a run, a log or a listing tells of itself is
-    // a number, and each of eight callers would cut the text there, and see to a place past its end.
+    // Kept: a place beside its text, in `line` and `position` too: what a run tells is a number, and may be past the end.
     pub fn of(text: &[u8], at: usize) -> Place
         ensures { result ≡ place_in text.now at }
     {

@@ -7,6 +7,7 @@ use station::{Station, StationProcess};
 
 // The station record, the first sixteen lent process records, with a filler where there are fewer, and how many were
 // lent. The words stay where they lie.
+// Kept: sixteen and a count, as there is no heap; `len` may be above sixteen, and row 3 holds it against N.
 #[derive(Clone, Copy)]
 pub struct Gathered {
     pub station: Station,

@@ -1,4 +1,5 @@
 // One record of a station, taken out by value and put back; each table is reached only by its own kind of number.
+// Kept: j.0 < 8 is a clause, as a lent process record holds a `RecordNumber`, and may hold any number there.
 
 #![tactic(auto)]
 
@@ -12,7 +13,6 @@ ghost use Rattle.station_records.specs.TakenOut.{bench_in, with_tables};
 use model::{Bench, Process};
 use station::{Holding, RecordNumber, Station, StationProcess, Tables};
 
-// Kept: j.0 < 8 is a clause, as a lent process record holds a `RecordNumber`, and may hold any number there.
 // The tables of record j.
 pub fn tables_at(station: Station, j: RecordNumber) -> Tables
     requires { j.0 < 8 }

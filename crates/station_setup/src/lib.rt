@@ -1,4 +1,5 @@
 // The set-up of a station by value: "All records begin with the one value." Memory beyond what N, W and R need stays.
+// Kept: n, w and r one by one, with bounds as clauses: a set-up names any numbers, and `Sizes` would bound W too.
 
 #![tactic(auto)]
 
@@ -11,7 +12,7 @@ ghost use Rattle.station.specs.StationSetUp.{holding_at_set_up, station_process_
 ghost use Rattle.station_setup.specs.StationSetUpByValue.{process_for, station_set_up_number, tables_set, sized, Admitted, block, told, station_prepared};
 
 use llsc::refusals::Refusal;
-use model::{BufferNumber, SequenceNumber, XContent, sizes};
+use model::{BufferNumber, sizes};
 use station::{Holding, RecordNumber, Station, StationProcess};
 use station_rows::sizes::Sizes;
 use station_rows::{causes, table};
@@ -35,7 +36,6 @@ pub fn set_up_refusal(
     Refusal::ValueNotWWords.if_holds(value != w)
 }
 
-// Kept: n, w and r one by one, with bounds as clauses: a set-up names any numbers, and `Sizes` would bound W too.
 // The tables of the first r records.
 pub fn with_tables(mut station: Station, n: usize, w: usize, r: usize) -> Station
     requires { (n ≤ 16) × (r ≤ 8) }
@@ -89,11 +89,7 @@ fn holding_at_set_up(mybuf: u8) -> Holding
 {
     Holding {
         mybuf: BufferNumber(mybuf),
-        x: XContent {
-            buf: BufferNumber(0),
-            seq: SequenceNumber(0),
-        },
-        answered: false,
+        ..station::empty_holding()
     }
 }
 
@@ -109,14 +105,7 @@ pub fn process_at_set_up(n: usize, r: usize, p: usize, q: StationProcess) -> Sta
     }
     StationProcess {
         holdings,
-        called: RecordNumber(0),
-        line: 0,
-        word: 0,
-        count: 0,
-        b: BufferNumber(0),
-        c: BufferNumber(0),
-        d: BufferNumber(0),
-        e: BufferNumber(0),
+        ..station::empty_process()
     }
 }
 

@@ -1,4 +1,5 @@
 // What an accepted order does to its process and to the places taken out for it.
+// Kept: n, p, process and taken one by one, as the definitions take them: a contract would take a struct apart.
 ghost use Rattle.std.specs.Prelude.{◌≡◌};
 ghost use Rattle.model.specs.Machine.{obey_in};
 ghost use Rattle.words.specs.Layouts.{layout_from};
@@ -14,7 +15,6 @@ use taken::{Stepped, Taken};
 use words::layouts::FirstRows;
 use words::word_runs;
 
-// Kept: n, p, process and taken one by one, as the definitions take them: a contract would take a struct apart.
 // LL begins at line 1, SC at line 12, with its words in the offer area already, VL at line 23.
 #[tactic(auto, unfolding(crate::specs::Steps::obey_on_in))]
 pub fn obey_taken_in(

@@ -1,5 +1,6 @@
 // The tables of the bench record, each reached only by its own kind of number.
 // A table that is worked on where it stands is indexed by what its own function here makes of its kind (`bank_place`).
+// Kept: i.0 < 32 is a clause, as the lent X holds a `SequenceNumber`, and lent memory may hold any number.
 
 #![tactic(auto)]
 
@@ -23,7 +24,6 @@ pub fn help_place(i: ProcessNumber) -> usize
     i.0 as usize
 }
 
-// Kept: i.0 < 32 is a clause, as the lent X holds a `SequenceNumber`, and lent memory may hold any number.
 // Bank[i].
 pub fn bank_at(bench: Bench, i: SequenceNumber) -> BankPlace
     requires { i.0 < 32 }

@@ -1,4 +1,4 @@
-// The parts of a trace line that every bench has, written into lent bytes from a place on. All functions are inner.
+// The parts of a trace line that every bench has, put into lent bytes by a writer. All functions are inner.
 
 #![tactic(auto)]
 

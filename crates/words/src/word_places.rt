@@ -1,5 +1,6 @@
 // The lent words of one record alone: 5N rows of W words. Rows 0 to 3N-1 are BUF, row 3N+p is the return area of p, row
 // 4N+p its offer area.
+// Kept: k < 64 is a clause, as a word place stands in a lent process record, which may hold any number.
 ghost use Rattle.std.specs.Prelude.{◌≡◌, ◌+◌, ◌*◌, ◌<◌, ◌≤◌, length};
 ghost use Rattle.model.specs.Words.{buffer_word, return_word, offer_word, half, with_half, copied_half};
 
@@ -7,7 +8,6 @@ use crate::layouts::{FirstRows, word_of_row};
 use llsc::ProcessNumber;
 use model::BufferNumber;
 
-// Kept: k < 64 is a clause, as a word place stands in a lent process record, which may hold any number.
 // Where word k of BUF[b] lies.
 pub fn buffer_word(w: usize, b: BufferNumber, k: usize) -> usize
     requires { (w ≤ 64) × (k < 64) }
