@@ -5,6 +5,7 @@
 ghost use Rattle.std.specs.Prelude.{◌≡◌};
 ghost use Rattle.llsc.specs.Rows.{is_start};
 
+pub mod counts;
 pub mod refusals;
 
 // A process's number, below N.

@@ -7,6 +7,7 @@ ghost use Rattle.station_rows.specs.StationCommandRows.{station_number};
 ghost use Rattle.station_machine.specs.StationDecision.{Sizes, RowsOf, obeyed_outcome, numbered, station_decided};
 
 use llsc::ProcessNumber;
+use llsc::counts::Processes;
 use llsc::refusals::Refusal;
 use model::{Moved, Reply, sizes};
 use station::{RecordNumber, Station, StationProcess};
@@ -42,7 +43,7 @@ fn rows_of(station: Station, j: RecordNumber) -> FirstRows
     requires { Sizes station × (j.0 < 8) }
     ensures { RowsOf station j result }
 {
-    let each = sizes::buffers(station.n);
+    let each = sizes::buffers(Processes { n: station.n });
     let records = station.r * each;
     FirstRows {
         buffers: (j.0 as usize) * each,

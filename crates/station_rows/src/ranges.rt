@@ -10,7 +10,7 @@ ghost use Rattle.station.specs.StationRefusals.{called_ok, station_process_ok, s
 ghost use Rattle.station_records.specs.TakenOut.{bench_in};
 
 use crate::sizes::Sizes;
-use rows::counts::{Processes, Width};
+use llsc::counts::{Processes, Width};
 use station::{RecordNumber, Station, StationProcess};
 
 // The open call's record is below R, and 0 when idle.

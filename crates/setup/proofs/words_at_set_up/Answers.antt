@@ -12,4 +12,4 @@ pub returns : goal.returns
 returns c =
     let a = c.args in
     c.fill.ensures ∙
-    simp (c.copy_in.ensures, c.lent_words.ensures) (words_set a.words.now a.value.now a.n a.w c.requires.value_words)
+    simp (c.copy_in.ensures, c.lent_words-needed.ensures) (words_set a.words.now a.value.now a.n a.w c.requires.value_words)

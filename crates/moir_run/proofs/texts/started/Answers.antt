@@ -51,11 +51,10 @@ words_at_set_up-requires c =
     let x = accepted a.traced f.n f.w f.initial a.list.now (sym c.in-Ok.ensures) in
     set_up_lent x c.no_words-words.ensures (prefix_length x.w_most c.repeated-value.ensures)
 
-pub bench_at_set_up-bench-requires : goal.bench_at_set_up-bench-requires
-bench_at_set_up-bench-requires c =
-    let a = c.args in
-    let f = a.first in
-    (accepted a.traced f.n f.w f.initial a.list.now (sym c.in-Ok.ensures)).w_most
+pub invariant_of-bench_at_set_up : goal.invariant_of-bench_at_set_up
+invariant_of-bench_at_set_up c =
+    let f = c.args.first in
+    record { most = (accepted c.args.traced f.n f.w f.initial c.args.list.now (sym c.in-Ok.ensures)).w_most }
 
 pub carry_out-carried-requires : goal.carry_out-carried-requires
 carry_out-carried-requires c =

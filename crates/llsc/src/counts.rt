@@ -1,4 +1,5 @@
-// N and W once rows 1 and 2 have let them through, as far as what follows from them has to fit a machine number.
+// N and W once rows 1 and 2 have let them through, as far as what follows from them has to fit a machine number: two
+// types, so that what needs N alone asks nothing of W.
 ghost use Rattle.std.specs.Prelude.{◌≤◌};
 
 // N.
