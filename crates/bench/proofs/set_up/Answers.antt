@@ -1,5 +1,5 @@
 -- `bench::set_up` meets its contract: what the set-up of the gathered records comes to, stored back, is the station's.
-use mathlib.Core.Path.{◌≡◌, sym, ap, ◌∙◌}
+use mathlib.Core.Path.{sym, ap, ◌∙◌}
 use mathlib.Core.Bool.{Bool, cond}
 use mathlib.Core.List.{List}
 use Prim.Native.Nat.{ℕ}
