@@ -4,7 +4,7 @@ use Prim.Native.Nat.{ℕ}
 use borrow.Author.Rules.{rules}
 use Rattle.std.specs.Prelude.{Result, Err}
 use Rattle.llsc.specs.Refusals.{refusal_number}
-use Rattle.rows.proofs.Refused.{number_some}
+use Rattle.llsc.proofs.RefusalNumbers.{number_some}
 use Rattle.station_rows.specs.Ordered.{order_in, number_in}
 use Rattle.station_machine.specs.declared.Outcome.{Outcome}
 use Rattle.station_machine.specs.StationDecision.{numbered}

@@ -2,7 +2,7 @@
 use mathlib.Core.Path.{sym, ap, ◌∙◌}
 use Prim.Native.Nat.{◌-◌}
 use Rattle.llsc.specs.Refusals.{refusal_number}
-use Rattle.rows.proofs.Refused.{number_some}
+use Rattle.llsc.proofs.RefusalNumbers.{number_some}
 use Rattle.station_machine.proofs.OrderLaws.{same_decided}
 use Rattle.turns_machine.specs.TurnDecision.{commanded_at}
 use Rattle.turns_machine.proofs.TurnDecisionLaws.{other_turn, refused_lent, steps, passes, starts}

@@ -1,7 +1,7 @@
 -- `turns_machine::give` meets its contract: where the lent memory is in order, the late rows decide.
 use mathlib.Core.Path.{sym, ◌∙◌}
 use Rattle.llsc.specs.Refusals.{refusal_number}
-use Rattle.rows.proofs.Refused.{number_some}
+use Rattle.llsc.proofs.RefusalNumbers.{number_some}
 use Rattle.station_rows.specs.Ordered.{order_in, number_in}
 use Rattle.station_rows.proofs.StationRowLaws.{memory_lent, late_decides}
 use Rattle.station_machine.proofs.StationObeyLaws.{refused_law}
