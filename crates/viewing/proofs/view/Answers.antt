@@ -2,7 +2,7 @@
 use mathlib.Core.Path.{◌≡◌, sym, ◌∙◌}
 use Prim.Native.Nat.{◌+◌, ◌-◌, ◌*◌}
 use native.Mathlib.Omega.{arith}
-use Rattle.rows.proofs.Refused.{number_some}
+use Rattle.llsc.proofs.RefusalNumbers.{number_some}
 use Rattle.viewing.proofs.ViewLaws.{viewed, words_fit, more_words_fit, bytes_fit, refused_part, value_part, list_part}
 use Rattle.viewing.proofs.view.Goals as goal
 
