@@ -11,7 +11,8 @@ use lib.ListN.{length, get_or, take, drop, drop_of_length-le}
 use lib.Seq.{drop-cons}
 use Rattle.listing.specs.Lines.{space}
 use Rattle.answers.specs.Shape.{largest}
-use Rattle.answers.specs.Readers.{first, is_digit, number_missing, digits_after, number_in, spaced_number, words_in, expected}
+use Rattle.std.specs.Prelude.{Ok, Err}
+use Rattle.answers.specs.Readers.{first, is_digit, digits_after, number_in, spaced_number, words_in, expected}
 use Rattle.std.proofs.lemmas.List.{take_rest}
 
 pub below_digits : (c : ℕ) → c < 48 → is_digit c ≡ false
@@ -34,15 +35,15 @@ module _ (v c : ℕ) (cs : List ℕ) where
   abbrev more : ℕ
   more = v * 10 + (c - 48)
 
-  pub no_more : is_digit c ≡ false → digits_after v (c ∷ cs) ≡ record { value = v; rest = c ∷ cs }
+  pub no_more : is_digit c ≡ false → digits_after v (c ∷ cs) ≡ Ok (v, c ∷ cs)
   unfolding digits_after
   no_more e = simp e
 
-  pub leading_zero : is_digit c ≡ true → v ≡ 0 → digits_after v (c ∷ cs) ≡ number_missing (c ∷ cs)
+  pub leading_zero : is_digit c ≡ true → v ≡ 0 → digits_after v (c ∷ cs) ≡ Err (c ∷ cs)
   unfolding digits_after
   leading_zero e z = simp (e, eq-eqb v 0 z)
 
-  pub too_large : is_digit c ≡ true → (v ≡ 0 → ⊥) → largest < more → digits_after v (c ∷ cs) ≡ number_missing (c ∷ cs)
+  pub too_large : is_digit c ≡ true → (v ≡ 0 → ⊥) → largest < more → digits_after v (c ∷ cs) ≡ Err (c ∷ cs)
   unfolding digits_after
   too_large e z h = simp (e, ne_eqb v 0 z, lt-leb more largest h)
 
@@ -67,27 +68,27 @@ no_digit [] h = refl
 no_digit (c ∷ cs) h = absurd (omega arith)
 
 module _ (v : ℕ) (bs : List ℕ) where
-  pub digits_end : is_digit (first bs) ≡ false → digits_after v bs ≡ record { value = v; rest = bs }
+  pub digits_end : is_digit (first bs) ≡ false → digits_after v bs ≡ Ok (v, bs)
   unfolding digits_after
   digits_end = pick bs
     where
-      pick : (xs : List ℕ) → is_digit (first xs) ≡ false → digits_after v xs ≡ record { value = v; rest = xs }
+      pick : (xs : List ℕ) → is_digit (first xs) ≡ false → digits_after v xs ≡ Ok (v, xs)
       pick [] e = refl
       pick (c ∷ cs) e = no_more v c cs e
 
-  pub digit_after_0 : is_digit (first bs) ≡ true → v ≡ 0 → digits_after v bs ≡ number_missing bs
+  pub digit_after_0 : is_digit (first bs) ≡ true → v ≡ 0 → digits_after v bs ≡ Err bs
   digit_after_0 = pick bs
     where
-      pick : (xs : List ℕ) → is_digit (first xs) ≡ true → v ≡ 0 → digits_after v xs ≡ number_missing xs
+      pick : (xs : List ℕ) → is_digit (first xs) ≡ true → v ≡ 0 → digits_after v xs ≡ Err xs
       pick [] e z = absurd (true≢false (sym e))
       pick (c ∷ cs) e z = leading_zero v c cs e z
 
   pub digit_too_many : is_digit (first bs) ≡ true → (v ≡ 0 → ⊥) → largest < v * 10 + (first bs - 48)
-      → digits_after v bs ≡ number_missing bs
+      → digits_after v bs ≡ Err bs
   digit_too_many = pick bs
     where
       pick : (xs : List ℕ) → is_digit (first xs) ≡ true → (v ≡ 0 → ⊥) → largest < v * 10 + (first xs - 48)
-          → digits_after v xs ≡ number_missing xs
+          → digits_after v xs ≡ Err xs
       pick [] e z h = absurd (true≢false (sym e))
       pick (c ∷ cs) e z h = too_large v c cs e z h
 
@@ -101,7 +102,7 @@ module _ (v : ℕ) (bs : List ℕ) where
       pick (c ∷ cs) e z h = one_more v c cs e z h
 
 module _ (bs : List ℕ) where
-  pub no_number : is_digit (first bs) ≡ false → number_in bs ≡ number_missing bs
+  pub no_number : is_digit (first bs) ≡ false → number_in bs ≡ Err bs
   unfolding number_in
   no_number e = simp e
 
@@ -109,7 +110,7 @@ module _ (bs : List ℕ) where
   unfolding number_in
   number_from_is e = simp (e, behind_is bs)
 
-  pub no_space : (first bs ≡ space → ⊥) → spaced_number bs ≡ number_missing bs
+  pub no_space : (first bs ≡ space → ⊥) → spaced_number bs ≡ Err bs
   unfolding spaced_number
   no_space h = simp (ne_eqb (first bs) space h)
 
@@ -122,13 +123,13 @@ module _ (ks : List ℕ) (i : ℕ) (k : i < length ks) where
   pub word_cut : drop i ks ≡ get_or ks i 0 ∷ drop (i + 1) ks
   word_cut = drop-cons ks i 0 k ∙ ap (λ (j : ℕ). get_or ks i 0 ∷ drop j ks) (sym (add-one i))
 
-  pub missing : (bs : List ℕ) → length bs < 1 → expected (drop i ks) bs ≡ record { right = false; rest = bs }
+  pub missing : (bs : List ℕ) → length bs < 1 → expected (drop i ks) bs ≡ Err bs
   unfolding expected
   missing [] h = ap (λ (x : List ℕ). expected x []) word_cut
   missing (c ∷ cs) h = absurd (omega arith)
 
   pub differs : (bs : List ℕ) → 1 ≤ length bs → (first bs ≡ get_or ks i 0 → ⊥)
-      → expected (drop i ks) bs ≡ record { right = false; rest = bs }
+      → expected (drop i ks) bs ≡ Err bs
   unfolding expected
   differs [] h d = absurd (omega arith)
   differs (c ∷ cs) h d = ap (λ (x : List ℕ). expected x (c ∷ cs)) word_cut ∙ simp (ne_eqb c (get_or ks i 0) d)
@@ -140,24 +141,24 @@ module _ (ks : List ℕ) (i : ℕ) (k : i < length ks) where
   agrees (c ∷ cs) h d = ap (λ (x : List ℕ). expected x (c ∷ cs)) word_cut
       ∙ simp (eq-eqb c (get_or ks i 0) d, behind_is (c ∷ cs))
 
-pub word_end : (ks : List ℕ) (i : ℕ) (bs : List ℕ) → length ks ≤ i → expected (drop i ks) bs ≡ record { right = true; rest = bs }
+pub word_end : (ks : List ℕ) (i : ℕ) (bs : List ℕ) → length ks ≤ i → expected (drop i ks) bs ≡ Ok bs
 unfolding expected
 word_end ks i bs h = ap (λ (x : List ℕ). expected x bs) (drop_of_length-le ks h)
 
 -- the loop over words: k of them are left
-pub no_word : (k : ℕ) (bs : List ℕ) {rest : List ℕ} → 0 < k → spaced_number bs ≡ number_missing rest
-    → words_in k bs ≡ record { right = false; rest = rest }
+pub no_word : (k : ℕ) (bs : List ℕ) {rest : List ℕ} → 0 < k → spaced_number bs ≡ Err rest
+    → words_in k bs ≡ Err rest
 unfolding words_in
 no_word zero bs h e = absurd (omega arith)
 no_word (suc k) bs h e = simp e
 
-pub word_more : (k : ℕ) (bs : List ℕ) {v : ℕ} {rest : List ℕ} → 0 < k → v ≤ largest → spaced_number bs ≡ record { value = v; rest = rest }
+pub word_more : (k : ℕ) (bs : List ℕ) {v : ℕ} {rest : List ℕ} → 0 < k → spaced_number bs ≡ Ok (v, rest)
     → words_in k bs ≡ words_in (k - 1) rest
 unfolding words_in
-word_more zero bs h q e = absurd (omega arith)
-word_more (suc k) bs {v} {rest} h q e = simp (e, le-leb v largest q) (ap (λ (x : ℕ). words_in x rest) (omega arith))
+word_more zero bs h e = absurd (omega arith)
+word_more (suc k) bs {v} {rest} h e = simp (e) (ap (λ (x : ℕ). words_in x rest) (omega arith))
 
-pub words_end : (k : ℕ) (bs : List ℕ) → k ≤ 0 → words_in k bs ≡ record { right = true; rest = bs }
+pub words_end : (k : ℕ) (bs : List ℕ) → k ≤ 0 → words_in k bs ≡ Ok bs
 unfolding words_in
 words_end zero bs h = refl
 words_end (suc k) bs h = absurd (omega arith)

@@ -15,7 +15,7 @@ loop-i-preserved c =
     let l = c.loop-i in
     let e = c.in_ok-word.ensures in
     ap (λ k. words_in k c.in_ok-word.word.1.now) (omega arith)
-    ∙ sym (word_more (c.args.w - l._i) l.rest.now (omega arith) e.1 e.0) ∙ l.invariant
+    ∙ sym (word_more (c.args.w - l._i) l.rest.now (omega arith) e.0) ∙ l.invariant
 
 pub returns : goal.returns
 returns c = let l = c.loop-i in sym l.invariant ∙ words_end (c.args.w - l._i) l.rest.now (omega arith)

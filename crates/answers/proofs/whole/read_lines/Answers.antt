@@ -1,7 +1,7 @@
 use Rattle.std.proofs.Common.{arith, ◌≡◌, sym, ◌∙◌, get_or}
 use Rattle.answers.specs.Gains.{no_sum, plus}
 use Rattle.std.proofs.lemmas.Result.{err_from_is_err_and}
-use Rattle.answers.proofs.WholeLaws.{ends, ends_wrong, stops, own, further, room, goes}
+use Rattle.answers.proofs.WholeLaws.{ends, stops, own, further, room, goes}
 use Rattle.answers.proofs.whole.read_lines.Goals as goal
 
 pub returns-in_err-gain : goal.returns-in_err-gain
@@ -34,7 +34,7 @@ returns-in_err-last_line c =
     let z = c.from_residual-in_err-last_line in
     let p = err_from_is_err_and z.result z.ensures.1 in
     let none = sym c.begins_with_digit.ensures ∙ c.loop-rest-test.false in
-    rw (p.1, p.2) (ends_wrong c.requires c.loop-rest.invariant none c.in_err-last_line.ensures)
+    rw (p.1, p.2) (ends c.requires c.loop-rest.invariant none c.in_err-last_line.ensures)
 
 pub returns : goal.returns
 returns c =
