@@ -1,5 +1,5 @@
 -- The readers take every listing of the shape, and gain what its answers add.
-use Prim.Native.Nat.{ℕ, zero, suc, ◌+◌, ◌-◌, ◌*◌, ◌/◌, ◌%◌, ◌≤◌, ◌<◌}
+use Prim.Native.Nat.{ℕ, zero, suc, ◌+◌, ◌*◌, ◌/◌, ◌%◌, ◌≤◌, ◌<◌}
 use mathlib.Core.Path.{◌≡◌, refl, sym, ap, ◌∙◌}
 use mathlib.Core.List.{List, [], ◌∷◌, ◌++◌, append_assoc}
 use mathlib.Core.Bool.{Bool, true, false}
@@ -21,19 +21,16 @@ use Rattle.answers.specs.Shape.{no_words, word, Fits, ll_fits, sc_fits, vl_fits,
 use Rattle.answers.specs.Gains.{bit, gain_of, process_of, tally, gained}
 use Rattle.answers.specs.Readers.{first, is_digit, Read, digits_after, number_in, spaced_number, Passed, expected, words_in}
 use Rattle.answers.specs.Readers.{fed, ll_tail, truth_tail, by_letter, answer_in, finished, end_in, refused_in, last_in, lines_in}
-use Rattle.answers.proofs.NumberLaws.{a_digit, no_more, one_more}
+use Rattle.answers.proofs.NumberLaws.{digits_end, the_digit, digit_on}
 
 tenth : (n m : ℕ) → n < m * 10 → n / 10 < m
 tenth n m h = (div-lt_iff_lt-mul {k = 10} {x = n} {y = m} (omega arith)).1 h
-
-digit : (d : ℕ) → d < 10 → is_digit (48 + d) ≡ true
-digit d h = a_digit (48 + d) (omega arith) (omega arith)
 
 -- the digits of v bring the reader of numbers to where v is read
 one : (v : ℕ) (cs : List ℕ) → v < 10 → number_in (decimal v ++ cs) ≡ digits_after v cs
 unfolding number_in
 one v cs h =
-    ap (λ (x : List ℕ). number_in (x ++ cs)) (one_digit v h) ∙ simp (digit v h)
+    ap (λ (x : List ℕ). number_in (x ++ cs)) (one_digit v h) ∙ simp (the_digit v (omega arith))
     (ap (λ (x : ℕ). digits_after x cs) (omega arith))
 
 many : (v : ℕ) (cs : List ℕ) → 10 ≤ v → v ≤ largest
@@ -41,11 +38,11 @@ many : (v : ℕ) (cs : List ℕ) → 10 ≤ v → v ≤ largest
 many v cs h k r =
     let d : ℕ = v % 10 in
     let small : d < 10 = mod-lt v {m = 10} (omega arith) in
-    let back : v / 10 * 10 + (48 + d - 48) ≡ v = omega (arith, div-add-mod' v 10) in
+    let back : v / 10 * 10 + d ≡ v = omega (arith, div-add-mod' v 10) in
     ap (λ (x : List ℕ). number_in (x ++ cs)) (last_digit v h (omega arith))
     ∙ ap number_in (append_assoc (decimal (v / 10)) ((48 + d) ∷ []) cs)
     ∙ r ((48 + d) ∷ cs)
-    ∙ one_more (v / 10) (48 + d) cs (digit d small) (λ z. omega arith) (omega (arith, back))
+    ∙ digit_on (v / 10) d cs (omega arith) (λ z. omega arith) (omega (arith, back))
     ∙ ap (λ (x : ℕ). digits_after x cs) back
 
 pick : (v : ℕ) (cs : List ℕ) (t : Bool) → ltb v 10 ≡ t → v ≤ largest
@@ -62,17 +59,12 @@ digits_read (suc k) v cs h q = pick v cs (ltb v 10) refl q (λ xs r. digits_read
 abbrev got : ℕ → List ℕ → Read ℕ
 got v rest = Ok (v, rest)
 
-stop : (v : ℕ) (cs : List ℕ) → is_digit (first cs) ≡ false → digits_after v cs ≡ got v cs
-unfolding digits_after
-stop v [] e = refl
-stop v (c ∷ cs) e = no_more v c cs e
-
 pub number_read : (v : ℕ) (cs : List ℕ) → v ≤ largest → is_digit (first cs) ≡ false → number_in (decimal v ++ cs) ≡ got v cs
 unfolding tens
-number_read v cs q e = digits_read 9 v cs (omega arith) q ∙ stop v cs e
+number_read v cs q e = digits_read 9 v cs (omega arith) q ∙ digits_end v cs e
 
 pub spaced_read : (v : ℕ) (cs : List ℕ) → v ≤ largest → is_digit (first cs) ≡ false → spaced_number (space ∷ (decimal v ++ cs)) ≡ got v cs
-unfolding spaced_number
+unfolding spaced_number expected
 spaced_read v cs q e = number_read v cs q e
 
 abbrev passed : List ℕ → Passed
@@ -104,7 +96,7 @@ ll_read w c ws cs e f h =
     (feed_read c cs)
 
 bit_read : (t : Bool) (cs : List ℕ) → spaced_number (truth t ++ cs) ≡ got (bit t) (line_feed ∷ cs)
-unfolding spaced_number number_in digits_after
+unfolding spaced_number expected number_in digits_after
 bit_read true cs = refl
 bit_read false cs = refl
 

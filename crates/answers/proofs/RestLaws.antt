@@ -54,13 +54,6 @@ number_left (c ∷ cs) =
     either (AtMost behind (length (c ∷ cs))) (is_digit c) _ _
     (λ _. weaker behind (length cs) (length (c ∷ cs)) (digits_after (c - 48) cs) (omega arith) (digits_left (c - 48) cs)) (λ _. omega arith)
 
-spaced_left : (bs : List ℕ) → AtMost behind (length bs) (spaced_number bs)
-unfolding spaced_number
-spaced_left [] = omega arith
-spaced_left (c ∷ cs) =
-    either (AtMost behind (length (c ∷ cs))) (eqb c space) _ _
-    (λ _. weaker behind (length cs) (length (c ∷ cs)) (number_in cs) (omega arith) (number_left cs)) (λ _. omega arith)
-
 expected_left : (ks bs : List ℕ) → AtMost own (length bs) (expected ks bs)
 unfolding expected
 expected_left [] bs = omega arith
@@ -68,6 +61,10 @@ expected_left (k ∷ ks) [] = omega arith
 expected_left (k ∷ ks) (c ∷ cs) =
     either (AtMost own (length (c ∷ cs))) (eqb c k) _ _
     (λ _. weaker own (length cs) (length (c ∷ cs)) (expected ks cs) (omega arith) (expected_left ks cs)) (λ _. omega arith)
+
+spaced_left : (bs : List ℕ) → AtMost behind (length bs) (spaced_number bs)
+unfolding spaced_number
+spaced_left bs = on own behind (length bs) (expected (space ∷ []) bs) _ (expected_left (space ∷ []) bs) number_left
 
 words_left : (k : ℕ) (bs : List ℕ) → AtMost own (length bs) (words_in k bs)
 unfolding words_in

@@ -69,18 +69,6 @@ number_sound (c ∷ cs) =
     subst (λ (x : List ℕ). IfOk (digits_after (c - 48) cs) (Number (x ++ cs))) o (digits_sound (c - 48) cs (omega (arith, r.1))))
     (λ _. tt)
 
-abbrev Spaced : List ℕ → ℕ × List ℕ → Type 0
-Spaced bs p = (bs ≡ space ∷ (decimal p.0 ++ p.1)) × (p.0 ≤ largest)
-
-spaced_sound : (bs : List ℕ) → IfOk (spaced_number bs) (Spaced bs)
-unfolding spaced_number
-spaced_sound [] = tt
-spaced_sound (c ∷ cs) =
-    either (λ (g : Read ℕ). IfOk g (Spaced (c ∷ cs))) (eqb c space) _ _
-    (λ e. IfOk-weaker (number_in cs) (Number cs) (Spaced (c ∷ cs))
-    (λ p h. (ap (λ (x : ℕ). x ∷ cs) (eqb-true c space e) ∙ ap (λ (x : List ℕ). space ∷ x) h.0, h.1)) (number_sound cs))
-    (λ _. tt)
-
 abbrev Behind : List ℕ → List ℕ → List ℕ → Type 0
 Behind ks bs rest = bs ≡ ks ++ rest
 
@@ -93,6 +81,15 @@ expected_sound (k ∷ ks) (c ∷ cs) =
     (λ e. IfOk-weaker (expected ks cs) (Behind ks cs) (Behind (k ∷ ks) (c ∷ cs))
     (λ rest h. ap (λ (x : ℕ). x ∷ cs) (eqb-true c k e) ∙ ap (λ (x : List ℕ). k ∷ x) h) (expected_sound ks cs))
     (λ _. tt)
+
+abbrev Spaced : List ℕ → ℕ × List ℕ → Type 0
+Spaced bs p = (bs ≡ space ∷ (decimal p.0 ++ p.1)) × (p.0 ≤ largest)
+
+spaced_sound : (bs : List ℕ) → IfOk (spaced_number bs) (Spaced bs)
+unfolding spaced_number
+spaced_sound bs =
+    when_read (Behind (space ∷ []) bs) (Spaced bs) (expected (space ∷ []) bs) number_in (expected_sound (space ∷ []) bs)
+    (λ s e. IfOk-weaker (number_in s) (Number s) (Spaced bs) (λ p h. (e ∙ ap (λ (x : List ℕ). space ∷ x) h.0, h.1)) (number_sound s))
 
 -- k words and the bytes behind them
 record Words (k : ℕ) (bs rest : List ℕ) : Type 0 where

@@ -113,8 +113,11 @@ going_start n w l bs h = record {
 module _ {n w : ℕ} {l₀ : List Sum} {bs : List ℕ} {l : List Sum} {rest : List ℕ}
     (h : Readable n l₀ bs) (g : Going n w l₀ bs l rest) where
   -- where no digit stands, the last line is read
-  pub ends : {last : Ended} → is_digit (first rest) ≡ false → last_in rest ≡ last → listing_in n w l₀ bs ≡ read_on last (λ _. Ok l)
+  pub ends : is_digit (first rest) ≡ false → last_in rest ≡ Ok tt → listing_in n w l₀ bs ≡ Ok l
   ends d e = sym g.same ∙ last_line n w l rest d ∙ ap (λ (last : Ended). read_on last (λ _. Ok l)) e
+
+  pub ends_wrong : {r : List ℕ} → is_digit (first rest) ≡ false → last_in rest ≡ Err r → listing_in n w l₀ bs ≡ Err r
+  ends_wrong d e = sym g.same ∙ last_line n w l rest d ∙ ap (λ (last : Ended). read_on last (λ _. Ok l)) e
 
   pub stops : {r : List ℕ} → is_digit (first rest) ≡ true → answer_in n w rest ≡ Err r → listing_in n w l₀ bs ≡ Err r
   stops d e = sym g.same ∙ no_line n w l rest d e
@@ -166,3 +169,5 @@ module _ {n w : ℕ} {l₀ : List Sum} {bs : List ℕ} {l : List Sum} {rest : Li
               (omega (arith, further, g.within))
               (tally_below n (b + so_far * largest) largest l gain.process gain.sum took.gain g.below);
         }
+
+pub ruleset reading_lines = (ends, ends_wrong, stops, own, further)

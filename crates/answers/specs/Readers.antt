@@ -1,7 +1,7 @@
 -- A listing read part by part (CR 2, row 18: "answer lines and a last line in 01's shape"). Each part says what it has
 -- read and the bytes after it, or the bytes from the first wrong byte on: that byte's place is a part of the reply. What is
 -- read to its end is exactly a `Shaped` listing, and gains what its answers add: proofs/Theorems.
-use Rattle.std.specs.Prelude.{ℕ, zero, suc, ◌+◌, ◌-◌, ◌*◌, ◌≤◌, ◌≡◌, List, [], ◌∷◌, Bool, ◌&&◌, cond, eqb, ltb, leb, length, get_or, drop, Result, Ok, Err}
+use Rattle.std.specs.Prelude.{ℕ, zero, suc, ◌+◌, ◌-◌, ◌*◌, ◌≤◌, ◌≡◌, List, [], ◌∷◌, Bool, false, ◌&&◌, cond, eqb, ltb, leb, length, get_or, drop, Option, Some, None, Result, Ok, Err}
 use Rattle.std.specs.Borrow.{Bor}
 use Rattle.std.specs.Result.{IsErrAnd}
 use Rattle.listing.specs.Quoted.{quoted, byte}
@@ -47,15 +47,15 @@ digits_after v (c ∷ cs) =
 unfoldable pub number_in : List ℕ → Read ℕ
 number_in bs = cond (is_digit (first bs)) (digits_after (first bs - 48) (drop 1 bs)) (Err bs)
 
--- a space and a number
-unfoldable pub spaced_number : List ℕ → Read ℕ
-spaced_number bs = cond (eqb (first bs) space) (number_in (drop 1 bs)) (Err bs)
-
 -- the bytes of a word, each in its turn
 unfoldable pub expected : List ℕ → List ℕ → Passed
 expected [] bs = Ok bs
 expected (k ∷ ks) [] = Err []
 expected (k ∷ ks) (c ∷ cs) = cond (eqb c k) (expected ks cs) (Err (c ∷ cs))
+
+-- a space and a number
+unfoldable pub spaced_number : List ℕ → Read ℕ
+spaced_number bs = read_on (expected (space ∷ []) bs) number_in
 
 -- k numbers, each after a space
 unfoldable pub words_in : ℕ → List ℕ → Passed
@@ -123,6 +123,11 @@ listing_in n w l bs = lines_in n w (suc (length bs)) l bs
 -- the same of what the code returns: a value and the text behind it, or the text from the first wrong byte on
 abbrev pub Text : Type 0
 Text = Bor (List ℕ)
+
+-- the digit with which a text begins, and the text behind it
+abbrev pub GivesDigit : Option (ℕ × Text) → List ℕ → Type 0
+GivesDigit (Some p) bs = (bs ≡ (48 + p.0) ∷ p.1.now) × (p.0 ≤ 9)
+GivesDigit None bs = is_digit (first bs) ≡ false
 
 abbrev pub GivesNumber : Result (ℕ × Text) Text → Read ℕ → Type 0
 GivesNumber (Ok p) g = (g ≡ Ok (p.0, p.1.now)) × (p.0 ≤ largest)
