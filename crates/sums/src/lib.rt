@@ -27,6 +27,7 @@ pub struct Sums {
 }
 
 // Why a listing is not added: a row of the refusals, or that it is no listing, with the place of its first wrong byte.
+// Kept: both are errors of a `Result`; a struct of a refusal and an `Option` of a place would take one at any row.
 #[derive(Clone, Copy, PartialEq, Eq)]
 pub enum NotAdded {
     Refused(Refusal),
