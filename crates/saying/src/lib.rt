@@ -80,7 +80,8 @@ pub fn line<W: Write>(to: &mut W, place: Place) -> io::Result<()>
 pub fn position<W: Write>(to: &mut W, place: Place) -> io::Result<()>
     ensures { OnOk result (Appends (W.contents to.old) (W.contents to.new) (position_text place)) }
 {
-    write!(to, "line {}, column {}", place.line, place.column)
+    line(to, place)?;
+    write!(to, ", column {}", place.column)
 }
 
 // A place of the text, at most its end: what may be lent as its beginning.
