@@ -31,6 +31,7 @@ pub fn set_up_refusal(
 }
 
 // Bank[k] = k, below n.
+#[tactic(auto, using(crate::proofs::SetUpLaws::banks_next))]
 fn with_banks(mut bench: Bench, n: usize) -> Bench
     requires { n ≤ 32 }
     ensures { result ≡ banks_set bench n }
@@ -43,6 +44,7 @@ fn with_banks(mut bench: Bench, n: usize) -> Bench
 }
 
 // Help[p] = (0, 0), below n.
+#[tactic(auto, using(crate::proofs::SetUpLaws::helps_next))]
 fn with_helps(mut bench: Bench, n: usize) -> Bench
     requires { n ≤ 16 }
     ensures { result ≡ helps_set bench n }
@@ -70,6 +72,7 @@ pub fn bench_at_set_up(bench: Bench, n: usize, w: usize) -> Bench
 }
 
 // BUF[0] = the value, every other word 0.
+#[tactic(auto, using(crate::proofs::SetUpLaws::words_set))]
 pub fn words_at_set_up(words: &mut [u64], n: usize, w: usize, value: &[u64])
     requires { Accepted n w (length words.old) (length value.now) }
     ensures { words.new ≡ words_at_set_up words.old n w value.now }
