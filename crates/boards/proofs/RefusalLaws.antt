@@ -13,11 +13,8 @@ use Rattle.laws.proofs.AndLaws.{left, right}
 use Rattle.laws.proofs.AllLaws.{or_none}
 use Rattle.llsc.specs.Refusals.{refusal_number}
 use Rattle.llsc.specs.declared.refusals.Refusal.{Refusal}
-use Rattle.llsc.specs.declared.refusals.Refusal.TheVariants.{NOutOfRange, WOutOfRange, TooLittleLent, NoSuchProcess, StartAtBusy, StepAtIdle}
-use Rattle.llsc.specs.declared.refusals.Refusal.TheVariants.{NeverLinked, ValueNotWWords, NumberOutOfRange, TextBroken, TooDeep, TooMuch}
-use Rattle.llsc.specs.declared.refusals.Refusal.TheVariants.{NoRoom, NoSuchSuccess, TooManyCalls, AnswerNotAfterStart, NoListing, SeasonFull}
-use Rattle.llsc.specs.declared.refusals.Refusal.TheVariants.{TooManyTurns, NoSuchNumber, NotASchedule, ROutOfRange, NoSuchRecord, BadTrailer}
-use Rattle.llsc.specs.declared.refusals.Refusal.TheVariants.{BadRecord, ProcessInBoth, TooLittleRoom}
+use Rattle.llsc.specs.declared.refusals.Refusal.TheVariants.{BadTrailer}
+use Rattle.llsc.proofs.RefusalNumbers.{number_some}
 use Rattle.std.specs.Borrow.{Bor}
 use Rattle.std.specs.Prelude.{Option, Some, None, Result, Ok, Err, MatchOption, ok_or}
 use Rattle.std.specs.List.{ends_with}
@@ -238,42 +235,12 @@ passed a b room e =
     truths true true false true z = absurd (omega arith)
     truths true true false false z = (refl, (refl, (refl, refl)))
 
--- no refusal has the number 0
-pub positive : (r : Refusal) → refusal_number r ≡ 0 → ⊥
-positive NOutOfRange e = omega arith
-positive WOutOfRange e = omega arith
-positive TooLittleLent e = omega arith
-positive NoSuchProcess e = omega arith
-positive StartAtBusy e = omega arith
-positive StepAtIdle e = omega arith
-positive NeverLinked e = omega arith
-positive ValueNotWWords e = omega arith
-positive NumberOutOfRange e = omega arith
-positive TextBroken e = omega arith
-positive TooDeep e = omega arith
-positive TooMuch e = omega arith
-positive NoRoom e = omega arith
-positive NoSuchSuccess e = omega arith
-positive TooManyCalls e = omega arith
-positive AnswerNotAfterStart e = omega arith
-positive NoListing e = omega arith
-positive SeasonFull e = omega arith
-positive TooManyTurns e = omega arith
-positive NoSuchNumber e = omega arith
-positive NotASchedule e = omega arith
-positive ROutOfRange e = omega arith
-positive NoSuchRecord e = omega arith
-positive BadTrailer e = omega arith
-positive BadRecord e = omega arith
-positive ProcessInBoth e = omega arith
-positive TooLittleRoom e = omega arith
-
 -- the entry: refused, or not
 module _ (a b out : List ℕ) where
   pub merge_refused : (r : Refusal) → RefusedWith a b (length out) r → (record { number = refusal_number r; written = 0 }, out) ≡ merge_files a b out
   unfolding merge_files
   merge_refused r e =
-      ap (λ (t : Bool). chosen t) (sym (ne_eqb (refusal_number r) 0 (positive r))) ∙ ap (λ (k : ℕ). merged k (merged_file a b) out) (sym e)
+      ap (λ (t : Bool). chosen t) (sym (ne_eqb (refusal_number r) 0 (number_some r))) ∙ ap (λ (k : ℕ). merged k (merged_file a b) out) (sym e)
     where
       chosen : Bool → Merged × List ℕ
       chosen t = cond t (record { number = 0; written = length (merged_file a b) }, sets out 0 (merged_file a b)) (record { number = refusal_number r; written = 0 }, out)

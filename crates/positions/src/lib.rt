@@ -8,7 +8,7 @@ ghost use Rattle.positions.specs.Positions.{counted as Positions·counted};
 ghost use Rattle.positions.specs.Brackets.{opens_here, closed_with, unclosed_in};
 
 // Line feeds passed, and the bytes since the last of them: one less than line and column.
-#[derive(Clone, Copy)]
+#[derive(Clone, Copy, Default)]
 pub struct Seen {
     pub feeds: usize,
     pub since: usize,
@@ -54,15 +54,7 @@ pub enum StopReport {
 pub fn look(before: &[u8]) -> Seen
     ensures { result ≡ seen_in before.now }
 {
-    let mut s = Seen {
-        feeds: 0,
-        since: 0,
-        spaces: 0,
-        last: None,
-        earlier: None,
-        mark: None,
-        solid: None,
-    };
+    let mut s = Seen::default();
     for b in before {
         s = on_byte(s, *b);
     }

@@ -13,9 +13,9 @@ use mir.Syntax.{w64}
 use mir.Val.{Fits}
 use denote.Ref.{Bor}
 use Rattle.llsc.specs.Rows.{row2, row8always}
+use Rattle.llsc.proofs.RefusalNumbers.{number_some}
 use Rattle.model.specs.Refusals.{row3view, row15}
 use Rattle.model.specs.View.{Part, view_number, view_part, view}
-use Rattle.rows.proofs.Refused.{number_some}
 use Rattle.rows.proofs.RowLaws.{cleared, w_in}
 
 -- what it means that no row of a view holds: value k begins after k-1 values and ends within the list
