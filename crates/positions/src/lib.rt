@@ -98,7 +98,7 @@ fn counted(n: usize, more: bool) -> usize
 }
 
 // The place of the last `(` that no `)` closes, if there is one.
-#[tactic(auto, using(crate::proofs::BracketLaws::found, crate::proofs::BracketLaws::passed, crate::proofs::BracketLaws::none_left, crate::proofs::BracketLaws::one_more))]
+#[tactic(auto, using(crate::proofs::BracketLaws::unclosed_laws))]
 pub fn unclosed(text: &[u8]) -> Option<usize>
     ensures { result ≡ unclosed_in text.now }
 {
