@@ -32,6 +32,7 @@ use Rattle.boards.specs.declared.merging.Left.{Left}
 use Rattle.boards.specs.declared.Merged.{Merged}
 use Rattle.boards.proofs.FrontLaws.{four_drop, read_chunks, good_chunks, so_many, chunks_taken}
 use Rattle.boards.proofs.LoopLaws.{length_read}
+use Rattle.std.proofs.lemmas.Result.{err_from_is_err_and}
 
 -- what a good trailer says
 pub record Trailed (bs : List ℕ) : Type 0 where
@@ -274,3 +275,9 @@ module _ (a b out : List ℕ) where
         ap (λ (x : ℕ × List ℕ). (record { number = 0; written = x.0 }, x.1)) e
         ∙ ap₂ (λ xs ys. (record { number = 0; written = length (encode (merge xs ys)) }, sets out 0 (encode (merge xs ys)))) (reads ra) (reads rb)
         ∙ ap (λ (x : ℕ). merged x (merged_file a b) out) (sym h.number)
+
+-- what `records_of` rests on
+pub ruleset records_laws = (too_short, too_long, not_marked, ends_elsewhere, is_good, cut_there, offset_is, count_is)
+
+-- what `records_of_both` rests on
+pub ruleset both_laws = (err_from_is_err_and, no_records, its_records, few, first_trailer, second_trailer)

@@ -50,6 +50,7 @@ pub enum StopReport {
 }
 
 // The bytes before the place, one after another.
+#[tactic(auto, using(crate::proofs::PositionLaws::all_seen))]
 pub fn look(before: &[u8]) -> Seen
     ensures { result ≡ seen_in before.now }
 {
@@ -97,6 +98,7 @@ fn counted(n: usize, more: bool) -> usize
 }
 
 // The place of the last `(` that no `)` closes, if there is one.
+#[tactic(auto, using(crate::proofs::BracketLaws::unclosed_laws))]
 pub fn unclosed(text: &[u8]) -> Option<usize>
     ensures { result ≡ unclosed_in text.now }
 {
