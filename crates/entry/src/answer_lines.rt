@@ -8,6 +8,7 @@ use model::Reply;
 use words::word_places;
 
 // The line of a reply to process p; none where there is no answer.
+// Kept: an arm for each answer of the bench's own Reply; Moir's has one more, and its words lie in other rows.
 pub fn answer_line(reply: Reply, p: u64, n: usize, w: usize, words: &[u64], to: &mut Writer<'_>)
     requires { Listable reply p n w words.now to.old }
     ensures { Writes to.old (answer_line n w words.now p reply) to.new }

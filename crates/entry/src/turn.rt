@@ -8,7 +8,7 @@ use model::Process;
 use notation::Entry;
 use steps::orders;
 use taken::Taken;
-use text_runs::entries as text_entries;
+use text_runs::{entries as text_entries, traces as text_traces};
 
 // The places and the process as the entry leaves them.
 #[derive(Clone, Copy)]
@@ -39,7 +39,7 @@ pub fn carry(
     entries::offer(e, n, w, own, words);
     let stepped = orders::obey_taken(order, n, w, own, process, taken, words);
     let reply = stepped.reply;
-    traces::trace_line(access, k, e, reply, to);
+    text_traces::trace_line(access, k, e, traces::answers(reply), to);
     answer_lines::answer_line(reply, p, n, w, words, to);
     let left = stepped.taken;
     let next = stepped.process;

@@ -14,7 +14,7 @@ use moir_rows::table;
 use moir_steps::orders;
 use notation::Entry;
 use text_runs::entries::{order_of, process_of};
-use text_runs::limits;
+use text_runs::{limits, traces};
 
 // A run in progress: bench and records, the entries done, and whether it is traced. Its lines go to a writer.
 #[derive(Clone, Copy)]
@@ -43,7 +43,7 @@ fn accepted(run: Run, e: Entry, to: &mut Writer<'_>, words: &mut [u64]) -> Run
     let order = order_of(e);
     let moved = orders::obey(order, own, &value[..count], bench, process, words);
     let k = run.entries + 1;
-    written_lines::trace_line(access, k, e, moved.reply, to);
+    traces::trace_line(access, k, e, written_lines::answers(moved.reply), to);
     written_lines::answer_line(moved.reply, p, moved.bench, words, to);
     all[place] = moved.process;
     Run {

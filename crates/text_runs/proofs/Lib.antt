@@ -9,3 +9,4 @@ pub mod TextLaws
 pub mod StopLaws
 pub mod FaultLaws
 pub mod LastLaws
+pub mod TraceLengths

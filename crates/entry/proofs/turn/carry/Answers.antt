@@ -5,4 +5,4 @@ use Rattle.entry.proofs.turn.carry.Goals as goal
 pub returns : goal.returns
 returns c =
     turn_made c.requires c.process_of-p.ensures c.order_of-order.ensures c.access_seen-access.ensures c.offer.ensures c.obey_taken-stepped.ensures
-    c.trace_line.ensures c.answer_line.ensures
+    c.answers.ensures c.trace_line.ensures c.answer_line.ensures

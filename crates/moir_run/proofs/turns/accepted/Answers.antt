@@ -37,13 +37,13 @@ pub trace_line-requires : goal.trace_line-requires
 trace_line-requires c =
     shown_room c.requires c.process_of-p.ensures (own_at c.args.run.all c.record_place-place.ensures)
     c.value_of-value.ensures c.words_of-count.ensures c.order_of-order.ensures c.obey-moved.ensures c.access_seen-access.ensures
-    (record { list = refl; place = refl })
+    c.answers.ensures (record { list = refl; place = refl })
 
 pub answer_line-requires : goal.answer_line-requires
 answer_line-requires c =
     listable_as c.requires c.process_of-p.ensures (own_at c.args.run.all c.record_place-place.ensures)
     c.value_of-value.ensures c.words_of-count.ensures c.order_of-order.ensures c.obey-moved.ensures c.access_seen-access.ensures
-    (record { list = refl; place = refl }) c.trace_line.ensures
+    c.answers.ensures (record { list = refl; place = refl }) c.trace_line.ensures
 
 pub offset_bounds-all-place-2 : goal.offset_bounds-all-place-2
 offset_bounds-all-place-2 c = omega (arith, c.record_place-place.ensures, process_few c.requires c.process_of-p.ensures)
@@ -55,5 +55,5 @@ pub returns-clause-is : goal.returns-clause-is
 returns-clause-is c =
     carried_as c.requires c.process_of-p.ensures (own_at c.args.run.all c.record_place-place.ensures)
     c.value_of-value.ensures c.words_of-count.ensures c.order_of-order.ensures c.obey-moved.ensures c.access_seen-access.ensures
-    (record { list = refl; place = refl }) c.trace_line.ensures c.answer_line.ensures
+    c.answers.ensures (record { list = refl; place = refl }) c.trace_line.ensures c.answer_line.ensures
     (ap (λ (i : ℕ). set c.args.run.all i c.obey-moved.result.process) c.record_place-place.ensures)
