@@ -9,6 +9,7 @@ use crate::{entries, written_lines};
 use listing::Writer;
 use llsc::ProcessNumber;
 use llsc::refusals::Refusal;
+use moir_access::access_of;
 use moir_model::{Bench, Process};
 use moir_rows::table;
 use moir_steps::orders;
@@ -37,7 +38,9 @@ fn accepted(run: Run, e: Entry, to: &mut Writer<'_>, words: &mut [u64]) -> Run
     let own = ProcessNumber(p as u8);
     let place = own.record_place();
     let process = all[place];
-    let access = written_lines::access_seen(run.traced, bench, own, process, words);
+    let access = run
+        .traced
+        .then(|| access_of::access_of(bench, own, process, words));
     let value = [entries::value_of(e); 64];
     let count = entries::words_of(e, bench.w);
     let order = order_of(e);

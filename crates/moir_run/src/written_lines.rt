@@ -1,14 +1,12 @@
-// The lines of an accepted entry: what a trace shows of it, and in both styles the line of its answer.
+// The answer of an accepted entry and its line, in a listing and in a trace.
 ghost use Rattle.std.specs.Prelude.{◌≡◌};
 ghost use Rattle.listing.specs.Writing.{Fits, Writes};
-ghost use Rattle.moir_steps.specs.Ranges.{Ready};
 ghost use Rattle.moir_semantics.specs.TextRun.{answers, named_line};
-ghost use Rattle.moir_run.specs.Turned.{answer_line, Listable, access_seen};
+ghost use Rattle.moir_run.specs.Turned.{answer_line, Listable};
 
 use listing::Writer;
 use llsc::ProcessNumber;
-use moir_access::{Access, access_of};
-use moir_model::{Bench, Process, Reply};
+use moir_model::{Bench, Reply};
 use moir_steps::word_places::Row;
 
 // The line of a WLL that names a process.
@@ -37,24 +35,6 @@ pub fn answer_line(reply: Reply, p: u64, bench: Bench, words: &[u64], to: &mut W
         Reply::WllNamed(q, count) => named_line(to, p, count as u64, q.0 as u64),
         Reply::ScAnswered(t, count) => to.truth_line(p, b'S', count as u64, t),
         Reply::VlAnswered(t, count) => to.truth_line(p, b'V', count as u64, t),
-    }
-}
-
-// The access that a trace shows of an entry, seen in the memory before it; a listing shows none.
-pub fn access_seen(
-    traced: bool,
-    bench: Bench,
-    p: ProcessNumber,
-    process: Process,
-    words: &[u64],
-) -> Option<Access>
-    requires { Ready bench process p words.now }
-    ensures { result ≡ access_seen traced p bench process words.now }
-{
-    if traced {
-        Some(access_of::access_of(bench, p, process, words))
-    } else {
-        None
     }
 }
 

@@ -10,3 +10,4 @@ pub mod StopLaws
 pub mod FaultLaws
 pub mod LastLaws
 pub mod TraceLengths
+pub mod ShownLaws
