@@ -8,3 +8,4 @@ pub mod limits;
 pub mod lists;
 pub mod reports;
 pub mod runs;
+pub mod traces;
