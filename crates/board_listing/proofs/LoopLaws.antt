@@ -13,11 +13,28 @@ use borrow.Author.Tests.{eq-eqb, ne_eqb}
 use Rattle.notation.specs.declared.Entry.{Entry}
 use Rattle.boards.specs.Files.{BoardRecord, record_of}
 use Rattle.boards.specs.Places.{read}
-use Rattle.semantics.specs.TextRun.{Progress, single}
-use Rattle.entry.specs.RunState.{RunState, progress, Small, Becomes}
+use Rattle.semantics.specs.TextRun.{figure2, Progress, single}
+use Rattle.std.specs.Prelude.{Result, Ok, Err}
+use Rattle.llsc.specs.declared.refusals.Refusal.{Refusal}
+use Rattle.text_runs.specs.Carrying.{Turned, turn_number}
+use Rattle.entry.specs.RunState.{RunState, progress, Sound, Small, Becomes}
 use Rattle.board_listing.specs.BoardListing.{entry_of, obeyed, obey_all}
-use Rattle.board_listing.specs.ListedRun.{recounted, counted_state, Between, Obeys}
+use Rattle.board_listing.specs.ListedRun.{recounted, counted_state, stopped_state, Between, Obeys}
+use Rattle.board_listing.specs.declared.ending.Stopped.{Stopped}
 use Rattle.board_listing.proofs.RecordLaws.{counts, stops, stays_listed, writes_none, room_left}
+
+-- an entry's turn, as it is said of a run
+pub turned_becomes : {e : Entry} {out : Result Bool Refusal} (h h' : RunState) {a b : ℕ} → a ≡ 16 → b ≡ a → Turned figure2 e (progress a h) out (progress b h')
+    → Sound b h' → length h'.words ≡ length h.words → length h'.listing ≡ length h.listing → Becomes 16 (single e) h h'
+turned_becomes h h' {b = b} x y t s w l = let z : b ≡ 16 = y ∙ x in record { same = rw (x, z) at t.same; kept = record { sound = rw z at s; words = w; listing = l } }
+
+pub not_stopped : (r : Result Bool Refusal) → ((x : Refusal) → r ≡ Err x → ⊥) → turn_number r ≡ 0
+not_stopped (Ok x) n = refl
+not_stopped (Err x) n = absurd (n x refl)
+
+-- the bytes after the loop are those that the writer had
+pub in_list : {rs : List BoardRecord} {h : RunState} {ws l l' : List ℕ} (s : Stopped) → l' ≡ l → Obeys rs h (stopped_state s ws l) → Obeys rs h (stopped_state s ws l')
+in_list {rs} {h} {ws} s e o = subst (λ (y : List ℕ). Obeys rs h (stopped_state s ws y)) (sym e) o
 
 -- what is left, and what is still to be done, is the whole
 pub record Obeying (bs : List (List ℕ)) (h₀ h : RunState) (done : ℕ) : Type 0 where
@@ -104,15 +121,15 @@ module _ {bs : List (List ℕ)} {h₀ h : RunState} {done : ℕ} (m : Obeying bs
           same = opened (recounted (done + 1) t) one ∙ ap (further (recounted (done + 1) t)) (eq-eqb h'.stop 0 z);
         }
 
-  pub all_done : length bs ≤ 9999999 → length bs ≡ done → Obeys (read bs) h₀ (counted_state done h)
+  pub all_done : length bs ≤ 9999999 → length bs ≡ done → Obeys (read bs) h₀ (counted_state (length bs) h)
   unfolding obey_all
   all_done few z =
       let d = m.between in
-      record {
+      subst (λ (k : ℕ). Obeys (read bs) h₀ (counted_state k h)) (sym z) (record {
         same = sym (m.same ∙ rw (drop_all done bs (omega arith)) refl);
         words = m.words;
         listing = m.listing;
         room = d.room;
         stop = d.sound.stop;
         few = omega arith;
-      }
+      })

@@ -6,7 +6,7 @@ ghost use Rattle.board_listing.specs.ListedRun.{fresh_state, stopped_state, Betw
 use crate::commands;
 use crate::ending::Stopped;
 use boards::records::Record;
-use carrying::Lent;
+use carrying::LentHeld;
 use entry::state::Held;
 use listing::Writer;
 use text_runs::entry_loop::Carrier;
@@ -21,7 +21,7 @@ pub fn obey_records(
     requires { (Between (fresh_state held words.old list.old)) × (length records.now ≤ 9999999) }
     ensures { Obeys (read records.now) (fresh_state held words.old list.old) (stopped_state result words.new list.new) }
 {
-    let mut lent = Lent { held, len: 16 };
+    let mut lent = LentHeld { held, len: 16 };
     let mut to = Writer { list, written: 0 };
     for (done, bytes) in records.iter().enumerate() {
         let e = commands::entry_of(bytes);

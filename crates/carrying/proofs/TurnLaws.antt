@@ -26,7 +26,7 @@ use Rattle.taken.proofs.IndexLaws.{bank_index_small, help_index_small}
 use Rattle.notation.specs.declared.Entry.{Entry}
 use Rattle.notation.specs.declared.Entry.TheVariants.{StartLl, StartVl, StartSc, Step, Finish}
 use Rattle.listing.specs.declared.Writer.{Writer}
-use Rattle.entry.specs.declared.turn.Turn.{Turn}
+use Rattle.taken.specs.declared.Stepped.{Stepped}
 use Rattle.text_runs.specs.TextRun.{room_needed, process_of, order_of}
 use Rattle.text_runs.specs.Carrying.{gone_on}
 use Rattle.semantics.specs.TextRun.{figure2, Progress, single}
@@ -158,7 +158,7 @@ module _ {len n w needed p : ℕ} {k : ProcessNumber} {h : RunState} {e : Entry}
         pub turnable : {to : Writer} → goes_to to → Turnable h.run.traced (h.run.entries + 1) e n w places q h.words to
         turnable g = rw (is_own, x.n_is, x.w_is) (entry_turnable e x.small x.sound x.goes x.needed_is free at_bank at_help et g.0 g.1)
 
-        module _ {to to' : Writer} (g : goes_to to) {r : Turn} {ws : List ℕ} (turn : Turns h.run.traced (h.run.entries + 1) e n w places q h.words to r ws to') where
+        module _ {to to' : Writer} (g : goes_to to) {r : Stepped} {ws : List ℕ} (turn : Turns h.run.traced (h.run.entries + 1) e n w places q h.words to r ws to') where
           turn_own : Turns h.run.traced (h.run.entries + 1) e b.n b.w places own h.words to r ws to'
           turn_own = rw (is_own, x.n_is, x.w_is) at turn
 

@@ -5,11 +5,11 @@ use Rattle.listing.specs.declared.Writer.{Writer}
 use Rattle.text_runs.specs.declared.runs.Run.{Run}
 use Rattle.entry.specs.declared.state.Held.{Held}
 use Rattle.entry.specs.RunState.{RunState, state_of}
-use Rattle.carrying.specs.declared.Lent.{Lent}
+use Rattle.carrying.specs.declared.LentHeld.{LentHeld}
 
 -- the run without the count of what is lent
-abbrev pub held_run : Run Lent → Run Held
+abbrev pub held_run : Run LentHeld → Run Held
 held_run r = record { held = r.held.held; entries = r.entries; traced = r.traced }
 
-abbrev pub lent_state : Run Lent → ℕ → List ℕ → Writer → RunState
+abbrev pub lent_state : Run LentHeld → ℕ → List ℕ → Writer → RunState
 lent_state r k ws to = state_of (held_run r) k ws to

@@ -17,12 +17,12 @@ use text_runs::{entries as text_entries, limits};
 
 // What a run holds, and how many of its records are lent: the rest are fillers.
 #[derive(Clone, Copy)]
-pub struct Lent {
+pub struct LentHeld {
     pub held: Held,
     pub len: usize,
 }
 
-impl Carrier for Lent {
+impl Carrier for LentHeld {
     ghost machine = { figure2 };
 
     ghost progress = { λ r k ws to. progress r.held.len (lent_state r k ws to) };

@@ -35,7 +35,6 @@ use Rattle.notation.specs.declared.Entry.{Entry}
 use Rattle.notation.specs.declared.Entry.TheVariants.{StartLl, StartVl, StartSc, Step, Finish}
 use Rattle.listing.specs.declared.Writer.{Writer}
 use Rattle.listing.proofs.WritingLaws.{wrote, same}
-use Rattle.entry.specs.declared.turn.Turn.{Turn}
 use Rattle.text_runs.specs.TextRun.{most_entries, room_needed, process_of, order_of, value_of}
 use Rattle.semantics.specs.TextRun.{trace_line, single}
 use Rattle.entry.specs.RunState.{RunState, state_of, state_with, progress, Sound, Ready as Going, Becomes, Small, answer_line}
@@ -197,7 +196,7 @@ module _ {len : ℕ} {h : RunState} (e : Entry) (small : Small e) (s : Sound len
               }
 
           -- one entry more
-          module _ {r : Turn} {ws : List ℕ} {to' : Writer} (turn : Turns h.run.traced (h.run.entries + 1) e b.n b.w t q h.words to r ws to') where
+          module _ {r : Stepped} {ws : List ℕ} {to' : Writer} (turn : Turns h.run.traced (h.run.entries + 1) e b.n b.w t q h.words to r ws to') where
             abbrev after : RunState
             after = state_of (record {
               held = record { bench = put_taken b i j r.taken; all = set list p r.process };

@@ -12,12 +12,14 @@ ghost use Rattle.moir_run.specs.Finished.{Headed, Roomy};
 
 use crate::turns::Held;
 use listing::Writer;
+use llsc::counts::Width;
 use llsc::refusals::Refusal;
 use moir_machine::setting_up;
 use moir_model::Process;
 use notation::items::Items;
 use notation::{First, items};
 use positions::{Sizes, StopReport};
+use rows::table::Lent;
 use text_runs::runs::{Finished, Run};
 use text_runs::{entry_loop, limits, lists, reports, runs};
 
@@ -53,7 +55,13 @@ fn started(traced: bool, first: First, kept: &[u64], list: &mut [u8]) -> Finishe
 {
     let n = first.n as usize;
     let w = first.w as usize;
-    match setting_up::set_up_refusal(n, w, 16, 3136, w) {
+    let lent = Lent {
+        n,
+        w,
+        records: 16,
+        words: 3136,
+    };
+    match setting_up::set_up_refusal(lent, w) {
         Err(refusal) => {
             let sizes = Sizes {
                 n: first.n,
@@ -65,7 +73,7 @@ fn started(traced: bool, first: First, kept: &[u64], list: &mut [u8]) -> Finishe
             let mut words = no_words();
             let value = lists::repeated(first.initial);
             setting_up::words_at_set_up(&mut words, n, w, &value[..w]);
-            let bench = setting_up::bench_at_set_up(moir_model::empty_bench(), n, w);
+            let bench = setting_up::bench_at_set_up(moir_model::empty_bench(), n, Width { w });
             let all = records();
             let run = Run::fresh(Held { bench, all }, traced);
             let mut to = Writer { list, written: 0 };

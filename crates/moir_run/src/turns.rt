@@ -11,13 +11,14 @@ use crate::{entries, written_lines};
 use listing::Writer;
 use llsc::ProcessNumber;
 use llsc::refusals::Refusal;
+use moir_access::access_of;
 use moir_model::{Bench, Moved, Process};
 use moir_rows::table;
 use moir_steps::orders;
 use notation::Entry;
 use text_runs::entries::{order_of, process_of};
 use text_runs::entry_loop::Carrier;
-use text_runs::{limits, lists};
+use text_runs::{limits, lists, traces};
 
 // What a run holds: bench and records.
 #[derive(Clone, Copy)]
@@ -60,10 +61,10 @@ fn accepted(
     let own = ProcessNumber(p as u8);
     let place = own.record_place();
     let process = held.all[place];
-    let access = written_lines::access_seen(traced, bench, own, process, words);
+    let access = traced.then(|| access_of::access_of(bench, own, process, words));
     let moved = obeyed(e, own, bench, process, words);
     let k = done + 1;
-    written_lines::trace_line(access, k, e, moved.reply, to);
+    traces::trace_line(access, k, e, written_lines::answers(moved.reply), to);
     written_lines::answer_line(moved.reply, p, moved.bench, words, to);
     held.bench = moved.bench;
     held.all[place] = moved.process;

@@ -9,13 +9,15 @@ ghost use Rattle.text_runs.specs.KeptEntries.{entries_in, places_in};
 ghost use Rattle.run.specs.Finished.{memory_of, at_most_sixteen, Answers, Lending, Headed, TextRan, started_with, report_with, says_after};
 
 use crate::set_up;
-use carrying::Lent;
+use carrying::LentHeld;
 use entry::state::Held;
 use listing::Writer;
+use llsc::counts::Processes;
 use llsc::refusals::Refusal;
 use notation::items::Items;
 use notation::{First, items};
 use positions::{Sizes, StopReport};
+use rows::table::Lent;
 use text_runs::runs::{Finished, Run};
 use text_runs::{entry_loop, limits, lists, reports, runs};
 
@@ -39,7 +41,13 @@ fn started(
 {
     let n = first.n as usize;
     let w = first.w as usize;
-    if let Err(cause) = setup::set_up_refusal(n, w, len, words.len(), w) {
+    let lent = Lent {
+        n,
+        w,
+        records: len,
+        words: words.len(),
+    };
+    if let Err(cause) = setup::set_up_refusal(lent, w) {
         let sizes = Sizes {
             n: first.n,
             w: first.w,
@@ -48,10 +56,11 @@ fn started(
     }
     let value = lists::repeated(first.initial);
     setup::words_at_set_up(words, n, w, &value[..w]);
-    let bench = setup::bench_at_set_up(held.bench, n, w);
-    let all = set_up::records_at_set_up(held.all, n);
+    let count = Processes { n };
+    let bench = setup::bench_at_set_up(held.bench, count, w);
+    let all = set_up::records_at_set_up(held.all, count);
     let held = Held { bench, all };
-    let run = Run::fresh(Lent { held, len }, traced);
+    let run = Run::fresh(LentHeld { held, len }, traced);
     let mut to = Writer { list, written: 0 };
     let carried = entry_loop::carry_out(run, entries, words, &mut to);
     let outcome = carried.outcome;

@@ -83,7 +83,7 @@ fn processes_ran(
 }
 
 // Where N is still 0, the run was refused before its set-up, and nothing is to be stored.
-#[tactic(auto, unfolding(crate::specs::TextByValue::put_back))]
+#[tactic(auto, unfolding(crate::specs::TextByValue::put_back), using(run::proofs::RecordLaws::sixteen_most))]
 fn put_back(station: Station, all: [StationProcess; 16], out: Finished<Held>) -> RunLeft
     ensures { result ≡ put_back station all out }
 {
@@ -117,6 +117,7 @@ fn put_back(station: Station, all: [StationProcess; 16], out: Finished<Held>) ->
 }
 
 // `all` holds the first sixteen of `len` lent process records, with a filler where there are fewer.
+#[tactic(auto, using(crate::proofs::StoredRun::run_put_back))]
 pub fn run_by_value(
     station: Station,
     all: [StationProcess; 16],

@@ -10,3 +10,5 @@ pub mod TextLaws
 pub mod StopLaws
 pub mod FaultLaws
 pub mod LastLaws
+pub mod TraceLengths
+pub mod ShownLaws

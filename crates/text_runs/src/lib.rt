@@ -9,3 +9,4 @@ pub mod limits;
 pub mod lists;
 pub mod reports;
 pub mod runs;
+pub mod traces;

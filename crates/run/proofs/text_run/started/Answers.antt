@@ -5,7 +5,7 @@ use native.Mathlib.Omega.{arith}
 use Rattle.std.proofs.Common.{rules}
 use lib.ListN.{length, length-replicate}
 use lib.Seq.{length-sets}
-use Rattle.rows.proofs.Refused.{number_some}
+use Rattle.llsc.proofs.RefusalNumbers.{number_some}
 use Rattle.carrying.proofs.TurnLaws.{not_refused}
 use Rattle.setup.specs.SetUpByValue.{Accepted}
 use Rattle.entry.specs.RunState.{state_with, Filled, Sound}
@@ -18,7 +18,7 @@ use Rattle.run.proofs.StopLaws.{refused_report, begun_report}
 use Rattle.text_runs.specs.declared.runs.Run.{Run}
 use Rattle.text_runs.proofs.StopLaws.{stop_within, item_read}
 use Rattle.semantics.specs.TextRun.{figure2}
-use Rattle.carrying.specs.declared.Lent.{Lent}
+use Rattle.carrying.specs.declared.LentHeld.{LentHeld}
 use Rattle.carrying.specs.Carried.{held_run, lent_state}
 use Rattle.run.proofs.text_run.started.Goals as goal
 
@@ -59,19 +59,12 @@ words_at_set_up-requires c =
     let ok = accepted a.traced a.held a.words.now c.requires.0 a.first.n a.first.w a.first.initial c.requires.1 e in
     subst (λ (j : ℕ). Accepted a.first.n a.first.w (length a.words.now) j) (prefix_length ok.w_most c.repeated-value.ensures) ok
 
-pub bench_at_set_up-bench-requires : goal.bench_at_set_up-bench-requires
-bench_at_set_up-bench-requires c =
+pub invariant_of-count : goal.invariant_of-count
+invariant_of-count c =
     let a = c.args in
     let e = not_refused c.set_up_refusal.result c.set_up_refusal.ensures c.in_default.not-Err in
     let ok = accepted a.traced a.held a.words.now c.requires.0 a.first.n a.first.w a.first.initial c.requires.1 e in
-    ok.n_most
-
-pub records_at_set_up-all-requires : goal.records_at_set_up-all-requires
-records_at_set_up-all-requires c =
-    let a = c.args in
-    let e = not_refused c.set_up_refusal.result c.set_up_refusal.ensures c.in_default.not-Err in
-    let ok = accepted a.traced a.held a.words.now c.requires.0 a.first.n a.first.w a.first.initial c.requires.1 e in
-    ok.n_most
+    record { most = ok.n_most }
 
 pub carry_out-carried-requires : goal.carry_out-carried-requires
 carry_out-carried-requires c =
@@ -79,7 +72,7 @@ carry_out-carried-requires c =
     let e = not_refused c.set_up_refusal.result c.set_up_refusal.ensures c.in_default.not-Err in
     let begins = first_state_is a.traced a.held a.words.now c.requires.0 a.first.n a.first.w a.first.initial c.requires.1 e
     (ap held_run c.fresh-run.ensures) c.bench_at_set_up-bench.ensures c.records_at_set_up-all.ensures c.words_at_set_up.ensures c.repeated-value.ensures in
-    let lent = ap (λ (r : Run Lent). r.held.len) c.fresh-run.ensures in
+    let lent = ap (λ (r : Run LentHeld). r.held.len) c.fresh-run.ensures in
     let sound = begun_sound a.traced a.held a.words.now c.requires.0 a.first.n a.first.w a.first.initial c.requires.1 e
     (record { bank = omega arith; help = omega arith }) in
     subst (λ (j : ℕ). Sound j (state_with (held_run c.fresh-run.result) 0 c.words_at_set_up.new.words a.list.now 0)) (sym lent) (subst (Sound a.len) (sym begins) sound)
@@ -102,7 +95,7 @@ returns c =
     let e = not_refused c.set_up_refusal.result c.set_up_refusal.ensures c.in_default.not-Err in
     let begins = first_state_is a.traced a.held a.words.now c.requires.0 a.first.n a.first.w a.first.initial c.requires.1 e
     (ap held_run c.fresh-run.ensures) c.bench_at_set_up-bench.ensures c.records_at_set_up-all.ensures c.words_at_set_up.ensures c.repeated-value.ensures in
-    let lent = ap (λ (r : Run Lent). r.held.len) c.fresh-run.ensures in
+    let lent = ap (λ (r : Run LentHeld). r.held.len) c.fresh-run.ensures in
     let out = c.carry_out-carried in
     let before = state_with (held_run c.fresh-run.result) 0 c.words_at_set_up.new.words a.list.now 0 in
     let after = lent_state out.result.run (number_told out.result.outcome) out.new.words out.new.to in

@@ -7,7 +7,7 @@ use Rattle.std.proofs.lemmas.Result.{err_from_is_err_and}
 use Rattle.llsc.specs.Refusals.{number_told}
 use Rattle.text_runs.specs.Parts.{before_entry}
 use Rattle.moir_semantics.specs.TextRun.{Progress}
-use Rattle.moir_machine.proofs.RowLaws.{told_some}
+use Rattle.llsc.proofs.RefusalNumbers.{number_some}
 use Rattle.moir_run.specs.RunState.{progress, Sound}
 use Rattle.moir_run.proofs.EntryLaws.{goes_stays}
 use Rattle.moir_run.proofs.TurnLaws.{number_as, turn_before, turn_through, turn_refused_is, turn_free, turn_made, sound_single, single_words, single_listing}
@@ -19,7 +19,7 @@ returns-in_err-before_entry-clause-is c =
     let p = err_from_is_err_and c.from_residual.result c.from_residual.ensures.1 in
     let room = length a.to.now.list.now - a.to.now.written in
     let found = ap number_told c.in_err-before_entry.ensures ∙ ap (λ (n : ℕ). number_told (before_entry a.done room n)) c.room_needed-needed.ensures in
-    let stops = turn_before a.e c.requires.0 refl c.requires.1 found (told_some _) in
+    let stops = turn_before a.e c.requires.0 refl c.requires.1 found (number_some _) in
     rw (p.1, p.2) (record { same = stops; stays = tt })
 
 pub returns-in_err-before_entry-clause-sound : goal.returns-in_err-before_entry-clause-sound
@@ -28,7 +28,7 @@ returns-in_err-before_entry-clause-sound c =
     let p = err_from_is_err_and c.from_residual.result c.from_residual.ensures.1 in
     let room = length a.to.now.list.now - a.to.now.written in
     let found = ap number_told c.in_err-before_entry.ensures ∙ ap (λ (n : ℕ). number_told (before_entry a.done room n)) c.room_needed-needed.ensures in
-    let stops = turn_before a.e c.requires.0 refl c.requires.1 found (told_some _) in
+    let stops = turn_before a.e c.requires.0 refl c.requires.1 found (number_some _) in
     rw (p.1, p.2) (subst Sound (sym stops) (sound_single a.e c.requires.0 refl c.requires.1))
 
 pub returns-in_err-refusal-clause-is : goal.returns-in_err-refusal-clause-is
@@ -40,7 +40,7 @@ returns-in_err-refusal-clause-is c =
     let free = turn_through a.e c.requires.0 refl c.requires.1 found refl in
     let stops = turn_refused_is a.e c.requires.0 refl c.requires.1 free.0 free.1
     (number_as a.e c.requires.0 c.in_err-refusal.ensures c.process_of-p.ensures c.order_of-order.ensures c.words_of-count.ensures)
-    (told_some _) in
+    (number_some _) in
     rw (p.1, p.2) (record { same = stops; stays = tt })
 
 pub returns-in_err-refusal-clause-sound : goal.returns-in_err-refusal-clause-sound
@@ -52,7 +52,7 @@ returns-in_err-refusal-clause-sound c =
     let free = turn_through a.e c.requires.0 refl c.requires.1 found refl in
     let stops = turn_refused_is a.e c.requires.0 refl c.requires.1 free.0 free.1
     (number_as a.e c.requires.0 c.in_err-refusal.ensures c.process_of-p.ensures c.order_of-order.ensures c.words_of-count.ensures)
-    (told_some _) in
+    (number_some _) in
     rw (p.1, p.2) (subst Sound (sym stops) (sound_single a.e c.requires.0 refl c.requires.1))
 
 pub accepted-requires : goal.accepted-requires
