@@ -89,12 +89,7 @@ pub fn ended<H: Copy>(
 }
 
 // A run that is refused before its set-up: its last line alone.
-pub fn refused<H: Copy>(
-    held: H,
-    cause: Refusal,
-    report: StopReport,
-    list: &mut [u8],
-) -> Finished<H>
+pub fn refused<H: Copy>(held: H, cause: Refusal, report: StopReport, list: &mut [u8]) -> Finished<H>
     requires { (refusal_number cause ≤ 15) × (room_needed false ≤ length list.old) }
     ensures { (result, list.new) ≡ closed_at held 0 (Err cause) report list.old 0 }
 {
