@@ -5,7 +5,10 @@
 ghost use Rattle.std.specs.Prelude.{◌≡◌};
 ghost use Rattle.llsc.specs.Rows.{is_start};
 
+pub mod calls;
 pub mod refusals;
+
+pub use crate::calls::CallKind;
 
 // A process's number, below N.
 #[derive(Clone, Copy, PartialEq, Eq)]
