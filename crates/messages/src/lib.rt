@@ -19,18 +19,15 @@ mod refusals;
 mod shown;
 
 use crate::calls::{Call, Figure};
-use llsc::refusals::Refusal;
-use positions::StopReport;
 use std::io;
 use std::io::{ErrorKind, Write};
 use std::process::ExitCode;
+use text_runs::runs::Finished;
 
-// A run of a text that has ended: whether it was refused, the entries done, and where in the text it stopped.
+// A run that has ended, whatever it held, and its text.
 #[derive(Clone, Copy)]
-pub struct Ended<'a> {
-    pub outcome: Result<(), Refusal>,
-    pub entries: usize,
-    pub report: StopReport,
+pub struct Ended<'a, H> {
+    pub run: Finished<H>,
     pub text: &'a [u8],
 }
 
@@ -64,26 +61,26 @@ pub fn output(to: &mut impl Write, errors: &mut impl Write, made: Option<&[u8]>)
 }
 
 // The message of a run. Nothing where it was not refused and no call is open.
-pub fn explain<W: Write>(to: &mut W, run: Ended, left: Left) -> io::Result<()>
-    ensures { IfOk run.entry.outcome (λ end. OnOk result (Appends (W.contents to.old) (W.contents to.new)
-        (still_open left run.entry.report))) }
+pub fn explain<W: Write, H: Copy>(to: &mut W, ended: Ended<'_, H>, left: Left) -> io::Result<()>
+    ensures { IfOk ended.entry.run.outcome (λ end. OnOk result (Appends (W.contents to.old) (W.contents to.new)
+        (still_open left ended.entry.run.report))) }
 {
-    if let Err(refusal) = run.outcome {
-        refusals::tell(to, refusal, run, &left)?;
+    if let Err(refusal) = ended.run.outcome {
+        refusals::tell(to, refusal, ended, &left)?;
     }
-    open_calls::still_open(to, run.report, &left)
+    open_calls::still_open(to, ended.run.report, &left)
 }
 
 // The end of a program that ran a text: the run's output, its message, and the status.
-pub fn conclude(
+pub fn conclude<H: Copy>(
     to: &mut impl Write,
     errors: &mut impl Write,
     made: Option<&[u8]>,
-    run: Ended,
+    ended: Ended<'_, H>,
     left: Left,
 ) -> ExitCode
     ensures { (exit_status result ≡ 0) ⊎ (exit_status result ≡ 141) }
 {
-    let told = output(to, errors, made).and_then(|()| explain(errors, run, left));
+    let told = output(to, errors, made).and_then(|()| explain(errors, ended, left));
     console::status(told)
 }

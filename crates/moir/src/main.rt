@@ -12,9 +12,7 @@ fn main(rt: HostRuntime) -> ExitCode {
     let mut list = console::large_buffer();
     let out = moir_run::texts::run_text(given, false, &mut list);
     let ended = messages::Ended {
-        outcome: out.outcome,
-        entries: out.entries,
-        report: out.report,
+        run: out,
         text: given,
     };
     messages::conclude(

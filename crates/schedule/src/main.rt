@@ -15,9 +15,7 @@ fn main(rt: HostRuntime) -> ExitCode {
     let held = Held::empty();
     let out = run::text_run::run_by_value(held, 16, false, &mut words, given, &mut list);
     let ended = messages::Ended {
-        outcome: out.outcome,
-        entries: out.entries,
-        report: out.report,
+        run: out,
         text: given,
     };
     messages::conclude(

@@ -22,9 +22,7 @@ fn main(rt: HostRuntime) -> Result<ExitCode, AllocError> {
     let trace = &list[..out.written.min(list.len())];
     let count = marking::output::mark_lines(trace, &mut marked);
     let ended = messages::Ended {
-        outcome: out.outcome,
-        entries: out.entries,
-        report: out.report,
+        run: out,
         text: given,
     };
     let status = messages::conclude(

@@ -17,9 +17,7 @@ fn main(rt: HostRuntime) -> Result<ExitCode, AllocError> {
     let held = Held::empty();
     let out = run::text_run::run_by_value(held, 16, true, &mut words, given, &mut list);
     let ended = messages::Ended {
-        outcome: out.outcome,
-        entries: out.entries,
-        report: out.report,
+        run: out,
         text: given,
     };
     let status = messages::conclude(
