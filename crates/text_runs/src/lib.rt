@@ -7,4 +7,5 @@ pub mod last_lines;
 pub mod limits;
 pub mod lists;
 pub mod reports;
+pub mod returned;
 pub mod runs;
