@@ -3,9 +3,8 @@
 ghost use Rattle.std.specs.Prelude.{◌≡◌, Some};
 ghost use Rattle.messages.specs.OpenLines.{figure_text, word_text, steps_text, told_text};
 
-use std::fmt;
-
 pub use llsc::CallKind as Kind;
+use std::fmt;
 
 // How a line moves words: a whole word to a step, or a half.
 #[derive(Clone, Copy, PartialEq, Eq)]

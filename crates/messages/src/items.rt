@@ -8,11 +8,7 @@ use std::io;
 use std::io::Write;
 
 // The entry, and its item, which stands at the place.
-pub(crate) fn entry<H: Copy>(
-    to: &mut impl Write,
-    ended: Ended<'_, H>,
-    place: usize,
-) -> io::Result<()> {
+pub(crate) fn entry(to: &mut impl Write, ended: Ended, place: usize) -> io::Result<()> {
     let (before, rest) = ended.text.split_at(saying::within(place, ended.text));
     let entry = ended.run.entries.saturating_add(1);
     write!(to, "entry {entry}, item ")?;

@@ -24,10 +24,10 @@ use std::io::{ErrorKind, Write};
 use std::process::ExitCode;
 use text_runs::runs::Finished;
 
-// A run that has ended, whatever it held, and its text.
+// A run that has ended, with the calls that it leaves, and its text.
 #[derive(Clone, Copy)]
-pub struct Ended<'a, H> {
-    pub run: Finished<H>,
+pub struct Ended<'a> {
+    pub run: Finished<Left>,
     pub text: &'a [u8],
 }
 
@@ -61,26 +61,25 @@ pub fn output(to: &mut impl Write, errors: &mut impl Write, made: Option<&[u8]>)
 }
 
 // The message of a run. Nothing where it was not refused and no call is open.
-pub fn explain<W: Write, H: Copy>(to: &mut W, ended: Ended<'_, H>, left: Left) -> io::Result<()>
+pub fn explain<W: Write>(to: &mut W, ended: Ended) -> io::Result<()>
     ensures { IfOk ended.entry.run.outcome (λ end. OnOk result (Appends (W.contents to.old) (W.contents to.new)
-        (still_open left ended.entry.run.report))) }
+        (still_open ended.entry.run.held ended.entry.run.report))) }
 {
     if let Err(refusal) = ended.run.outcome {
-        refusals::tell(to, refusal, ended, &left)?;
+        refusals::tell(to, refusal, ended)?;
     }
-    open_calls::still_open(to, ended.run.report, &left)
+    open_calls::still_open(to, ended.run.report, &ended.run.held)
 }
 
 // The end of a program that ran a text: the run's output, its message, and the status.
-pub fn conclude<H: Copy>(
+pub fn conclude(
     to: &mut impl Write,
     errors: &mut impl Write,
     made: Option<&[u8]>,
-    ended: Ended<'_, H>,
-    left: Left,
+    ended: Ended,
 ) -> ExitCode
     ensures { (exit_status result ≡ 0) ⊎ (exit_status result ≡ 141) }
 {
-    let told = output(to, errors, made).and_then(|()| explain(errors, ended, left));
+    let told = output(to, errors, made).and_then(|()| explain(errors, ended));
     console::status(told)
 }

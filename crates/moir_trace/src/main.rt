@@ -13,8 +13,9 @@ fn main(rt: HostRuntime) -> Result<ExitCode, AllocError> {
     // room for the trace of 60,000 entries
     let mut list = vec![in rt.alloc(); 0; 3145728]?;
     let out = moir_run::texts::run_text(given, true, &mut list);
+    let left = moir_messages::left(out.held);
     let ended = messages::Ended {
-        run: out,
+        run: out.holding(left),
         text: given,
     };
     let status = messages::conclude(
@@ -22,7 +23,6 @@ fn main(rt: HostRuntime) -> Result<ExitCode, AllocError> {
         &mut rt.stderr(),
         list.get(..out.written),
         ended,
-        moir_messages::left(out.held),
     );
     Ok(status)
 }

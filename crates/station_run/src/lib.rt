@@ -103,13 +103,7 @@ fn put_back(
 ) -> Finished<Option<Left>>
     ensures { result ≡ put_back station all out }
 {
-    Finished {
-        held: left_by_run(station, all, out.held),
-        outcome: out.outcome,
-        entries: out.entries,
-        written: out.written,
-        report: out.report,
-    }
+    out.holding(left_by_run(station, all, out.held))
 }
 
 // `all` holds the first sixteen of `len` lent process records, with a filler where there are fewer.
