@@ -7,7 +7,6 @@ use Rattle.model.specs.declared.Process.{Process}
 use Rattle.llsc.specs.Refusals.{number_told}
 use Rattle.entry.specs.declared.state.Held.{Held}
 use Rattle.text_runs.specs.declared.runs.Finished.{Finished}
-use Rattle.text_runs.specs.Returned.{holding}
 use Rattle.run.specs.Finished.{at_most_sixteen}
 use Rattle.station.specs.declared.Station.{Station}
 use Rattle.station.specs.declared.StationProcess.{StationProcess}
@@ -38,13 +37,10 @@ abbrev pub processes_ran : List StationProcess → List Process → ℕ → List
 processes_ran all rs k = firsts (put_at rs) 0 k all
 
 -- none where the run was refused before its set-up
-unfoldable pub left_by_run : Station → List StationProcess → Held → Option Left
-left_by_run s all h =
+unfoldable pub put_back : Station → List StationProcess → Held → Option Left
+put_back s all h =
     cond (eqb h.bench.n 0) None
     (Some (record { station = station_ran s h.bench; all = processes_ran all h.all (at_most_sixteen h.bench.n) }))
-
-abbrev pub put_back : Station → List StationProcess → Finished Held → Finished (Option Left)
-put_back s all out = holding out (left_by_run s all out.held)
 
 -- the lent memory once what the run left is stored back, with the words after it
 abbrev pub stored_back : Station → List StationProcess → List ℕ → Option Left → StationMemory

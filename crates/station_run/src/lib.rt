@@ -7,8 +7,7 @@ ghost use Rattle.std.specs.Prelude.{◌≡◌, ◌≤◌};
 ghost use Rattle.station.specs.Projection.{process_of};
 ghost use Rattle.station_records.specs.Gathered.{LentProcesses};
 ghost use Rattle.station_run.specs.StationText.{record0};
-ghost use Rattle.station_run.specs.TextByValue.{bench_before, records_before, station_ran, processes_ran, left_by_run};
-ghost use Rattle.station_run.specs.TextByValue.{put_back, StationRan};
+ghost use Rattle.station_run.specs.TextByValue.{bench_before, records_before, station_ran, processes_ran, put_back, StationRan};
 
 use entry::state::Held;
 use model::{Bench, Process};
@@ -77,9 +76,9 @@ fn processes_ran(
 }
 
 // Nothing is left to store where the run was refused before its set-up: its bench is then not set up, and has N = 0.
-#[tactic(auto, unfolding(crate::specs::TextByValue::left_by_run))]
-fn left_by_run(station: Station, all: [StationProcess; 16], held: Held) -> Option<Left>
-    ensures { result ≡ left_by_run station all held }
+#[tactic(auto, unfolding(crate::specs::TextByValue::put_back))]
+fn put_back(station: Station, all: [StationProcess; 16], held: Held) -> Option<Left>
+    ensures { result ≡ put_back station all held }
 {
     let Held {
         bench,
@@ -93,17 +92,6 @@ fn left_by_run(station: Station, all: [StationProcess; 16], held: Held) -> Optio
         station: station_ran(station, bench),
         all: processes_ran(all, records, count),
     })
-}
-
-// What a run made on record 0 comes to, put back.
-fn put_back(
-    station: Station,
-    all: [StationProcess; 16],
-    out: Finished<Held>,
-) -> Finished<Option<Left>>
-    ensures { result ≡ put_back station all out }
-{
-    out.holding(left_by_run(station, all, out.held))
 }
 
 // `all` holds the first sixteen of `len` lent process records, with a filler where there are fewer.
@@ -124,5 +112,5 @@ pub fn run_by_value(
         all: records_before(all),
     };
     let out = text_run::run_by_value(held, len, false, words, text, listing);
-    put_back(station, all, out)
+    out.holding(put_back(station, all, out.held))
 }

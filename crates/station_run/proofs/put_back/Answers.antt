@@ -7,4 +7,4 @@ use borrow.Author.Rules.{rules}
 use Rattle.station_run.proofs.put_back.Goals as goal
 
 pub processes_ran-all-requires : goal.processes_ran-all-requires
-processes_ran-all-requires c = subst (λ (k : ℕ). k ≤ 16) (sym c.records_seen-stored.ensures) (sixteen_most c.args.out.held.bench.n)
+processes_ran-all-requires c = subst (λ (k : ℕ). k ≤ 16) (sym c.records_seen-count.ensures) (sixteen_most c.args.held.bench.n)
