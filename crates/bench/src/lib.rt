@@ -18,7 +18,6 @@ use station::{Station, StationProcess};
 use station_records::gathered::{Gathered, gather};
 use station_rows::commands::Command;
 use station_setup::gathered::set_up_gathered;
-
 pub use text_runs::returned::TextRun;
 
 // Process `process`, any number, is given an order: a start names a record, any number, and brings the words of `value`
@@ -114,8 +113,7 @@ pub fn run_text(
     } = gather(*station, processes);
     let out = station_run::run_by_value(s, all, len, words, text, listing);
     if let Some(left) = out.held {
-        *station = left.station;
-        lent::store_back(processes, &left.all, station::empty_process(), left.station.n);
+        left.store(station, processes);
     }
     TextRun::from(out)
 }

@@ -30,7 +30,7 @@ use Rattle.station_facts.proofs.Firsts.{firsts_same}
 use Rattle.lent.specs.Gathered.{gathered}
 use Rattle.station_records.specs.Gathered.{LentProcesses, processes_stored}
 use Rattle.station_records.proofs.StoredLaws.{stored_firsts}
-use Rattle.station_run.specs.declared.Left.{Left}
+use Rattle.station_records.specs.declared.left.Left.{Left}
 use Rattle.station_run.specs.StationText.{record0, before_run, put_record, after_run, left_by, on_station, StationEnded, station_run_text}
 use Rattle.station_run.specs.TextByValue.{bench_before, records_before, station_ran, put_at, put_back, ended_with, StationRan}
 use Rattle.station_run.proofs.RunSizes.{Sized, sized_run}

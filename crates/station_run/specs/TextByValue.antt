@@ -10,12 +10,12 @@ use Rattle.text_runs.specs.declared.runs.Finished.{Finished}
 use Rattle.run.specs.Finished.{at_most_sixteen}
 use Rattle.station.specs.declared.Station.{Station}
 use Rattle.station.specs.declared.StationProcess.{StationProcess}
-use Rattle.station.specs.Station.{StationMemory, station_memory, no_tables}
+use Rattle.station.specs.Station.{station_memory, no_tables}
 use Rattle.station.specs.Projection.{process_of, put_tables, put_process}
 use Rattle.station.specs.StationSetUp.{empty_process, firsts}
 use Rattle.lent.specs.Gathered.{gathered}
-use Rattle.station_records.specs.Gathered.{processes_stored}
-use Rattle.station_run.specs.declared.Left.{Left}
+use Rattle.station_records.specs.Gathered.{left_stored}
+use Rattle.station_records.specs.declared.left.Left.{Left}
 use Rattle.station_run.specs.StationText.{record0, unsized, StationEnded, station_run_text}
 
 abbrev pub bench_before : Station → Bench
@@ -42,15 +42,10 @@ put_back s all h =
     cond (eqb h.bench.n 0) None
     (Some (record { station = station_ran s h.bench; all = processes_ran all h.all (at_most_sixteen h.bench.n) }))
 
--- the lent memory once what the run left is stored back, with the words after it
-abbrev pub stored_back : Station → List StationProcess → List ℕ → Option Left → StationMemory
-stored_back s ps ws None = station_memory s ps ws
-stored_back s ps ws (Some left) = station_memory left.station (processes_stored ps left.all left.station.n) ws
-
 -- what a run returns and leaves, with the words and the listing after it
 abbrev pub ended_with : Station → List StationProcess → Finished (Option Left) → List ℕ → List ℕ → StationEnded
 ended_with s ps r ws list =
-    record { number = number_told r.outcome; entries = r.entries; written = r.written; memory = stored_back s ps ws r.held; listing = list }
+    record { number = number_told r.outcome; entries = r.entries; written = r.written; memory = left_stored s ps ws r.held; listing = list }
 
 -- what a text run answers where `all` holds the first sixteen of `len` lent process records: stored back, the run of
 -- `station_run_text`

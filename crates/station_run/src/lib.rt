@@ -13,14 +13,8 @@ use entry::state::Held;
 use model::{Bench, Process};
 use run::text_run;
 use station::{RecordNumber, Station, StationProcess, Tables};
+use station_records::left::Left;
 use text_runs::runs::Finished;
-
-// What a text run leaves of the station and the process records, of which the first N are to be stored back.
-#[derive(Clone, Copy)]
-pub struct Left {
-    pub station: Station,
-    pub all: [StationProcess; 16],
-}
 
 // Record 0 as a bench that is not set up.
 fn bench_before(station: Station) -> Bench
