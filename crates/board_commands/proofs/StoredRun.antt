@@ -140,7 +140,7 @@ end_stored : (before : Station) (lent : List StationProcess) (number done : ℕ)
     → stored_run before lent (left_with s (gathered ps e 16) number done, ws) ≡ (record { number = number; done = done }, station_memory s ps ws)
 end_stored before lent number done s ps ws k = go (ltb 0 done) refl
   where
-    abbrev told : StationMemory → FileRun × StationMemory
+    told : StationMemory → FileRun × StationMemory
     told m = (record { number = number; done = done }, m)
 
     go : (t : Bool) → ltb 0 done ≡ t
