@@ -16,7 +16,7 @@ use llsc::refusals::number_of;
 use model::Reply;
 use station::{Station, StationProcess};
 use station_records::gathered::{Gathered, gather};
-use station_rows::commands::Command;
+use station_rows::commands::{Command, Ordered};
 use station_setup::gathered::set_up_gathered;
 pub use text_runs::returned::TextRun;
 
@@ -42,8 +42,7 @@ pub fn command(
     let gathered = gather(*station, processes);
     let command = Command {
         process,
-        order,
-        named,
+        order: Ordered::new(order, named),
     };
     match station_machine::decide(gathered, command, value, words) {
         Ok(out) => {

@@ -89,6 +89,7 @@ fn put_back(station: Station, all: [StationProcess; 16], held: Held) -> Option<L
 }
 
 // `all` holds the first sixteen of `len` lent process records, with a filler where there are fewer.
+#[tactic(auto, using(crate::proofs::StoredRun::run_put_back))]
 pub fn run_by_value(
     station: Station,
     all: [StationProcess; 16],

@@ -9,3 +9,4 @@ pub mod lists;
 pub mod reports;
 pub mod returned;
 pub mod runs;
+pub mod traces;
