@@ -5,8 +5,11 @@
 ghost use Rattle.std.specs.Prelude.{◌≡◌};
 ghost use Rattle.llsc.specs.Rows.{is_start};
 
+pub mod calls;
 pub mod counts;
 pub mod refusals;
+
+pub use crate::calls::CallKind;
 
 // A process's number, below N.
 #[derive(Clone, Copy, Default, PartialEq, Eq)]

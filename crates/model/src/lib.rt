@@ -113,7 +113,7 @@ pub struct WordStep {
 }
 
 // What an accepted command leaves of the bench and of its process, with its reply.
-// Kept: no `LineStep<Bench>`, as a bench is no place.
+// Kept: no `LineStep<Bench>`, as a bench is no place; one with Moir's would have a type parameter for each field.
 #[derive(Clone, Copy)]
 pub struct Moved {
     pub bench: Bench,

@@ -72,6 +72,7 @@ pub struct LineStep {
 }
 
 // What an accepted command leaves of the bench and of its process, with its reply.
+// Kept: beside `model`'s own, as one for both would have a type parameter for each field.
 #[derive(Clone, Copy)]
 pub struct Moved {
     pub bench: Bench,

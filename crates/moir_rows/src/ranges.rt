@@ -15,6 +15,7 @@ pub fn header_ok(n: usize, header: Header) -> bool
 }
 
 // Whether a process has no open call.
+// Kept: beside `rows`' own: one comparison, of a field of another record, with that bench's own constant.
 pub fn is_idle(process: Process) -> bool
     ensures { result ≡ is_idle process }
 {

@@ -63,6 +63,7 @@ pub fn help_place_ok(count: Processes, help: HelpPlace) -> bool
 }
 
 // Whether a process has no open call.
+// Kept: beside `moir_rows`' own: one comparison, of a field of another record, with that bench's own constant.
 pub fn is_idle(process: Process) -> bool
     ensures { result ≡ is_idle process }
 {

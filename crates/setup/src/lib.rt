@@ -26,6 +26,7 @@ pub fn set_up_refusal(lent: Lent, value: usize) -> Result<(), Refusal>
 }
 
 // Bank[k] = k, below n.
+#[tactic(auto, using(crate::proofs::SetUpLaws::banks_next))]
 fn with_banks(mut bench: Bench, n: usize) -> Bench
     requires { n ≤ 32 }
     ensures { result ≡ banks_set bench n }
@@ -38,6 +39,7 @@ fn with_banks(mut bench: Bench, n: usize) -> Bench
 }
 
 // Help[p] = (0, 0), below N.
+#[tactic(auto, using(crate::proofs::SetUpLaws::helps_next))]
 fn with_helps(mut bench: Bench, count: Processes) -> Bench
     ensures { result ≡ helps_set bench count.n }
 {
@@ -63,6 +65,7 @@ pub fn bench_at_set_up(bench: Bench, count: Processes, w: usize) -> Bench
 }
 
 // BUF[0] = the value, every other word 0.
+#[tactic(auto, using(crate::proofs::SetUpLaws::words_set))]
 pub fn words_at_set_up(words: &mut [u64], n: usize, w: usize, value: &[u64])
     requires { Accepted n w (length words.old) (length value.now) }
     ensures { words.new ≡ words_at_set_up words.old n w value.now }

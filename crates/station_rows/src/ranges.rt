@@ -25,13 +25,12 @@ pub fn seen_ok(sizes: Sizes, q: StationProcess) -> bool
     ensures { result ≡ every (λ j. process_ok sizes.n sizes.w (process_of (record { 0 = j }) q)) (numbers 0 sizes.r) }
 {
     let Sizes { n, w, r } = sizes;
-    for j in 0..r {
+    let count = Processes { n };
+    let width = Width { w };
+    (0..r).all(|j| {
         let process = station_records::process_of(RecordNumber(j as u8), q);
-        if !rows::ranges::process_ok(Processes { n }, Width { w }, process) {
-            return false;
-        }
-    }
-    true
+        rows::ranges::process_ok(count, width, process)
+    })
 }
 
 // A process record.
@@ -53,13 +52,10 @@ pub fn benches_ok(station: Station) -> bool
     requires { (station.n ≤ 16) × (station.r ≤ 8) }
     ensures { result ≡ every (λ j. bench_ok (bench_in station (record { 0 = j }))) (numbers 0 station.r) }
 {
-    for j in 0..station.r {
+    (0..station.r).all(|j| {
         let bench = station_records::bench_of(station, RecordNumber(j as u8));
-        if !rows::ranges::bench_ok(bench) {
-            return false;
-        }
-    }
-    true
+        rows::ranges::bench_ok(bench)
+    })
 }
 
 // Row 9, over the station record and the process records.

@@ -1,13 +1,8 @@
 -- `listing::Writer::words`: the words passed are written.
 use native.Mathlib.Omega.{arith}
-use Rattle.listing.specs.Lines.{words_of}
-use Rattle.listing.proofs.WritingLaws.{writes_then, writes_same, writes_none, fits_first, fits_then}
+use Rattle.listing.proofs.WritingLaws.{writes_then, writes_same, fits_first, fits_then}
 use Rattle.listing.proofs.LineLaws.{word_more, word_room}
 use Rattle.listing.proofs.Writer.words.Goals as goal
-
-pub loop-word-init : goal.loop-word-init
-unfolding words_of
-loop-word-init c = writes_none _
 
 pub put-requires : goal.put-requires
 put-requires c = fits_first _ _ (word_room _ _ (omega arith) c.requires c.loop-word.invariant)

@@ -5,7 +5,7 @@ use native.Mathlib.Omega.{arith}
 use Rattle.std.proofs.Common.{rules}
 use lib.ListN.{length, length-replicate}
 use lib.Seq.{length-sets}
-use Rattle.rows.proofs.Refused.{number_some}
+use Rattle.llsc.proofs.RefusalNumbers.{number_some}
 use Rattle.carrying.proofs.LoopLaws.{not_refused}
 use Rattle.setup.specs.SetUpByValue.{Accepted}
 use Rattle.entry.specs.RunState.{Sound}
