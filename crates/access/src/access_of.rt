@@ -19,10 +19,7 @@ fn no_access() -> Access
 {
     Access {
         line: 0,
-        item: Item::X,
-        act: Act::Vl(false),
-        first: 0,
-        second: 0,
+        act: Act::Vl(false, Item::X),
     }
 }
 

@@ -14,7 +14,9 @@ use crate::ending::Stopped;
 use crate::{ending, records};
 use board_rows::right_records;
 use entry::state::{Held, Run};
+use llsc::counts::Processes;
 use llsc::refusals::Refusal;
+use rows::table::Lent;
 use run::set_up;
 use text_runs::{limits, lists};
 
@@ -59,13 +61,20 @@ fn set_up_and_run(
     requires { (held.all ≡ gathered (take 16 held.all) no_process 16) × (room_needed false ≤ length list.old) }
     ensures { SetsUp (memory_of held 16 words.old) n w initial file.now list.old (end_of result words.new list.new) }
 {
-    if let Err(cause) = setup::set_up_refusal(n, w, 16, words.len(), w) {
+    let lent = Lent {
+        n,
+        w,
+        records: 16,
+        words: words.len(),
+    };
+    if let Err(cause) = setup::set_up_refusal(lent, w) {
         return refused(held, cause, list);
     }
     let value = lists::repeated(initial as u64);
     setup::words_at_set_up(words, n, w, &value[..w]);
-    let bench = setup::bench_at_set_up(held.bench, n, w);
-    let all = set_up::records_at_set_up(held.all, n);
+    let count = Processes { n };
+    let bench = setup::bench_at_set_up(held.bench, count, w);
+    let all = set_up::records_at_set_up(held.all, count);
     let run = Run::fresh(Held { bench, all }, false);
     run_file(run, file, words, list)
 }

@@ -1,6 +1,6 @@
 -- The run as the code holds it, what holds of it at every moment, and what its inner functions promise of it.
 -- Inner: `progress` gives `TextRun`'s run of it, and `RunLaws` (crate `run`) puts the promises together to that run.
-use Rattle.std.specs.Prelude.{◌≡◌, ℕ, ◌+◌, ◌≤◌, ◌<◌, List, [], Bool, Option, Some, None, length, get_or, take, replicate}
+use Rattle.std.specs.Prelude.{◌≡◌, ℕ, ◌+◌, ◌≤◌, ◌<◌, List, [], Bool, Option, length, get_or, take, replicate}
 use Rattle.model.specs.declared.Process.{Process}
 use Rattle.model.specs.declared.Reply.{Reply}
 use Rattle.model.specs.declared.Reply.TheVariants.{Refused, Accepted, LlAnswered, ScAnswered, VlAnswered}
@@ -16,11 +16,13 @@ use Rattle.listing.specs.Lines.{letter_s, letter_v, ll_line, truth_line}
 use Rattle.listing.specs.declared.Writer.{Writer}
 use Rattle.listing.specs.Writing.{Fits}
 use Rattle.access.specs.declared.Access.{Access}
+use Rattle.access.specs.TraceLines.{access_text}
 use Rattle.entry.specs.declared.state.Held.{Held}
 use Rattle.entry.specs.declared.state.Run.{Run}
 use Rattle.text_runs.specs.TextRun.{most_entries, room_needed}
 use Rattle.text_runs.specs.Runs.{last_room}
-use Rattle.semantics.specs.TextRun.{Progress, entry_line}
+use Rattle.text_runs.specs.Parts as Parts
+use Rattle.semantics.specs.TextRun.{Progress, answers}
 use Rattle.semantics.specs.Reached.{Reached}
 
 -- an empty bench, and sixteen records that stand for none
@@ -111,5 +113,4 @@ pub record Listable (r : Reply) (p n w : ℕ) (ws : List ℕ) (to : Writer) : Ty
 
 -- the trace's line of an accepted entry, none where no access is shown
 abbrev pub shown_line : ℕ → Option Access → Entry → Reply → List ℕ
-shown_line k (Some a) e r = entry_line k a e r
-shown_line k None e r = []
+shown_line k a e r = Parts.shown_line access_text k a e (answers r)

@@ -1,14 +1,15 @@
 // One accepted entry, on the places taken out for it: its access, its order obeyed, its lines.
 ghost use Rattle.entry.specs.Turned.{Turnable, Turns};
 
-use crate::{answer_lines, entries, traces};
+use crate::{answer_lines, entries};
+use access::access_of;
 use listing::Writer;
 use llsc::ProcessNumber;
 use model::Process;
 use notation::Entry;
 use steps::orders;
 use taken::Taken;
-use text_runs::entries as text_entries;
+use text_runs::{entries as text_entries, traces};
 
 // The places and the process as the entry leaves them.
 #[derive(Clone, Copy)]
@@ -35,11 +36,11 @@ pub fn carry(
     let p = text_entries::process_of(e);
     let own = ProcessNumber(p as u8);
     let order = text_entries::order_of(e);
-    let access = traces::access_seen(traced, n, w, own, process, taken, words);
+    let access = traced.then(|| access_of::access_of(n, w, own, process, taken, words));
     entries::offer(e, n, w, own, words);
     let stepped = orders::obey_taken(order, n, w, own, process, taken, words);
     let reply = stepped.reply;
-    traces::trace_line(access, k, e, reply, to);
+    traces::trace_line(access, k, e, answer_lines::answers(reply), to);
     answer_lines::answer_line(reply, p, n, w, words, to);
     let left = stepped.taken;
     let next = stepped.process;

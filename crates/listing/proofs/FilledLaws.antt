@@ -3,15 +3,14 @@ use Prim.Native.Nat.{ℕ, suc, ◌+◌, ◌-◌, ◌*◌, ◌/◌, ◌≤◌, �
 use mathlib.Core.Path.{◌≡◌, refl, sym, ap, subst, ◌∙◌}
 use mathlib.Core.List.{List, ◌∷◌}
 use native.Mathlib.Omega.{arith}
-use native.Mathlib.Nat.{sub-zero, div-mul-le_self}
+use native.Mathlib.Nat.{sub-zero}
 use native.Mathlib.Numerals.{add-one}
 use lib.ListN.{length, length-drop, length-set, take, drop, set}
 use lib.Seq.{take_all, drop_at, drop-length, set_split, length-take-le}
 use Rattle.listing.specs.Decimal.{decimal, tens}
 use Rattle.listing.specs.Divisions.{Division, divide, divided, ReadyDigits}
-use Rattle.listing.proofs.WritingLaws.{fits_same, writes_same}
 use Rattle.listing.proofs.DecimalLaws.{at_most}
-use Rattle.listing.proofs.DivisionLaws.{above, some, small, ready_digits}
+use Rattle.listing.proofs.DivisionLaws.{above, some, ready_digits}
 
 pub most : (n : ℕ) → n < above → length (decimal n) ≤ 20
 unfolding tens
@@ -39,9 +38,6 @@ filled_none n places l h = record {
 module _ {n m k rest : ℕ} {places : List ℕ} (l : n < above) (f : Filled n m k rest places) where
   pub room : k + 1 ≤ m
   room = omega (arith, f.more, f.fits)
-
-  pub not_more : rest ≤ n
-  not_more = omega (arith, ap (λ (d : Division). d.rest) f.after, small n l k)
 
   -- one division more, and its digit into place i
   abbrev digit : ℕ
@@ -92,5 +88,3 @@ module _ {n m k rest : ℕ} {places : List ℕ} (l : n < above) (f : Filled n m 
 
   pub filled_all : rest / 10 ≡ 0 → take (m - (m - (k + 1))) (drop (m - (k + 1)) (next (m - (k + 1)))) ≡ decimal n
   filled_all = all_ready (m - (k + 1)) (omega (arith, room))
-
-pub ruleset dividing = (filled_all, div-mul-le_self, fits_same, writes_same)

@@ -28,6 +28,7 @@ impl<'a> Writer<'a> {
     }
 
     // Bytes as they stand.
+    #[tactic(auto, using(crate::proofs::WritingLaws::copied, crate::proofs::WritingLaws::written))]
     pub fn plain(&mut self, bytes: &[u8])
         requires { Fits self.old bytes.now }
         ensures { Writes self.old bytes.now self.new }
@@ -39,7 +40,7 @@ impl<'a> Writer<'a> {
 
     // A number in decimal: one division for each digit, the last digit first, and then the digits copied.
     // Kept: 02, CR 6 asks for one division for each digit; crate itoa divides otherwise.
-    #[tactic(auto, using(crate::proofs::FilledLaws::dividing))]
+    #[tactic(auto, using(crate::proofs::WritingLaws::writes_same, crate::proofs::FilledLaws::filled_all))]
     pub fn number(&mut self, n: u64)
         requires { Fits self.old (decimal n) }
         ensures { Writes self.old (decimal n) self.new }

@@ -23,9 +23,12 @@ use Rattle.doings.specs.Items.{index, word_place}
 use Rattle.access.specs.declared.Act.{Act}
 use Rattle.access.specs.declared.Act.TheVariants.{Read, Write, Ll, Sc, Vl}
 use Rattle.access.specs.declared.Access.{Access}
-use Rattle.access.specs.TraceLines.{half_text, half_place_text, item_text, act_text, step_line}
-use Rattle.trace_parts.specs.TraceParts.{spaced, bracketed, head_text, end_text, brought_text, start_line}
-use Rattle.access.proofs.Lengths.{SmallAccess}
+use Rattle.access.specs.Accesses.{item_of}
+use Rattle.access.specs.TraceLines.{half_text, half_place_text, item_text, act_text, access_text, step_line}
+use Rattle.trace_parts.specs.declared.Start.{Start}
+use Rattle.trace_parts.specs.TraceParts as Parts
+use Rattle.trace_parts.specs.TraceParts.{spaced, bracketed, head_text, end_text, start_text, start_line}
+use Rattle.access.proofs.Lengths.{SmallAccess, small_item}
 use Rattle.marking.specs.declared.NamedItem.{NamedItem}
 use Rattle.marking.specs.declared.NamedItem.TheVariants as name
 use Rattle.marking.specs.declared.Line.{Line}
@@ -98,21 +101,21 @@ item_named (Half f k) cs h l =
 abbrev Begins : List ℕ → Act → Type 0
 Begins bs act = (cs : List ℕ) → (first (bs ++ cs) ≡ space) × (looks_in (bs ++ cs) ≡ only_looks act)
 
-act_named : (act : Act) (i : Item) (v u : ℕ) → Begins (act_text act i v u) act
+act_named : (act : Act) → Begins (act_text act) act
 unfolding act_text looks_in
-act_named Read i v u cs = (refl, refl)
-act_named Write i v u cs = (refl, refl)
-act_named Ll i v u cs = (refl, refl)
-act_named (Sc t) i v u cs = (refl, refl)
-act_named (Vl t) i v u cs = (refl, refl)
+act_named (Read v) cs = (refl, refl)
+act_named (Write v) cs = (refl, refl)
+act_named (Ll v) cs = (refl, refl)
+act_named (Sc t v) cs = (refl, refl)
+act_named (Vl t i) cs = (refl, refl)
 
-act_spaced : (act : Act) (i : Item) (v u : ℕ) (cs : List ℕ) → act_text act i v u ++ cs ≡ space ∷ drop 1 (act_text act i v u ++ cs)
+act_spaced : (act : Act) (cs : List ℕ) → act_text act ++ cs ≡ space ∷ drop 1 (act_text act ++ cs)
 unfolding act_text
-act_spaced Read i v u cs = refl
-act_spaced Write i v u cs = refl
-act_spaced Ll i v u cs = refl
-act_spaced (Sc t) i v u cs = refl
-act_spaced (Vl t) i v u cs = refl
+act_spaced (Read v) cs = refl
+act_spaced (Write v) cs = refl
+act_spaced (Ll v) cs = refl
+act_spaced (Sc t v) cs = refl
+act_spaced (Vl t i) cs = refl
 
 -- an item begins with a space, which ends the number before it
 item_stop : (i : Item) (cs : List ℕ) → is_digit (first (item_text i ++ cs)) ≡ false
@@ -157,28 +160,39 @@ module _ (k p : ℕ) (hk : k ≤ largest) (hp : p ≤ largest) (rest : List ℕ)
       entry_named process_named
 
 -- "for a start, `start L`, .."
-pub start_line_read : (k p letter v : ℕ) (more : List ℕ) → k ≤ largest → p ≤ largest → line_in (start_line k p letter v ++ more) ≡ Some (started_line p)
+pub start_line_read : (k p : ℕ) (start : Start) (more : List ℕ) → k ≤ largest → p ≤ largest → line_in (start_line k p start ++ more) ≡ Some (started_line p)
 unfolding start_line head_text spaced
-start_line_read k p letter v more hk hp =
-    let behind = quoted "start " ++ ((letter ∷ []) ++ (brought_text letter v ++ (quoted "\n" ++ more))) in
-    let text : start_line k p letter v ++ more ≡ decimal k ++ (space ∷ (decimal p ++ (space ∷ behind))) = simp append_assoc in
+start_line_read k p start more hk hp =
+    let behind = quoted "start " ++ (start_text start ++ (quoted "\n" ++ more)) in
+    let text : start_line k p start ++ more ≡ decimal k ++ (space ∷ (decimal p ++ (space ∷ behind))) = simp append_assoc in
     ap line_in text ∙ line_named k p hk hp behind
+
+-- what is shown of a step, and what follows
+access_then : (a : Access) (tail : List ℕ) → access_text a ++ tail ≡ space ∷ (decimal a.line ++ (item_text (item_of a.act) ++ (act_text a.act ++ tail)))
+unfolding access_text spaced
+access_then a tail = simp append_assoc
 
 -- the step's line
 pub step_line_read : (k p : ℕ) (a : Access) (answered : Bool) (more : List ℕ) → k ≤ largest → p ≤ largest → SmallAccess a
     → line_in (step_line k p a answered ++ more) ≡ Some (shown_line p a)
-unfolding step_line head_text spaced
+unfolding Parts.step_line head_text spaced
 step_line_read k p a answered more hk hp small =
-    let i = a.item in
-    let tail = act_text a.act i a.first a.second ++ (end_text answered ++ more) in
+    let i = item_of a.act in
+    let end = end_text answered ++ more in
+    let tail = act_text a.act ++ end in
     let number = decimal a.line ++ (item_text i ++ tail) in
     let low : a.line ≤ largest = omega (arith, small.line) in
-    let text : step_line k p a answered ++ more ≡ decimal k ++ (space ∷ (decimal p ++ (space ∷ number))) = simp append_assoc in
+    let shown = access_text a in
+    let text : step_line k p a answered ++ more ≡ decimal k ++ (space ∷ (decimal p ++ (space ∷ number))) =
+    append_assoc (head_text k p) (shown ++ end_text answered) more
+    ∙ ap (λ (x : List ℕ). head_text k p ++ x) (append_assoc shown (end_text answered) more ∙ access_then a end)
+    ∙ append_assoc (decimal k) (space ∷ decimal p) (space ∷ number) in
     let line = spaced_read a.line (item_text i ++ tail) low (item_stop i tail) in
-    let here = act_spaced a.act i a.first a.second (end_text answered ++ more) in
+    let here = act_spaced a.act end in
+    let few = small_item a.act small.act in
     let read : item_in (item_text i ++ tail) ≡ as_named i tail =
-    ap (λ (bs : List ℕ). item_in (item_text i ++ bs)) here ∙ item_named i (drop 1 tail) small.index small.word ∙ ap (as_named i) (sym here) in
-    let look = (act_named a.act i a.first a.second (end_text answered ++ more)).1 in
+    ap (λ (bs : List ℕ). item_in (item_text i ++ bs)) here ∙ item_named i (drop 1 tail) few.0 few.1 ∙ ap (as_named i) (sym here) in
+    let look = (act_named a.act end).1 in
     ap line_in text ∙ line_named k p hk hp number
     ∙ ap (λ (t : Bool). Some (cond t (started_line p) (stepped_in p (spaced_at (space ∷ number)).1))) (not_s number (begins a.line (item_text i ++ tail) low (item_stop i tail)))
     ∙ ap (λ (g : ReadFrom ℕ). Some (stepped_in p (or_too_large g).1)) line

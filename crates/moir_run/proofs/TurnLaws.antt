@@ -24,6 +24,7 @@ use Rattle.listing.specs.Writing.{Wrote, Fits, Writes}
 use Rattle.listing.proofs.WritingLaws.{wrote, writes_then, fits_first, fits_then}
 use Rattle.text_runs.specs.TextRun.{most_entries, room_needed, process_of, order_of, value_of}
 use Rattle.text_runs.specs.TextRun as T
+use Rattle.text_runs.specs.Parts as P
 use Rattle.text_runs.specs.Parts.{before_entry}
 use Rattle.text_runs.proofs.SingleEntries.{outcome, made_commanded}
 use Rattle.text_runs.proofs.KeptLaws.{either}
@@ -44,7 +45,8 @@ use Rattle.moir_rows.specs.CommandRows.{decision_number}
 use Rattle.moir_steps.specs.Ranges.{Ready, Obeyable}
 use Rattle.moir_machine.proofs.ObeyLaws.{obeyable}
 use Rattle.moir_access.specs.declared.Access.{Access}
-use Rattle.moir_semantics.specs.TextRun.{figure6, Progress, line_of}
+use Rattle.moir_access.specs.TraceParts.{access_text}
+use Rattle.moir_semantics.specs.TextRun.{figure6, Progress, line_of, answers}
 use Rattle.moir_semantics.proofs.AcceptedRows.{unrefused}
 use Rattle.moir_semantics.proofs.SmallWords.{Small, SmallValue, Plain, accepted, wll, named, sc, vl, leaves, small_command}
 use Rattle.moir_semantics.proofs.LineLengths.{value_small, lines_fit}
@@ -429,34 +431,35 @@ module _ {e : Entry} {s : Progress} (f : Free e s) where
           is_seen : a ≡ seen
           is_seen = ea ∙ rw (own_record, ep)
 
-          pub shown_room : {to : Writer} → Behind s to → Fits to (shown_line (s.entries + 1) a e moved.reply)
-          shown_room g = rw is_seen (fits_first _ _ (lines_room is_made g))
+          module _ {answered : Bool} (et : answered ≡ answers moved.reply) where
+            pub shown_room : {to : Writer} → Behind s to → Fits to (P.shown_line access_text (s.entries + 1) a e answered)
+            shown_room g = rw (is_seen, et) (fits_first _ _ (lines_room is_made g))
 
-          module _ {to to₁ : Writer} (g : Behind s to) (w : Writes to (shown_line (s.entries + 1) a e moved.reply) to₁) where
-            shown_seen : Writes to (shown_line (s.entries + 1) seen e moved.reply) to₁
-            shown_seen = subst (λ (y : Option Access). Writes to (shown_line (s.entries + 1) y e moved.reply) to₁) is_seen w
+            module _ {to to₁ : Writer} (g : Behind s to) (w : Writes to (P.shown_line access_text (s.entries + 1) a e answered) to₁) where
+              shown_seen : Writes to (shown_line (s.entries + 1) seen e moved.reply) to₁
+              shown_seen = rw (is_seen, et) at w
 
-            pub listable_as : Listable moved.reply p moved.bench ws to₁
-            listable_as = rw ep (listable is_made g shown_seen)
+              pub listable_as : Listable moved.reply p moved.bench ws to₁
+              listable_as = rw ep (listable is_made g shown_seen)
 
-            pub carried_as : {to₂ : Writer} {next : List Process} → Writes to₁ (answer_line moved.bench ws p moved.reply) to₂
-                → next ≡ set m₁.records p moved.process
-                → record {
-                  memory = record { bench = moved.bench; records = next; words = ws };
-                  listing = to₂.list.now;
-                  written = to₂.written;
-                  entries = s.entries + 1;
-                  stop = 0;
-                  traced = s.traced;
-                } ≡ T.commanded figure6 e s
-            carried_as {to₂} y n =
-                let records_are = n ∙ ap (λ (i : ℕ). set m₁.records i moved.process) ep in
-                ap (λ (x : List Process). record {
-                  memory = record { bench = moved.bench; records = x; words = ws };
-                  listing = to₂.list.now;
-                  written = to₂.written;
-                  entries = s.entries + 1;
-                  stop = 0;
-                  traced = s.traced;
-                }) records_are
-                ∙ carried is_made g shown_seen (subst (λ (i : ℕ). Writes to₁ (answer_line moved.bench ws i moved.reply) to₂) ep y)
+              pub carried_as : {to₂ : Writer} {next : List Process} → Writes to₁ (answer_line moved.bench ws p moved.reply) to₂
+                  → next ≡ set m₁.records p moved.process
+                  → record {
+                    memory = record { bench = moved.bench; records = next; words = ws };
+                    listing = to₂.list.now;
+                    written = to₂.written;
+                    entries = s.entries + 1;
+                    stop = 0;
+                    traced = s.traced;
+                  } ≡ T.commanded figure6 e s
+              carried_as {to₂} y n =
+                  let records_are = n ∙ ap (λ (i : ℕ). set m₁.records i moved.process) ep in
+                  ap (λ (x : List Process). record {
+                    memory = record { bench = moved.bench; records = x; words = ws };
+                    listing = to₂.list.now;
+                    written = to₂.written;
+                    entries = s.entries + 1;
+                    stop = 0;
+                    traced = s.traced;
+                  }) records_are
+                  ∙ carried is_made g shown_seen (subst (λ (i : ℕ). Writes to₁ (answer_line moved.bench ws i moved.reply) to₂) ep y)

@@ -12,12 +12,14 @@ ghost use Rattle.moir_run.specs.Finished.{fresh_run, Headed, Roomy};
 use crate::entry_loop;
 use crate::turns::Run;
 use listing::Writer;
+use llsc::counts::Width;
 use llsc::refusals::Refusal;
 use moir_machine::setting_up;
 use moir_model::{Bench, Process};
 use notation::items::Items;
 use notation::{First, items};
 use positions::{Sizes, StopReport};
+use rows::table::Lent;
 use text_runs::runs::Finished;
 use text_runs::{limits, lists, reports, runs};
 
@@ -61,7 +63,13 @@ fn started(traced: bool, first: First, kept: &[u64], list: &mut [u8]) -> Finishe
 {
     let n = first.n as usize;
     let w = first.w as usize;
-    match setting_up::set_up_refusal(n, w, 16, 3136, w) {
+    let lent = Lent {
+        n,
+        w,
+        records: 16,
+        words: 3136,
+    };
+    match setting_up::set_up_refusal(lent, w) {
         Err(refusal) => {
             let sizes = Sizes {
                 n: first.n,
@@ -73,7 +81,7 @@ fn started(traced: bool, first: First, kept: &[u64], list: &mut [u8]) -> Finishe
             let mut words = no_words();
             let value = lists::repeated(first.initial);
             setting_up::words_at_set_up(&mut words, n, w, &value[..w]);
-            let bench = setting_up::bench_at_set_up(moir_model::empty_bench(), n, w);
+            let bench = setting_up::bench_at_set_up(moir_model::empty_bench(), n, Width { w });
             let run = fresh(bench, traced);
             let mut to = Writer { list, written: 0 };
             let carried = entry_loop::carry_out(run, kept, &mut words, &mut to);

@@ -9,12 +9,13 @@ use crate::{entries, written_lines};
 use listing::Writer;
 use llsc::ProcessNumber;
 use llsc::refusals::Refusal;
+use moir_access::access_of;
 use moir_model::{Bench, Process};
 use moir_rows::table;
 use moir_steps::orders;
 use notation::Entry;
 use text_runs::entries::{order_of, process_of};
-use text_runs::limits;
+use text_runs::{limits, traces};
 
 // A run in progress: bench and records, the entries done, and whether it is traced. Its lines go to a writer.
 #[derive(Clone, Copy)]
@@ -37,13 +38,15 @@ fn accepted(run: Run, e: Entry, to: &mut Writer<'_>, words: &mut [u64]) -> Run
     let own = ProcessNumber(p as u8);
     let place = own.record_place();
     let process = all[place];
-    let access = written_lines::access_seen(run.traced, bench, own, process, words);
+    let access = run
+        .traced
+        .then(|| access_of::access_of(bench, own, process, words));
     let value = [entries::value_of(e); 64];
     let count = entries::words_of(e, bench.w);
     let order = order_of(e);
     let moved = orders::obey(order, own, &value[..count], bench, process, words);
     let k = run.entries + 1;
-    written_lines::trace_line(access, k, e, moved.reply, to);
+    traces::trace_line(access, k, e, written_lines::answers(moved.reply), to);
     written_lines::answer_line(moved.reply, p, moved.bench, words, to);
     all[place] = moved.process;
     Run {

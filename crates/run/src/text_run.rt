@@ -12,10 +12,12 @@ ghost use Rattle.run.specs.Finished.{memory_of, at_most_sixteen, Answers, Lendin
 use crate::set_up;
 use entry::state::{Held, Run};
 use listing::Writer;
+use llsc::counts::Processes;
 use llsc::refusals::Refusal;
 use notation::items::Items;
 use notation::{First, items};
 use positions::{Sizes, StopReport};
+use rows::table::Lent;
 use text_runs::runs::Finished;
 use text_runs::{limits, lists, reports, runs};
 
@@ -57,7 +59,13 @@ fn started(
 {
     let n = first.n as usize;
     let w = first.w as usize;
-    if let Err(cause) = setup::set_up_refusal(n, w, len, words.len(), w) {
+    let lent = Lent {
+        n,
+        w,
+        records: len,
+        words: words.len(),
+    };
+    if let Err(cause) = setup::set_up_refusal(lent, w) {
         let sizes = Sizes {
             n: first.n,
             w: first.w,
@@ -66,8 +74,9 @@ fn started(
     }
     let value = lists::repeated(first.initial);
     setup::words_at_set_up(words, n, w, &value[..w]);
-    let bench = setup::bench_at_set_up(held.bench, n, w);
-    let all = set_up::records_at_set_up(held.all, n);
+    let count = Processes { n };
+    let bench = setup::bench_at_set_up(held.bench, count, w);
+    let all = set_up::records_at_set_up(held.all, count);
     let run = Run::fresh(Held { bench, all }, traced);
     let carried = carrying::carry_out(run, len, entries, words, list);
     let outcome = carried.outcome;

@@ -9,3 +9,5 @@ pub mod TextLaws
 pub mod StopLaws
 pub mod FaultLaws
 pub mod LastLaws
+pub mod TraceLengths
+pub mod ShownLaws

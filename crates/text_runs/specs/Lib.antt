@@ -5,3 +5,4 @@ pub mod RunCommands
 pub mod KeptEntries
 pub mod Parts
 pub mod Runs
+pub mod Returned

@@ -7,4 +7,6 @@ pub mod last_lines;
 pub mod limits;
 pub mod lists;
 pub mod reports;
+pub mod returned;
 pub mod runs;
+pub mod traces;

@@ -29,7 +29,8 @@ use Rattle.turns_model.specs.declared.NextCall.{NextCall}
 use Rattle.turns_model.specs.declared.Turned.{Turned}
 use Rattle.turns_model.specs.declared.TurnReply.{TurnReply}
 use Rattle.turns_model.specs.declared.TurnReply.TheVariants.{Replied, Passed}
-use Rattle.turns_model.specs.Turns.{ListedCall, AfterTurn, start_of, idle_turn, counts_as_idle, turn_given, turn_refused, turn_commands, step_by}
+use Rattle.llsc.specs.CallKinds.{start_of}
+use Rattle.turns_model.specs.Turns.{ListedCall, AfterTurn, idle_turn, counts_as_idle, turn_given, turn_refused, turn_commands, step_by}
 use Rattle.turns_model.specs.Turns.{lent_refusal, turn, counted, listed_as, turn_of}
 use Rattle.turns_machine.specs.declared.TurnOutcome.{TurnOutcome}
 use Rattle.turns_machine.specs.TurnDecision.{unchanged_turn, refused_turn, commanded_turn, commanded_at, idle_decided, busy_decided}

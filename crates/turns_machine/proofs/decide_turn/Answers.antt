@@ -1,7 +1,10 @@
 -- `turns_machine::decide_turn` meets its contract: 22 first, then the lent memory, then step, pass or start.
-use mathlib.Core.Path.{sym, ◌∙◌}
+use mathlib.Core.Path.{sym, ap, ◌∙◌}
+use Prim.Native.Nat.{◌-◌}
 use Rattle.llsc.specs.Refusals.{refusal_number}
-use Rattle.rows.proofs.Refused.{number_some}
+use Rattle.llsc.proofs.RefusalNumbers.{number_some}
+use Rattle.station_machine.proofs.OrderLaws.{same_decided}
+use Rattle.turns_machine.specs.TurnDecision.{commanded_at}
 use Rattle.turns_machine.proofs.TurnDecisionLaws.{other_turn, refused_lent, steps, passes, starts}
 use Rattle.turns_machine.proofs.decide_turn.Goals as goal
 
@@ -42,4 +45,6 @@ returns c =
     let a = c.args in
     let idle = sym c.counts_as_idle.ensures ∙ c.if-not-counts_as_idle.false in
     starts a.lent.station a.lent.all a.lent.len a.turn a.next a.left a.value.now a.words.now
-    c.if-turn-gt1.false (sym c.in_default.ensures) c.from.result idle c.if-left-eq0.false c.from.ensures c.give-2.ensures
+    c.if-turn-gt1.false (sym c.in_default.ensures) c.from.result idle c.if-left-eq0.false c.from.ensures
+    (c.give-2.ensures ∙ ap (commanded_at (a.left - 1))
+    (same_decided a.lent.station a.lent.all a.lent.len a.turn c.from.result a.next.named a.value.now a.words.now c.new.result c.new.ensures))

@@ -1,7 +1,8 @@
 -- `turns_machine::give` meets its contract: where the lent memory is in order, the late rows decide.
 use mathlib.Core.Path.{sym, ◌∙◌}
 use Rattle.llsc.specs.Refusals.{refusal_number}
-use Rattle.rows.proofs.Refused.{number_some}
+use Rattle.llsc.proofs.RefusalNumbers.{number_some}
+use Rattle.station_rows.specs.Ordered.{order_in, number_in}
 use Rattle.station_rows.proofs.StationRowLaws.{memory_lent, late_decides}
 use Rattle.station_machine.proofs.StationObeyLaws.{refused_law}
 use Rattle.turns_machine.proofs.TurnDecisionLaws.{commanded_law}
@@ -14,7 +15,7 @@ pub returns-in-Err : goal.returns-in-Err
 returns-in-Err c =
     let a = c.args in let l = a.lent in let o = a.command in let r = c.in-Err.refusal in
     commanded_law a.left c.refused.ensures
-    (refused_law l.station l.all l.len o.process o.order o.named a.value.now a.words.now
+    (refused_law l.station l.all l.len o.process (order_in o.order) (number_in o.order) a.value.now a.words.now
     (refusal_number r) (c.in-Err.ensures ∙ late_decides _ _ _ _ _ _ _ _ c.requires) (number_some r))
 
 pub obey-requires : goal.obey-requires

@@ -44,15 +44,11 @@ words_at_set_up-requires c =
     let ok = set_up_fits x.n x.w 16 (length x.words.now) x.w (not_refused c.set_up_refusal.result c.set_up_refusal.ensures c.in_default.not-Err) in
     subst (λ (j : ℕ). Accepted x.n x.w (length x.words.now) j) (prefix_length ok.w_most c.repeated-value.ensures) ok
 
-pub bench_at_set_up-bench-requires : goal.bench_at_set_up-bench-requires
-bench_at_set_up-bench-requires c =
+pub invariant_of-count : goal.invariant_of-count
+invariant_of-count c =
     let x = c.args in
-    (set_up_fits x.n x.w 16 (length x.words.now) x.w (not_refused c.set_up_refusal.result c.set_up_refusal.ensures c.in_default.not-Err)).n_most
-
-pub records_at_set_up-all-requires : goal.records_at_set_up-all-requires
-records_at_set_up-all-requires c =
-    let x = c.args in
-    (set_up_fits x.n x.w 16 (length x.words.now) x.w (not_refused c.set_up_refusal.result c.set_up_refusal.ensures c.in_default.not-Err)).n_most
+    let e = not_refused c.set_up_refusal.result c.set_up_refusal.ensures c.in_default.not-Err in
+    record { most = (set_up_fits x.n x.w 16 (length x.words.now) x.w e).n_most }
 
 pub run_file-requires : goal.run_file-requires
 run_file-requires c =

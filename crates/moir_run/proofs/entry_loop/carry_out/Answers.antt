@@ -1,7 +1,7 @@
 -- `moir_run::entry_loop::carry_out`: a turn of the loop is an entry made, refused or not yet over (`LoopLaws`).
 use mathlib.Core.Path.{refl, sym, ◌∙◌}
 use native.Mathlib.Omega.{arith}
-use Rattle.moir_machine.proofs.RowLaws.{told_some}
+use Rattle.llsc.proofs.RefusalNumbers.{number_some}
 use Rattle.moir_run.proofs.EntryLaws.{kept_as}
 use Rattle.moir_run.proofs.LoopLaws.{turning_all, turn_sound}
 use Rattle.moir_run.proofs.LoopLaws.{turn_more, turn_ends, turn_over, turn_further}
@@ -14,7 +14,7 @@ pub returns-in-Err : goal.returns-in-Err
 returns-in-Err c =
     let here = c.loop-at.invariant.turning in
     record {
-      over = turn_ends here c.loop-at-test.true c.entry_in-e.ensures c.in-Err.ensures.is (told_some c.in-Err.refusal);
+      over = turn_ends here c.loop-at-test.true c.entry_in-e.ensures c.in-Err.ensures.is (number_some c.in-Err.refusal);
       sound = turn_sound here c.loop-at-test.true c.entry_in-e.ensures c.in-Err.ensures.is;
       same = c.in-Err.ensures.same_list ∙ c.loop-at.invariant.same;
     }

@@ -5,7 +5,7 @@ use lib.ListN.{length}
 use Rattle.std.proofs.lemmas.Result.{err_from_is_err_and}
 use Rattle.llsc.specs.Refusals.{number_told}
 use Rattle.text_runs.specs.Parts.{before_entry}
-use Rattle.moir_machine.proofs.RowLaws.{told_some}
+use Rattle.llsc.proofs.RefusalNumbers.{number_some}
 use Rattle.moir_run.proofs.TurnLaws.{number_as, turn_before, turn_through, turn_refused_is, turn_free, turn_made}
 use Rattle.moir_run.proofs.turns.turn.Goals as goal
 
@@ -16,7 +16,7 @@ returns-in_err-before_entry-clause-is c =
     let room = length a.to.now.list.now - a.to.now.written in
     let found =
     ap number_told c.in_err-before_entry.ensures ∙ ap (λ (n : ℕ). number_told (before_entry a.run.entries room n)) c.room_needed-needed.ensures in
-    rw (p.1, p.2) (turn_before a.e c.requires.0 refl c.requires.1 found (told_some _))
+    rw (p.1, p.2) (turn_before a.e c.requires.0 refl c.requires.1 found (number_some _))
 
 pub returns-in_err-refusal-clause-is : goal.returns-in_err-refusal-clause-is
 returns-in_err-refusal-clause-is c =
@@ -29,7 +29,7 @@ returns-in_err-refusal-clause-is c =
     rw (p.1, p.2)
     (turn_refused_is a.e c.requires.0 refl c.requires.1 free.0 free.1
     (number_as a.e c.requires.0 c.in_err-refusal.ensures c.process_of-p.ensures c.order_of-order.ensures c.words_of-count.ensures)
-    (told_some _))
+    (number_some _))
 
 pub accepted-requires : goal.accepted-requires
 accepted-requires c =

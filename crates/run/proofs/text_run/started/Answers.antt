@@ -5,7 +5,7 @@ use native.Mathlib.Omega.{arith}
 use Rattle.std.proofs.Common.{rules}
 use lib.ListN.{length, length-replicate}
 use lib.Seq.{length-sets}
-use Rattle.rows.proofs.Refused.{number_some}
+use Rattle.llsc.proofs.RefusalNumbers.{number_some}
 use Rattle.carrying.proofs.LoopLaws.{not_refused}
 use Rattle.setup.specs.SetUpByValue.{Accepted}
 use Rattle.entry.specs.RunState.{Sound}
@@ -53,19 +53,12 @@ words_at_set_up-requires c =
     let ok = accepted a.traced a.held a.words.now c.requires.0 a.first.n a.first.w a.first.initial c.requires.1 e in
     subst (λ (j : ℕ). Accepted a.first.n a.first.w (length a.words.now) j) (prefix_length ok.w_most c.repeated-value.ensures) ok
 
-pub bench_at_set_up-bench-requires : goal.bench_at_set_up-bench-requires
-bench_at_set_up-bench-requires c =
+pub invariant_of-count : goal.invariant_of-count
+invariant_of-count c =
     let a = c.args in
     let e = not_refused c.set_up_refusal.result c.set_up_refusal.ensures c.in_default.not-Err in
     let ok = accepted a.traced a.held a.words.now c.requires.0 a.first.n a.first.w a.first.initial c.requires.1 e in
-    ok.n_most
-
-pub records_at_set_up-all-requires : goal.records_at_set_up-all-requires
-records_at_set_up-all-requires c =
-    let a = c.args in
-    let e = not_refused c.set_up_refusal.result c.set_up_refusal.ensures c.in_default.not-Err in
-    let ok = accepted a.traced a.held a.words.now c.requires.0 a.first.n a.first.w a.first.initial c.requires.1 e in
-    ok.n_most
+    record { most = ok.n_most }
 
 pub carry_out-carried-requires : goal.carry_out-carried-requires
 carry_out-carried-requires c =

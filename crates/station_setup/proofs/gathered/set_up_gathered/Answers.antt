@@ -4,7 +4,7 @@ use mathlib.Core.List.{List}
 use Prim.Native.Nat.{ℕ}
 use borrow.Author.Rules.{rules}
 use Rattle.llsc.specs.Refusals.{refusal_number}
-use Rattle.rows.proofs.Refused.{number_some}
+use Rattle.llsc.proofs.RefusalNumbers.{number_some}
 use Rattle.station.specs.declared.Station.{Station}
 use Rattle.station.specs.declared.StationProcess.{StationProcess}
 use Rattle.station_setup.specs.SetUpGathered.{with_processes, told_all}
