@@ -3,17 +3,15 @@ ghost use Rattle.std.specs.Prelude.{◌≡◌, ◌≤◌, false, length, take};
 ghost use Rattle.llsc.specs.Refusals.{refusal_number};
 ghost use Rattle.model.specs.Records.{no_process};
 ghost use Rattle.lent.specs.Gathered.{gathered};
-ghost use Rattle.entry.specs.RunState.{state_of};
 ghost use Rattle.run.specs.Finished.{memory_of};
 ghost use Rattle.text_runs.specs.TextRun.{room_needed};
-ghost use Rattle.entry.specs.RunState.{fresh_run};
 ghost use Rattle.board_listing.specs.BoardListing.{board_listed};
-ghost use Rattle.board_listing.specs.ListedRun.{Between, closed, refused_with, end_of, RunsFile, SetsUp};
+ghost use Rattle.board_listing.specs.ListedRun.{fresh_state, Between, closed, refused_with, end_of, RunsFile, SetsUp};
 
 use crate::ending::Stopped;
 use crate::{ending, records};
 use board_rows::right_records;
-use entry::state::{Held, Run};
+use entry::state::Held;
 use llsc::counts::Processes;
 use llsc::refusals::Refusal;
 use rows::table::Lent;
@@ -27,7 +25,9 @@ fn refused(held: Held, cause: Refusal, list: &mut [u8]) -> Stopped
     ensures { (result, list.new) ≡ closed (refused_with held cause) list.old }
 {
     let stopped = Stopped {
-        run: Run::fresh(held, false),
+        held,
+        entries: 0,
+        written: 0,
         outcome: Err(cause),
     };
     ending::close(stopped, list)
@@ -35,16 +35,16 @@ fn refused(held: Held, cause: Refusal, list: &mut [u8]) -> Stopped
 
 // The file on a run that has done nothing: "25 and 26 also before a run".
 // Kept: file, words and list come from the caller one by one, and go on so to three crates.
-fn run_file(run: Run, file: &[u8], words: &mut [u64], list: &mut [u8]) -> Stopped
-    requires { (Between (state_of run 0 words.old list.old)) × (run ≡ fresh_run run.held false) × (room_needed false ≤ length list.old) }
-    ensures { RunsFile run words.old file.now list.old result words.new list.new }
+fn run_file(held: Held, file: &[u8], words: &mut [u64], list: &mut [u8]) -> Stopped
+    requires { (Between (fresh_state held words.old list.old)) × (room_needed false ≤ length list.old) }
+    ensures { RunsFile held words.old file.now list.old result words.new list.new }
 {
     match right_records(file) {
         Ok(records) => {
-            let done = records::obey_records(run, records, words, list);
+            let done = records::obey_records(held, records, words, list);
             ending::close(done, list)
         }
-        Err(cause) => refused(run.held, cause, list),
+        Err(cause) => refused(held, cause, list),
     }
 }
 
@@ -75,8 +75,7 @@ fn set_up_and_run(
     let count = Processes { n };
     let bench = setup::bench_at_set_up(held.bench, count, w);
     let all = set_up::records_at_set_up(held.all, count);
-    let run = Run::fresh(Held { bench, all }, false);
-    run_file(run, file, words, list)
+    run_file(Held { bench, all }, file, words, list)
 }
 
 // The run as `board_listed` says, over the bench record, sixteen process records and the words that it is given: why
@@ -97,7 +96,9 @@ pub fn run_listed(
 {
     if list.len() < limits::LISTING_ROOM {
         return Stopped {
-            run: Run::fresh(held, false),
+            held,
+            entries: 0,
+            written: 0,
             outcome: Err(Refusal::NoRoom),
         };
     }

@@ -80,7 +80,7 @@ module _ {traced : Bool} {k n w : ℕ} {e : Entry} {t : Taken} {q : Process} {ws
             }
 
         pub turn_made : {to₂ : Writer} → Writes to₁ (answer_line n w ws₂ p st.reply) to₂
-            → Turns traced k e n w t q ws to (record { taken = st.taken; process = st.process }) ws₂ to₂
+            → Turns traced k e n w t q ws to st ws₂ to₂
         turn_made w₂ = record {
           taken = ap (λ (x : Stepped). x.taken) same_stepped;
           process = ap (λ (x : Stepped). x.process) same_stepped;

@@ -20,12 +20,12 @@ use Rattle.moir_access.specs.TraceParts.{access_text}
 use Rattle.moir_semantics.specs.TextRun.{line_of, answers}
 
 -- "The value k has k in all W words": k, and as many words as an entry brings
-abbrev pub brought_by : Entry → ℕ
-brought_by (StartLl p) = 0
-brought_by (StartVl p) = 0
-brought_by (StartSc p k) = k
-brought_by (Step p) = 0
-brought_by (Finish p) = 0
+abbrev pub brought_by : Entry → Option ℕ
+brought_by (StartLl p) = None
+brought_by (StartVl p) = None
+brought_by (StartSc p k) = Some k
+brought_by (Step p) = None
+brought_by (Finish p) = None
 
 abbrev pub words_brought : Entry → ℕ → ℕ
 words_brought (StartLl p) w = 0

@@ -101,9 +101,7 @@ pub fn process_at_set_up(n: usize, r: usize, p: usize, q: StationProcess) -> Sta
 {
     let h = holding_at_set_up((sizes::sequence_numbers(Processes { n }) + p) as u8);
     let mut holdings = q.holdings;
-    for j in 0..r {
-        holdings[j] = h;
-    }
+    holdings[..r].fill(h);
     StationProcess {
         holdings,
         ..station::empty_process()

@@ -5,6 +5,7 @@ pub mod ToldLaws
 pub mod RunCommands
 pub mod KeptLaws
 pub mod MiddleLaws
+pub mod LoopLaws
 pub mod TextLaws
 pub mod StopLaws
 pub mod FaultLaws

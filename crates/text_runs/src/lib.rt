@@ -3,6 +3,7 @@
 #![tactic(auto)]
 
 pub mod entries;
+pub mod entry_loop;
 pub mod last_lines;
 pub mod limits;
 pub mod lists;

@@ -62,7 +62,7 @@ carry_out-carried-requires c =
     let f = a.first in
     let x = accepted a.traced f.n f.w f.initial a.list.now (sym c.in-Ok.ensures) in
     let first =
-    first_state_is a.traced f.n f.w f.initial a.list.now refl refl x.w_most c.fresh-run.ensures c.bench_at_set_up-bench.ensures
+    first_state_is a.traced f.n f.w f.initial a.list.now refl refl x.w_most c.fresh-run.ensures c.records-all.ensures c.bench_at_set_up-bench.ensures
     c.empty_bench.ensures c.words_at_set_up.ensures c.no_words-words.ensures c.repeated-value.ensures in
     subst Sound (sym first) (first_sound a.traced f.n f.w f.initial a.list.now c.requires.1 c.requires.0)
 
@@ -78,11 +78,11 @@ returns-in-Ok c =
     let ps = places_in a.kept.now in
     let x = accepted a.traced f.n f.w f.initial a.list.now (sym c.in-Ok.ensures) in
     let first =
-    first_state_is a.traced f.n f.w f.initial a.list.now refl refl x.w_most c.fresh-run.ensures c.bench_at_set_up-bench.ensures
+    first_state_is a.traced f.n f.w f.initial a.list.now refl refl x.w_most c.fresh-run.ensures c.records-all.ensures c.bench_at_set_up-bench.ensures
     c.empty_bench.ensures c.words_at_set_up.ensures c.no_words-words.ensures c.repeated-value.ensures in
     let out = c.carry_out-carried in (
-      carried_closed a.traced f.n f.w f.initial a.list.now ps c.in-Ok.ensures out.ensures first c.ended.ensures.is (search rules),
-      closed_report out.result.run out.result.outcome c.ended.ensures.is ∙ c.stop_report-report.ensures
+      carried_closed a.traced f.n f.w f.initial a.list.now ps c.in-Ok.ensures a.kept.now out.new.words out.new.to out.ensures.over first c.ended.ensures.is (search rules),
+      closed_report out.result.outcome c.ended.ensures.is ∙ c.stop_report-report.ensures
           ∙ item_read figure6 a.kept.now out.ensures.over f.n f.w
           ∙ begun_report a.traced f.n f.w f.initial a.list.now es ps c.in-Ok.ensures refl first,
     )
