@@ -18,7 +18,7 @@ use Rattle.model.specs.SetUp.{set_up, set_up_refusal}
 use Rattle.llsc.specs.History.{Command}
 use Rattle.model.proofs.Schedules.{l, s, steps, dirty}
 use Rattle.listing.specs.Decimal.{digits, decimal}
-use Rattle.listing.specs.Lines.{letter_l, letter_s, letter_v, answer_head, words_of, ll_line, truth_line}
+use Rattle.listing.specs.Lines.{letter_s, letter_v, answer_head, words_of, ll_line, truth_line}
 use Rattle.access.specs.declared.Access.{Access}
 use Rattle.access.specs.declared.Act.TheVariants.{Sc}
 use Rattle.doings.specs.Doings.{doing_at}
@@ -27,8 +27,10 @@ use Rattle.access.specs.Accesses.{access_of}
 use Rattle.listing.specs.Quoted.{quoted}
 use Rattle.access.specs.TraceLines.{half_text, half_place_text, item_text, values_text, stored_text}
 use Rattle.trace_parts.specs.TraceParts.{spaced, bracketed, head_text, truth_text}
-use Rattle.access.specs.TraceLines.{written_text, act_text, step_line}
-use Rattle.trace_parts.specs.TraceParts.{end_text, brought_text, start_line}
+use Rattle.access.specs.TraceLines.{written_text, act_text, access_text, step_line}
+use Rattle.trace_parts.specs.TraceParts as Parts
+use Rattle.trace_parts.specs.TraceParts.{end_text, start_text, start_line}
+use Rattle.trace_parts.specs.declared.Start.TheVariants as call
 
 -- the line of a step of p, with its answer; ws are the words after it
 stepped : ℕ → ℕ → Access → ℕ → ℕ → List ℕ → Reply → List ℕ
@@ -40,9 +42,9 @@ stepped entry p a n w ws (VlAnswered t k) = step_line entry p a true ++ truth_li
 
 -- the line of a command that finds the memory m and leaves `out`
 entry_line : ℕ → ℕ → Order → List ℕ → Memory → Reply × Memory → List ℕ
-entry_line entry p StartLl value m out = start_line entry p letter_l 0
-entry_line entry p StartSc value m out = start_line entry p letter_s (get_or value 0 0)
-entry_line entry p StartVl value m out = start_line entry p letter_v 0
+entry_line entry p StartLl value m out = start_line entry p call.Ll
+entry_line entry p StartSc value m out = start_line entry p (call.Sc (get_or value 0 0))
+entry_line entry p StartVl value m out = start_line entry p call.Vl
 entry_line entry p Step value m out =
     let q = record_at m.records (record { 0 = p }) in
     stepped entry p (access_of (point_of q.line) (record { 0 = p }) m.bench q m.words) m.bench.n m.bench.w out.1.words out.0
@@ -75,23 +77,23 @@ case-A :
     ++ quoted "17 0 18 Bank[1] read 1\n"
     ++ quoted "18 0 19 X SC 4 1 true links cleared answers 0 S 6 1\n"
 unfolding traced entry_line stepped command refusal in_range obey step_at access_of doing_at set_up set_up_refusal spaced bracketed
-    head_text half_text half_place_text item_text values_text stored_text written_text act_text end_text step_line brought_text
+    head_text half_text half_place_text item_text values_text stored_text truth_text written_text act_text end_text access_text Parts.step_line start_text
     start_line ll_line truth_line answer_head words_of decimal digits
 case-A = refl
 
 -- an SC that did nothing, a VL of each truth, and a start of a VL
 not_stored : step_line 60000 15 (bank_access 13 (record { 0 = 31 }) (Sc false) (record { 0 = 47 })) false ≡ quoted "60000 15 13 Bank[31] SC 47 false\n"
-unfolding spaced bracketed head_text item_text values_text stored_text act_text end_text step_line decimal digits
+unfolding spaced bracketed head_text item_text values_text stored_text truth_text act_text access_text end_text Parts.step_line decimal digits
 not_stored = refl
 
 valid : step_line 3 1 (vl_of_x 23 true) true ++ truth_line 1 letter_v 1 true ≡ quoted "3 1 23 X VL true answers 1 V 1 1\n"
-unfolding spaced head_text item_text truth_text act_text end_text step_line truth_line answer_head decimal digits
+unfolding spaced head_text item_text truth_text act_text access_text end_text Parts.step_line truth_line answer_head decimal digits
 valid = refl
 
 not_valid : step_line 4 1 (vl_of_x 7 false) false ≡ quoted "4 1 7 X VL false\n"
-unfolding spaced head_text item_text truth_text act_text end_text step_line decimal digits
+unfolding spaced head_text item_text truth_text act_text access_text end_text Parts.step_line decimal digits
 not_valid = refl
 
-vl_started : start_line 5 1 letter_v 0 ≡ quoted "5 1 start V\n"
-unfolding spaced head_text brought_text start_line decimal digits
+vl_started : start_line 5 1 call.Vl ≡ quoted "5 1 start V\n"
+unfolding spaced head_text start_text start_line decimal digits
 vl_started = refl

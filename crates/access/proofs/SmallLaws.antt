@@ -32,13 +32,15 @@ use Rattle.laws.proofs.AndLaws.{left, right}
 use Rattle.laws.proofs.ListLaws.{every_at}
 use Rattle.words.proofs.WordLaws.{within}
 use Rattle.taken.proofs.IndexLaws.{bank_index_in, help_index_in}
+use Rattle.access.specs.declared.Values.{Values}
+use Rattle.access.specs.declared.Values.TheVariants as of
 use Rattle.access.specs.declared.Act.{Act}
 use Rattle.access.specs.declared.Act.TheVariants.{Read, Write, Ll, Sc}
 use Rattle.access.specs.AccessOn.{x_access, bank_access, help_access, half_access, vl_of_x, sc_of_help, read_half, write_half, access_on}
 use Rattle.access.specs.Accesses.{access_of}
 use Rattle.access.proofs.AccessLaws.{access_by_taken}
 use Rattle.taken.specs.Taken.{taken_from}
-use Rattle.access.proofs.Lengths.{SmallAccess}
+use Rattle.access.proofs.Lengths.{SmallValues, SmallAct, SmallAccess}
 
 -- what a test of the first k places shows of each of them, and of what stands past the end
 found : {A : Type 0} (P : A → Type 0) (f : A → Bool) → ((a : A) → f a ≡ true → P a)
@@ -89,16 +91,21 @@ c_in n w q e =
 
 -- an access to each kind of item, whose numbers are a byte's or a word's
 valid_small : (line : ℕ) (t : Bool) → line ≤ 255 → SmallAccess (vl_of_x line t)
-valid_small line t h = record { line = h; index = omega arith; word = omega arith; first = omega arith; second = omega arith }
+valid_small line t h = record { line = h; act = (omega arith, omega arith) }
 
-x_small : (line : ℕ) (act : Act) (v : XContent) → line ≤ 255 → v.buf.0 ≤ 48 → v.seq.0 ≤ 32 → SmallAccess (x_access line act v)
-x_small line act v h k l = record { line = h; index = omega arith; word = omega arith; first = omega arith; second = omega arith }
+-- an act on values is as small as they are
+abbrev Names : (Values → Act) → Type 0
+Names act = (v : Values) → SmallValues v → SmallAct (act v)
 
-bank_small : (line : ℕ) (i : SequenceNumber) (act : Act) (v : BufferNumber) → line ≤ 255 → i.0 < 32 → v.0 ≤ 48 → SmallAccess (bank_access line i act v)
-bank_small line i act v h k l = record { line = h; index = omega arith; word = omega arith; first = omega arith; second = omega arith }
+module _ (line : ℕ) (act : Values → Act) (names : Names act) (h : line ≤ 255) where
+  x_small : (v : XContent) → v.buf.0 ≤ 48 → v.seq.0 ≤ 32 → SmallAccess (x_access line act v)
+  x_small v k l = record { line = h; act = names (of.X v) (omega (arith, k), omega (arith, l)) }
 
-help_small : (line : ℕ) (i : ProcessNumber) (act : Act) (v : HelpContent) → line ≤ 255 → i.0 < 16 → v.flag ≤ 1 → v.buf.0 ≤ 48 → SmallAccess (help_access line i act v)
-help_small line i act v h k l m = record { line = h; index = omega arith; word = omega arith; first = omega arith; second = omega arith }
+  bank_small : (i : SequenceNumber) (v : BufferNumber) → i.0 < 32 → v.0 ≤ 48 → SmallAccess (bank_access line i act v)
+  bank_small i v k l = record { line = h; act = names (of.Bank i v) (omega (arith, k), omega (arith, l)) }
+
+  help_small : (i : ProcessNumber) (v : HelpContent) → i.0 < 16 → v.flag ≤ 1 → v.buf.0 ≤ 48 → SmallAccess (help_access line i act v)
+  help_small i v k l m = record { line = h; act = names (of.Help i v) (omega (arith, k), (omega (arith, l), omega (arith, m))) }
 
 -- b is the bench, q the record of p, ws the lent words, of which the 5N rows have at most ten digits
 module _ (b : Bench) {q : Process} {p : ProcessNumber} {ws : List ℕ} (r : Ready b.n b.w q p ws)
@@ -142,16 +149,19 @@ module _ (b : Bench) {q : Process} {p : ProcessNumber} {ws : List ℕ} (r : Read
   most : b.n ≤ 16
   most = r.lent.n_most
 
-  word_small : (line : ℕ) (f : BufferNumber) (act : Act) (v : ℕ) → line ≤ 255 → f.0 < 3 * b.n → v ≤ 4294967295
+  word_small : (line : ℕ) (f : BufferNumber) (act : Values → Act) → Names act → (v : ℕ) → line ≤ 255 → f.0 < 3 * b.n → v ≤ 4294967295
       → SmallAccess (half_access line f q.word act (half q.word v))
-  word_small line f act v h k l = record { line = h; index = omega (arith, most); word = omega (arith, r.word, r.lent.w_most); first = half_small q.word v l; second = omega arith }
+  word_small line f act names v h k l = record {
+    line = h;
+    act = names (of.Half f q.word (half q.word v)) (omega (arith, k, most), (omega (arith, r.word, r.lent.w_most), half_small q.word v l));
+  }
 
   -- LL or read of Help[i], and a read of BUF[f]
-  seen_small : (line : ℕ) (i : ProcessNumber) (act : Act) → line ≤ 255 → i.0 < b.n → SmallAccess (help_access line i act (help_at b i).content)
-  seen_small line i act h k = let s = help_at_is i k in help_small line i act (help_at b i).content h (omega (arith, most)) s.flag (omega (arith, s.buf, most))
+  seen_small : (line : ℕ) (i : ProcessNumber) (act : Values → Act) → Names act → line ≤ 255 → i.0 < b.n → SmallAccess (help_access line i act (help_at b i).content)
+  seen_small line i act names h k = let s = help_at_is i k in help_small line act names h i (help_at b i).content (omega (arith, most)) s.flag (omega (arith, s.buf, most))
 
   read_small : (line : ℕ) (f : BufferNumber) → line ≤ 255 → f.0 < 3 * b.n → SmallAccess (read_half line f b.w q ws)
-  read_small line f h k = word_small line f Read (get_or ws (buffer_word b.w f (word_of q.word)) 0) h k (word_at f.0 (omega arith))
+  read_small line f h k = word_small line f Read (λ v s. s) (get_or ws (buffer_word b.w f (word_of q.word)) 0) h k (word_at f.0 (omega arith))
 
   own : p.0 < b.n
   own = r.lent.process
@@ -174,36 +184,36 @@ module _ (b : Bench) {q : Process} {p : ProcessNumber} {ws : List ℕ} (r : Read
       → SmallAccess (sc_of_help line i p v (help_at b i))
   stored_small line i v h k l =
       let done = Sc (linked (help_at b i).links p) in
-      help_small line i done (record { flag = 0; buf = v }) h (omega (arith, most)) (omega arith) (omega (arith, most))
+      help_small line done (λ x s. s) h i (record { flag = 0; buf = v }) (omega (arith, most)) (omega arith) (omega (arith, most))
 
   -- a half of a word of the row goes to BUF[mybuf]
   written_small : (line row : ℕ) → line ≤ 255 → row < 5 * b.n → SmallAccess (write_half line (row * b.w + word_of q.word) q ws)
-  written_small line row h k = word_small line q.mybuf Write (get_or ws (row * b.w + word_of q.word) 0) h r.mybuf (word_at row k)
+  written_small line row h k = word_small line q.mybuf Write (λ v s. s) (get_or ws (row * b.w + word_of q.word) 0) h r.mybuf (word_at row k)
 
   taken_small : (y : Point) → SmallAccess (access_on y p b.n b.w (taken_from y b p q) q ws)
   unfolding access_on
   taken_small idle = valid_small 0 false (omega arith)
-  taken_small line1 = help_small 1 p Write (record { flag = 1; buf = q.mybuf }) (omega arith) (omega (arith, own, most)) (omega arith) (omega (arith, r.mybuf, most))
-  taken_small line2 = x_small 2 Ll b.x.content (omega arith) (omega (arith, x_buf, most)) (omega (arith, x_seq, most))
+  taken_small line1 = help_small 1 Write (λ v s. s) (omega arith) p (record { flag = 1; buf = q.mybuf }) (omega (arith, own, most)) (omega arith) (omega (arith, r.mybuf, most))
+  taken_small line2 = x_small 2 Ll (λ v s. s) (omega arith) b.x.content (omega (arith, x_buf, most)) (omega (arith, x_seq, most))
   taken_small line3 = read_small 3 q.x.buf (omega arith) r.x_buf
-  taken_small line4 = seen_small 4 p Ll (omega arith) own
-  taken_small line5 = x_small 5 Ll b.x.content (omega arith) (omega (arith, x_buf, most)) (omega (arith, x_seq, most))
+  taken_small line4 = seen_small 4 p Ll (λ v s. s) (omega arith) own
+  taken_small line5 = x_small 5 Ll (λ v s. s) (omega arith) b.x.content (omega (arith, x_buf, most)) (omega (arith, x_seq, most))
   taken_small line6 = read_small 6 q.x.buf (omega arith) r.x_buf
   taken_small line7 = valid_small 7 (linked b.x.links p) (omega arith)
   taken_small line7copy = read_small 7 q.b (omega arith) r.b_buf
-  taken_small line8 = seen_small 8 p Ll (omega arith) own
+  taken_small line8 = seen_small 8 p Ll (λ v s. s) (omega arith) own
   taken_small line9 = stored_small 9 p q.c (omega arith) own (c_in b.n b.w q process)
-  taken_small line10 = seen_small 10 p Read (omega arith) own
+  taken_small line10 = seen_small 10 p Read (λ v s. s) (omega arith) own
   taken_small line11 = written_small 11 (3 * b.n + p.0) (omega arith) (omega (arith, own))
-  taken_small line12 = bank_small 12 q.x.seq Ll (bank_at b q.x.seq).content (omega arith) (omega (arith, r.x_seq, most)) (omega (arith, bank_at_is q.x.seq r.x_seq, most))
+  taken_small line12 = bank_small 12 Ll (λ v s. s) (omega arith) q.x.seq (bank_at b q.x.seq).content (omega (arith, r.x_seq, most)) (omega (arith, bank_at_is q.x.seq r.x_seq, most))
   taken_small line12valid = valid_small 12 (linked b.x.links p) (omega arith)
-  taken_small line13 = bank_small 13 q.x.seq (Sc (linked (bank_at b q.x.seq).links p)) q.x.buf (omega arith) (omega (arith, r.x_seq, most)) (omega (arith, r.x_buf, most))
-  taken_small line14 = seen_small 14 g Ll (omega arith) helped_in
+  taken_small line13 = bank_small 13 (Sc (linked (bank_at b q.x.seq).links p)) (λ v s. s) (omega arith) q.x.seq q.x.buf (omega (arith, r.x_seq, most)) (omega (arith, r.x_buf, most))
+  taken_small line14 = seen_small 14 g Ll (λ v s. s) (omega arith) helped_in
   taken_small line14valid = valid_small 14 (linked b.x.links p) (omega arith)
   taken_small line15 = stored_small 15 g q.mybuf (omega arith) helped_in r.mybuf
   taken_small line17 = written_small 17 (4 * b.n + p.0) (omega arith) (omega (arith, own))
-  taken_small line18 = bank_small 18 (freed) Read (bank_at b (freed)).content (omega arith) (omega (arith, next_in, most)) (omega (arith, bank_at_is (freed) next_in, most))
-  taken_small line19 = x_small 19 (Sc (linked b.x.links p)) (record { buf = q.mybuf; seq = freed }) (omega arith) (omega (arith, r.mybuf, most)) (omega (arith, next_in, most))
+  taken_small line18 = bank_small 18 Read (λ v s. s) (omega arith) freed (bank_at b freed).content (omega (arith, next_in, most)) (omega (arith, bank_at_is freed next_in, most))
+  taken_small line19 = x_small 19 (Sc (linked b.x.links p)) (λ v s. s) (omega arith) (record { buf = q.mybuf; seq = freed }) (omega (arith, r.mybuf, most)) (omega (arith, next_in, most))
   taken_small line23 = valid_small 23 (linked b.x.links p) (omega arith)
 
   pub access_small : (y : Point) → SmallAccess (access_of y p b q ws)

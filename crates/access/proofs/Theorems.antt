@@ -20,28 +20,56 @@ use Rattle.doings.specs.declared.Item.TheVariants.{X, Bank, Help, Half}
 use Rattle.doings.specs.Items.{Holding, item_in, item_at}
 use Rattle.doings.specs.Own.{Own, own_in}
 use Rattle.doings.specs.Doings
-use Rattle.doings.specs.Doings.{read, ll, vl, sc, write, cleared, acted, seen, Touching, nothing, one, doing_at, effect}
+use Rattle.doings.specs.Doings.{read, ll, vl, sc, write, cleared, acted, Seen, seen, Touching, nothing, one, doing_at, effect}
 use Rattle.doings.specs.Depends.{Alike, SameAfter}
 use Rattle.doings.proofs.Layouts.{one_record_laid}
 use Rattle.doings.proofs.ItemLaws.{Stands}
 use Rattle.doings.proofs.Figure2.{Ranged, Follows, step_follows}
 use Rattle.doings.proofs.Effects.{item_left, other_left, depends}
 use Rattle.access.specs.declared.Act.TheVariants.{Sc}
-use Rattle.access.specs.Accesses.{shown_act, shown_first, shown_second, shown, paper_line, doing_now, access_of}
-use Rattle.access.specs.Truth.{Says, TellsTruth, Stepped, DependsOn}
+use Rattle.access.specs.Accesses.{values_of, item_with, item_of, shown_act, shown, paper_line, doing_now, access_of}
+use Rattle.access.specs.Truth.{holding_of, Says, TellsTruth, Stepped, DependsOn}
 
--- an act says what it does
-sc_says : (t : Bool) (p : ProcessNumber) (v u : ℕ) (h : Holding) → linked h.links p ≡ t → Says (Sc t) p v u h (cond t (cleared v u) h)
-sc_says true p v u h e = (e, refl)
-sc_says false p v u h e = (e, refl)
+-- an item that holds v and u holds the values that it is shown with
+shown_held : (i : Item) (b : Bench) (ws : List ℕ) {v u l : ℕ} → item_at i b ws ≡ record { first = v; second = u; links = l }
+    → item_at i b ws ≡ holding_of (values_of i v u) l
+shown_held X b ws e = e
+shown_held (Bank i) b ws e = ap (λ (h : Holding). record { first = h.first; second = 0; links = h.links }) e
+shown_held (Help i) b ws e = e
+shown_held (Half f k) b ws e = ap (λ (h : Holding). record { first = h.first; second = 0; links = h.links }) e
 
-act_says : (a : Doings.Act) (p : ProcessNumber) (h : Holding)
-    → Says (shown_act a (seen p h)) p (shown_first a (seen p h)) (shown_second a (seen p h)) h (acted a p h)
-act_says read p h = (record { first = refl; second = refl }, refl)
-act_says ll p h = (record { first = refl; second = refl }, refl)
-act_says vl p h = (refl, refl)
-act_says (sc v u) p h = sc_says (linked h.links p) p v u h refl
-act_says (write v u) p h = refl
+-- an act shows the item that it touches
+with_item : (i : Item) (v u : ℕ) → item_with (values_of i v u) ≡ i
+with_item X v u = refl
+with_item (Bank i) v u = refl
+with_item (Help i) v u = refl
+with_item (Half f k) v u = refl
+
+pub item_shown : (i : Item) (a : Doings.Act) (s : Seen) → item_of (shown_act i a s) ≡ i
+item_shown i read s = with_item i s.first s.second
+item_shown i ll s = with_item i s.first s.second
+item_shown i vl s = refl
+item_shown i (sc v u) s = with_item i v u
+item_shown i (write v u) s = with_item i v u
+
+-- an act says what it does: from the bench b and the words ws it leaves b' and ws'
+module _ (i : Item) (p : ProcessNumber) (b : Bench) (ws : List ℕ) (b' : Bench) (ws' : List ℕ) where
+  abbrev old : Holding
+  old = item_at i b ws
+
+  abbrev new : Holding
+  new = item_at i b' ws'
+
+  sc_says : (t : Bool) (v u : ℕ) → linked old.links p ≡ t → new ≡ cond t (cleared v u) old → Says (Sc t (values_of i v u)) p old new
+  sc_says true v u e left = (e, shown_held i b' ws' left)
+  sc_says false v u e left = (e, left)
+
+  act_says : (a : Doings.Act) → new ≡ acted a p old → Says (shown_act i a (seen p old)) p old new
+  act_says read left = (shown_held i b ws refl, left)
+  act_says ll left = (shown_held i b ws refl, shown_held i b' ws' left)
+  act_says vl left = (refl, left)
+  act_says (sc v u) left = sc_says (linked old.links p) v u refl left
+  act_says (write v u) left = shown_held i b' ws' left
 
 -- the buffers of one record lie at their own numbers, whatever N is
 at_own_place : (i : Item) (b : Bench) (ws : List ℕ) (n : ℕ) → item_at i b ws ≡ item_in (one_record n) i b ws
@@ -110,9 +138,11 @@ module _ {b : Bench} {q : Process} {p : ProcessNumber} {ws : List ℕ} (s : Step
       let b' = (effect l p (one d) b ws).0.bench in let ws' = (effect l p (one d) b ws).1 in
       let left : item_at d.item b' ws' ≡ acted d.act p h =
       at_own_place d.item b' ws' b.n ∙ item_left stands ranged.process wide d f.inside f.areas ∙ f.exact in
+      let says : Says (shown_act d.item d.act (seen p h)) p h (item_at d.item b' ws') = act_says d.item p b ws b' ws' d.act left in
+      let is = item_shown d.item d.act (seen p h) in
       let tells : TellsTruth p (shown line p (one d) b ws) b ws b' ws' = record {
-        item = subst (Says (shown_act d.act (seen p h)) p (shown_first d.act (seen p h)) (shown_second d.act (seen p h)) h) (sym left) (act_says d.act p h);
-        others = λ i there ne. at_own_place i b' ws' b.n ∙ other_left stands ranged.process wide (one d) f.inside f.areas i there (λ e. ne (sym e));
+        item = subst (λ (i : Item). Says (shown_act d.item d.act (seen p h)) p (item_at i b ws) (item_at i b' ws')) (sym is) says;
+        others = λ i there ne. at_own_place i b' ws' b.n ∙ other_left stands ranged.process wide (one d) f.inside f.areas i there (λ e. ne (sym e ∙ sym is));
       } in
       subst (λ (r : Moved × List ℕ). TellsTruth p (shown line p (one d) b ws) b ws r.0.bench r.1) (sym f.same) tells
 
@@ -129,17 +159,21 @@ module _ {b b₂ : Bench} {q : Process} {p : ProcessNumber} {ws ws₂ : List ℕ
 
   alike_left : (line : ℕ) (t : Touching Item Process) {out out₂ : Moved × List ℕ} → IsOne t
       → Follows (one_record b.n) p b ws out t → Follows (one_record b₂.n) p b₂ ws₂ out₂ t
-      → Alike (λ i. (shown line p t b ws).item ≡ i) p q (one_record b.n) (one_record b₂.n) b b₂ ws ws₂
-      → SameAfter (λ i. (shown line p t b ws).item ≡ i) p (one_record b.n) (one_record b₂.n) out out₂
+      → Alike (λ i. item_of (shown line p t b ws).act ≡ i) p q (one_record b.n) (one_record b₂.n) b b₂ ws ws₂
+      → SameAfter (λ i. item_of (shown line p t b ws).act ≡ i) p (one_record b.n) (one_record b₂.n) out out₂
   alike_left line (nothing out) x f f₂ a = absurd x
-  alike_left line (one d) x f f₂ a = depends (stands s) (stands s₂) (ranged s).process (wide s) (one d) f f₂ a
+  alike_left line (one d) {out} {out₂} x f f₂ a =
+      let is = item_shown d.item d.act (seen p (item_at d.item b ws)) in
+      subst (λ (j : Item). SameAfter (λ i. j ≡ i) p (one_record b.n) (one_record b₂.n) out out₂) (sym is)
+      (depends (stands s) (stands s₂) (ranged s).process (wide s) (one d) f f₂
+      (subst (λ (j : Item). Alike (λ i. j ≡ i) p q (one_record b.n) (one_record b₂.n) b b₂ ws ws₂) is a))
 
 -- the item shown is the one that the step depends on
 pub step_depends : {b : Bench} {q : Process} {p : ProcessNumber} {ws : List ℕ} → Stepped b q p ws → (y : Point) → y ≢ idle
-    → DependsOn y p b q ws (access_of y p b q ws).item
+    → DependsOn y p b q ws (item_of (access_of y p b q ws).act)
 unfolding access_of step_at
 step_depends {b} {q} {p} {ws} s y ne b₂ ws₂ s₂ a =
     let l₂ = one_record b₂.n in
     let one_item = one_at y ne b.n b.w p (own_in (one_record b.n) b.w p q ws) in
-    let again = subst (Follows l₂ p b₂ ws₂ (stepped_in l₂ y p b₂ q ws₂)) (sym (same_doing s s₂ (λ i. (access_of y p b q ws).item ≡ i) y a)) (step_follows (stands s₂) (ranged s₂) y) in
+    let again = subst (Follows l₂ p b₂ ws₂ (stepped_in l₂ y p b₂ q ws₂)) (sym (same_doing s s₂ (λ i. item_of (access_of y p b q ws).act ≡ i) y a)) (step_follows (stands s₂) (ranged s₂) y) in
     alike_left s s₂ (paper_line y) (doing_now y p b q ws) one_item (step_follows (stands s) (ranged s) y) again a

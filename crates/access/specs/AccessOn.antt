@@ -14,27 +14,29 @@ use Rattle.model.specs.Words.{buffer_word, return_word, offer_word, word_of, hal
 use Rattle.model.specs.Points.{Point, idle, line1, line2, line3, line4, line5, line6, line7, line7copy, line8, line9, line10, line11}
 use Rattle.model.specs.Points.{line12, line12valid, line13, line14, line14valid, line15, line17, line18, line19, line23}
 use Rattle.taken.specs.declared.Taken.{Taken}
-use Rattle.doings.specs.declared.Item.TheVariants.{X, Bank, Help, Half}
+use Rattle.doings.specs.declared.Item.TheVariants as item
+use Rattle.access.specs.declared.Values.{Values}
+use Rattle.access.specs.declared.Values.TheVariants.{X, Bank, Help, Half}
 use Rattle.access.specs.declared.Act.{Act}
 use Rattle.access.specs.declared.Act.TheVariants.{Read, Write, Ll, Sc, Vl}
 use Rattle.access.specs.declared.Access.{Access}
 
 -- an act on each kind of item, with the values that are read or written
-abbrev pub x_access : ℕ → Act → XContent → Access
-x_access line act v = record { line = line; item = X; act = act; first = v.buf.0; second = v.seq.0 }
+abbrev pub x_access : ℕ → (Values → Act) → XContent → Access
+x_access line act v = record { line = line; act = act (X v) }
 
-abbrev pub bank_access : ℕ → SequenceNumber → Act → BufferNumber → Access
-bank_access line i act v = record { line = line; item = Bank i; act = act; first = v.0; second = 0 }
+abbrev pub bank_access : ℕ → SequenceNumber → (Values → Act) → BufferNumber → Access
+bank_access line i act v = record { line = line; act = act (Bank i v) }
 
-abbrev pub help_access : ℕ → ProcessNumber → Act → HelpContent → Access
-help_access line i act v = record { line = line; item = Help i; act = act; first = v.flag; second = v.buf.0 }
+abbrev pub help_access : ℕ → ProcessNumber → (Values → Act) → HelpContent → Access
+help_access line i act v = record { line = line; act = act (Help i v) }
 
-abbrev pub half_access : ℕ → BufferNumber → ℕ → Act → ℕ → Access
-half_access line f k act v = record { line = line; item = Half f k; act = act; first = v; second = 0 }
+abbrev pub half_access : ℕ → BufferNumber → ℕ → (Values → Act) → ℕ → Access
+half_access line f k act v = record { line = line; act = act (Half f k v) }
 
 -- VL(X): it names no values
 abbrev pub vl_of_x : ℕ → Bool → Access
-vl_of_x line t = record { line = line; item = X; act = Vl t; first = 0; second = 0 }
+vl_of_x line t = record { line = line; act = Vl t item.X }
 
 -- what stands for no access: a VL(X) of no line
 abbrev pub no_access : Access

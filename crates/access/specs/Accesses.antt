@@ -8,51 +8,52 @@ use Rattle.model.specs.Words.{one_record}
 use Rattle.model.specs.Points.{Point, idle, line1, line2, line3, line4, line5, line6, line7, line7copy, line8, line9, line10, line11}
 use Rattle.model.specs.Points.{line12, line12valid, line13, line14, line14valid, line15, line17, line18, line19, line23}
 use Rattle.doings.specs.declared.Item.{Item}
-use Rattle.doings.specs.declared.Item.TheVariants.{X}
+use Rattle.doings.specs.declared.Item.TheVariants.{X, Bank, Help, Half}
 use Rattle.doings.specs.Items.{item_at}
 use Rattle.doings.specs.Own.{own_in}
 use Rattle.doings.specs.Doings
 use Rattle.doings.specs.Doings.{read, ll, vl, sc, write, Seen, seen, Touching, nothing, one, doing_at}
+use Rattle.access.specs.declared.Values.{Values}
+use Rattle.access.specs.declared.Values.TheVariants as of
 use Rattle.access.specs.declared.Act.{Act}
 use Rattle.access.specs.declared.Act.TheVariants.{Read, Write, Ll, Sc, Vl}
 use Rattle.access.specs.declared.Access.{Access}
 
--- the act; a VL tells the own link, and so does an SC, which writes if it is set
-abbrev pub shown_act : Doings.Act → Seen → Act
-shown_act read s = Read
-shown_act ll s = Ll
-shown_act vl s = Vl s.linked
-shown_act (sc v u) s = Sc s.linked
-shown_act (write v u) s = Write
+-- The item with the values v and u: X and a place of Help have both, a place of Bank and a half word the first alone.
+abbrev pub values_of : Item → ℕ → ℕ → Values
+values_of X v u = of.X (record { buf = record { 0 = v }; seq = record { 0 = u } })
+values_of (Bank i) v u = of.Bank i (record { 0 = v })
+values_of (Help i) v u = of.Help i (record { flag = v; buf = record { 0 = u } })
+values_of (Half f k) v u = of.Half f k v
 
--- the values read, or those brought; a VL names none
-abbrev pub shown_first : Doings.Act → Seen → ℕ
-shown_first read s = s.first
-shown_first ll s = s.first
-shown_first vl s = 0
-shown_first (sc v u) s = v
-shown_first (write v u) s = v
+-- the item alone, and that of an act
+abbrev pub item_with : Values → Item
+item_with (of.X v) = X
+item_with (of.Bank i v) = Bank i
+item_with (of.Help i v) = Help i
+item_with (of.Half f k v) = Half f k
 
-abbrev pub shown_second : Doings.Act → Seen → ℕ
-shown_second read s = s.second
-shown_second ll s = s.second
-shown_second vl s = 0
-shown_second (sc v u) s = u
-shown_second (write v u) s = u
+abbrev pub item_of : Act → Item
+item_of (Read v) = item_with v
+item_of (Write v) = item_with v
+item_of (Ll v) = item_with v
+item_of (Sc t v) = item_with v
+item_of (Vl t i) = i
+
+-- the act, with the values read, or those brought; a VL names none. It tells the own link, and so does an SC, which
+-- writes if it is set.
+abbrev pub shown_act : Item → Doings.Act → Seen → Act
+shown_act i read s = Read (values_of i s.first s.second)
+shown_act i ll s = Ll (values_of i s.first s.second)
+shown_act i vl s = Vl s.linked i
+shown_act i (sc v u) s = Sc s.linked (values_of i v u)
+shown_act i (write v u) s = Write (values_of i v u)
 
 -- p does t, from the bench b and the words ws, at this line of Figure 2; what stands for no access is a VL(X) of no
 -- line
 abbrev pub shown : ℕ → ProcessNumber → Touching Item Process → Bench → List ℕ → Access
-shown line p (nothing out) b ws = record { line = 0; item = X; act = Vl false; first = 0; second = 0 }
-shown line p (one d) b ws =
-    let s = seen p (item_at d.item b ws) in
-    record {
-      line = line;
-      item = d.item;
-      act = shown_act d.act s;
-      first = shown_first d.act s;
-      second = shown_second d.act s;
-    }
+shown line p (nothing out) b ws = record { line = 0; act = Vl false X }
+shown line p (one d) b ws = record { line = line; act = shown_act d.item d.act (seen p (item_at d.item b ws)) }
 
 -- the paper's number of a point's line
 abbrev pub paper_line : Point → ℕ

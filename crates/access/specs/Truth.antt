@@ -6,42 +6,45 @@ use Rattle.model.specs.declared.Process.{Process}
 use Rattle.model.specs.Words.{one_record}
 use Rattle.model.specs.Points.{Point}
 use Rattle.model.specs.Machine.{step_at}
-use Rattle.model.specs.Places.{linked, link}
+use Rattle.model.specs.Places.{no_links, linked, link}
 use Rattle.taken.specs.Ranges.{Ready}
 use Rattle.doings.specs.declared.Item.{Item}
+use Rattle.access.specs.declared.Values.{Values}
+use Rattle.access.specs.declared.Values.TheVariants as of
 use Rattle.access.specs.declared.Act.{Act}
 use Rattle.access.specs.declared.Act.TheVariants.{Read, Write, Ll, Sc, Vl}
 use Rattle.access.specs.declared.Access.{Access}
-use Rattle.doings.specs.Items.{InBench, Holding, item_at}
-use Rattle.doings.specs.Doings.{cleared}
+use Rattle.access.specs.Accesses.{item_of}
+use Rattle.doings.specs.Items.{InBench, Holding, x_holding, bank_holding, help_holding, item_at}
 use Rattle.doings.specs.Depends.{Alike, SameAfter}
 
--- the values v and u are in h
-pub record Holds (v u : ℕ) (h : Holding) : Type 0 where
-  pub first : h.first ≡ v
-  pub second : h.second ≡ u
+-- what an item holds that has these values, and these links
+abbrev pub holding_of : Values → ℕ → Holding
+holding_of (of.X v) l = x_holding (record { content = v; links = l })
+holding_of (of.Bank i v) l = bank_holding (record { content = v; links = l })
+holding_of (of.Help i v) l = help_holding (record { content = v; links = l })
+holding_of (of.Half f k v) l = record { first = v; second = 0; links = l }
 
--- What the act of p with the values v and u says of its item, which held `old` before the step and holds `new` after
--- it.
-abbrev pub Says : Act → ProcessNumber → ℕ → ℕ → Holding → Holding → Type 0
+-- What the act of p says of its item, which held `old` before the step and holds `new` after it.
+abbrev pub Says : Act → ProcessNumber → Holding → Holding → Type 0
 -- the values read are those that the item holds, and it stays as it is
-Says Read p v u old new = Holds v u old × (new ≡ old)
+Says (Read v) p old new = (old ≡ holding_of v old.links) × (new ≡ old)
 -- the values are written, and all links are cleared
-Says Write p v u old new = new ≡ cleared v u
+Says (Write v) p old new = new ≡ holding_of v no_links
 -- the values returned are those that the item holds and keeps; p's link is set, the others are as before
-Says Ll p v u old new = Holds v u old × (new ≡ record { first = v; second = u; links = link old.links p })
+Says (Ll v) p old new = (old ≡ holding_of v old.links) × (new ≡ holding_of v (link old.links p))
 -- p had the link: the values are written, and all links are cleared
-Says (Sc true) p v u old new = (linked old.links p ≡ true) × (new ≡ cleared v u)
+Says (Sc true v) p old new = (linked old.links p ≡ true) × (new ≡ holding_of v no_links)
 -- p did not have the link: the item stays as it is
-Says (Sc false) p v u old new = (linked old.links p ≡ false) × (new ≡ old)
+Says (Sc false v) p old new = (linked old.links p ≡ false) × (new ≡ old)
 -- the truth is p's link
-Says (Vl t) p v u old new = (linked old.links p ≡ t) × (new ≡ old)
+Says (Vl t i) p old new = (linked old.links p ≡ t) × (new ≡ old)
 
 -- The access a is what a step of p made of the bench and the words: its item is as it says, and every other is as
 -- before.
 pub record TellsTruth (p : ProcessNumber) (a : Access) (b : Bench) (ws : List ℕ) (b' : Bench) (ws' : List ℕ) : Type 0 where
-  pub item : Says a.act p a.first a.second (item_at a.item b ws) (item_at a.item b' ws')
-  pub others : (i : Item) → InBench b i → i ≢ a.item → item_at i b' ws' ≡ item_at i b ws
+  pub item : Says a.act p (item_at (item_of a.act) b ws) (item_at (item_of a.act) b' ws')
+  pub others : (i : Item) → InBench b i → i ≢ item_of a.act → item_at i b' ws' ≡ item_at i b ws
 
 -- The ranges of a step, and tables of their declared lengths.
 pub record Stepped (b : Bench) (q : Process) (p : ProcessNumber) (ws : List ℕ) : Type 0 where

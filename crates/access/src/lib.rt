@@ -2,34 +2,74 @@
 
 #![tactic(auto)]
 
+ghost use Rattle.std.specs.Prelude.{◌≡◌};
+ghost use Rattle.access.specs.Accesses.{item_with, item_of};
+
 use doings::Item;
+use llsc::ProcessNumber;
+use model::{BufferNumber, HelpContent, SequenceNumber, XContent};
 
 pub mod access_of;
 pub mod on_bank;
 pub mod on_help;
 pub mod on_words;
 pub mod on_x;
-pub mod texts;
-pub mod trace_lines;
+mod texts;
+mod trace_lines;
 
-// What a step does to its item; an SC and a VL with the truth that they tell.
+// A shared item with the values that are read or written there: two of X and of a place of Help, one of a place of Bank
+// and of a half word.
 #[derive(Clone, Copy)]
-pub enum Act {
-    Read,
-    Write,
-    Ll,
-    Sc(bool),
-    Vl(bool),
+pub enum Values {
+    X(XContent),
+    Bank(SequenceNumber, BufferNumber),
+    Help(ProcessNumber, HelpContent),
+    Half(BufferNumber, usize, u64),
 }
 
-// An access: the line of Figure 2, the item, the act and the values read or written: two for X and a place of Help, one
-// for a place of Bank and a half word, none for a VL. A value that there is not is 0.
-// Kept: the item and the act tell how many values there are; an Option for each would tell it a second time.
+impl Values {
+    // The item alone.
+    #[tactic(auto, unfolding(crate::specs::Accesses::item_with))]
+    pub fn item(self) -> Item
+        ensures { result ≡ item_with self }
+    {
+        match self {
+            Values::X(_) => Item::X,
+            Values::Bank(i, _) => Item::Bank(i),
+            Values::Help(i, _) => Item::Help(i),
+            Values::Half(f, k, _) => Item::Half(f, k),
+        }
+    }
+}
+
+// What a step does: a read, a write, an LL and an SC with the item's values, an SC and a VL with the truth that they
+// tell. A VL names no values.
+#[derive(Clone, Copy)]
+pub enum Act {
+    Read(Values),
+    Write(Values),
+    Ll(Values),
+    Sc(bool, Values),
+    Vl(bool, Item),
+}
+
+impl Act {
+    // The item that it touches.
+    #[tactic(auto, unfolding(crate::specs::Accesses::item_of))]
+    pub fn item(self) -> Item
+        ensures { result ≡ item_of self }
+    {
+        match self {
+            Act::Read(values) | Act::Write(values) | Act::Ll(values) | Act::Sc(_, values) =>
+                values.item(),
+            Act::Vl(_, item) => item,
+        }
+    }
+}
+
+// An access: the line of Figure 2, and the act.
 #[derive(Clone, Copy)]
 pub struct Access {
     pub line: u8,
-    pub item: Item,
     pub act: Act,
-    pub first: u64,
-    pub second: u64,
 }

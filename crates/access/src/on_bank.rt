@@ -5,29 +5,19 @@ ghost use Rattle.model.specs.Tables.{next};
 ghost use Rattle.lines.specs.Ranges.{Sized};
 ghost use Rattle.access.specs.AccessOn.{bank_access};
 
-use crate::{Access, Act};
-use doings::Item;
+use crate::{Access, Act, Values};
 use lines::sequence;
 use llsc::ProcessNumber;
-use model::{BankPlace, BufferNumber, SequenceNumber, XContent};
-
-fn on_bank(line: u8, i: SequenceNumber, act: Act, content: BufferNumber) -> Access
-    ensures { result ≡ bank_access line i act content }
-{
-    Access {
-        line,
-        item: Item::Bank(i),
-        act,
-        first: content.0 as u64,
-        second: 0,
-    }
-}
+use model::{BankPlace, XContent};
 
 // Line 12: LL(Bank[x.seq]).
 pub fn ll(bank: BankPlace, x: XContent) -> Access
     ensures { result ≡ bank_access 12 x.seq Act.Ll bank.content }
 {
-    on_bank(12, x.seq, Act::Ll, bank.content)
+    Access {
+        line: 12,
+        act: Act::Ll(Values::Bank(x.seq, bank.content)),
+    }
 }
 
 // Line 13: SC(Bank[x.seq], x.buf).
@@ -36,7 +26,10 @@ pub fn sc(p: ProcessNumber, bank: BankPlace, x: XContent) -> Access
     ensures { result ≡ bank_access 13 x.seq (Act.Sc (linked bank.links p)) x.buf }
 {
     let done = places::is_linked(bank.links, p);
-    on_bank(13, x.seq, Act::Sc(done), x.buf)
+    Access {
+        line: 13,
+        act: Act::Sc(done, Values::Bank(x.seq, x.buf)),
+    }
 }
 
 // Line 18: the plain read of Bank[(x.seq + 1) mod 2N]. n is N.
@@ -45,5 +38,8 @@ pub fn read(n: usize, bank: BankPlace, x: XContent) -> Access
     ensures { result ≡ bank_access 18 (next n x.seq) Act.Read bank.content }
 {
     let i = sequence::following(n, x.seq);
-    on_bank(18, i, Act::Read, bank.content)
+    Access {
+        line: 18,
+        act: Act::Read(Values::Bank(i, bank.content)),
+    }
 }

@@ -5,38 +5,32 @@ ghost use Rattle.model.specs.Tables.{helped};
 ghost use Rattle.lines.specs.Ranges.{Sized};
 ghost use Rattle.access.specs.AccessOn.{help_access, ll_of_help, sc_of_help};
 
-use crate::{Access, Act};
-use doings::Item;
+use crate::{Access, Act, Values};
 use lines::on_help::{ASKED, GIVEN};
 use lines::sequence;
 use llsc::ProcessNumber;
 use model::{BufferNumber, HelpContent, HelpPlace, Process};
-
-fn on_help(line: u8, i: ProcessNumber, act: Act, content: HelpContent) -> Access
-    ensures { result ≡ help_access line i act content }
-{
-    Access {
-        line,
-        item: Item::Help(i),
-        act,
-        first: content.flag as u64,
-        second: content.buf.0 as u64,
-    }
-}
 
 // Line 1: the plain write of Help[p].
 pub fn write(p: ProcessNumber, process: Process) -> Access
     ensures { result ≡ help_access 1 p Act.Write (record { flag = 1; buf = process.mybuf }) }
 {
     let buf = process.mybuf;
-    on_help(1, p, Act::Write, HelpContent { flag: ASKED, buf })
+    let asked = HelpContent { flag: ASKED, buf };
+    Access {
+        line: 1,
+        act: Act::Write(Values::Help(p, asked)),
+    }
 }
 
 // Lines 4, 8 and 14: LL(Help[i]).
 pub fn ll(line: u8, i: ProcessNumber, help: HelpPlace) -> Access
     ensures { result ≡ ll_of_help line i help }
 {
-    on_help(line, i, Act::Ll, help.content)
+    Access {
+        line,
+        act: Act::Ll(Values::Help(i, help.content)),
+    }
 }
 
 // Lines 9 and 15: p's SC(Help[i], (0, buf)).
@@ -51,14 +45,21 @@ pub fn sc(
     ensures { result ≡ sc_of_help line i p buf help }
 {
     let done = places::is_linked(help.links, p);
-    on_help(line, i, Act::Sc(done), HelpContent { flag: GIVEN, buf })
+    let given = HelpContent { flag: GIVEN, buf };
+    Access {
+        line,
+        act: Act::Sc(done, Values::Help(i, given)),
+    }
 }
 
 // Line 10: the plain read of Help[p].
 pub fn read(p: ProcessNumber, help: HelpPlace) -> Access
     ensures { result ≡ help_access 10 p Act.Read help.content }
 {
-    on_help(10, p, Act::Read, help.content)
+    Access {
+        line: 10,
+        act: Act::Read(Values::Help(p, help.content)),
+    }
 }
 
 // Line 14: LL(Help[x.seq mod N]). n is N.

@@ -2,25 +2,18 @@
 ghost use Rattle.std.specs.Prelude.{◌≡◌, ◌<◌, ◌≤◌, length, get_or};
 ghost use Rattle.model.specs.Sizes.{halves};
 ghost use Rattle.model.specs.Words.{buffer_word, word_of, half};
-ghost use Rattle.access.specs.AccessOn.{half_access, read_half, write_half};
+ghost use Rattle.access.specs.AccessOn.{read_half, write_half};
 
-use crate::{Access, Act};
-use doings::Item;
+use crate::{Access, Act, Values};
 use model::{BufferNumber, Process};
 use words::word_places;
 
-// The half of place k of BUF[f], which takes or brings that half of the word that lies at `from`.
-fn on_half(line: u8, f: BufferNumber, k: usize, act: Act, from: usize, words: &[u64]) -> Access
+// The half of place k of BUF[f], with that half of the word that lies at `from`.
+fn half_of(f: BufferNumber, k: usize, from: usize, words: &[u64]) -> Values
     requires { from < length words.now }
-    ensures { result ≡ half_access line f k act (half k (get_or words.now from 0)) }
+    ensures { result ≡ Values.Half f k (half k (get_or words.now from 0)) }
 {
-    Access {
-        line,
-        item: Item::Half(f, k),
-        act,
-        first: word_places::half(k, words[from]),
-        second: 0,
-    }
+    Values::Half(f, k, word_places::half(k, words[from]))
 }
 
 // Lines 3, 6 and 7's copy: a half word of BUF[f].
@@ -30,7 +23,10 @@ pub fn read(line: u8, f: BufferNumber, w: usize, process: Process, words: &[u64]
 {
     let k = process.word;
     let from = word_places::buffer_word(w, f, k / 2);
-    on_half(line, f, k, Act::Read, from, words)
+    Access {
+        line,
+        act: Act::Read(half_of(f, k, from, words)),
+    }
 }
 
 // Lines 11 and 17: a half of the word at `from`, of the return area or of the offer area, to BUF[mybuf].
@@ -38,5 +34,9 @@ pub fn write(line: u8, from: usize, process: Process, words: &[u64]) -> Access
     requires { from < length words.now }
     ensures { result ≡ write_half line from process words.now }
 {
-    on_half(line, process.mybuf, process.word, Act::Write, from, words)
+    let brought = half_of(process.mybuf, process.word, from, words);
+    Access {
+        line,
+        act: Act::Write(brought),
+    }
 }

@@ -5,29 +5,20 @@ ghost use Rattle.model.specs.Tables.{next};
 ghost use Rattle.lines.specs.Ranges.{Sized};
 ghost use Rattle.access.specs.AccessOn.{x_access, ll_of_x, vl_of_x};
 
-use crate::{Access, Act};
+use crate::{Access, Act, Values};
 use doings::Item;
 use lines::sequence;
 use llsc::ProcessNumber;
 use model::{Process, XContent, XPlace};
 
-fn on_x(line: u8, act: Act, content: XContent) -> Access
-    ensures { result ≡ x_access line act content }
-{
-    Access {
-        line,
-        item: Item::X,
-        act,
-        first: content.buf.0 as u64,
-        second: content.seq.0 as u64,
-    }
-}
-
 // Lines 2 and 5: LL(X).
 pub fn ll(line: u8, x: XPlace) -> Access
     ensures { result ≡ ll_of_x line x }
 {
-    on_x(line, Act::Ll, x.content)
+    Access {
+        line,
+        act: Act::Ll(Values::X(x.content)),
+    }
 }
 
 // Lines 7, 12, 14 and 23: VL(X).
@@ -37,10 +28,7 @@ pub fn vl(line: u8, p: ProcessNumber, x: XPlace) -> Access
 {
     Access {
         line,
-        item: Item::X,
-        act: Act::Vl(places::is_linked(x.links, p)),
-        first: 0,
-        second: 0,
+        act: Act::Vl(places::is_linked(x.links, p), Item::X),
     }
 }
 
@@ -52,5 +40,8 @@ pub fn sc(n: usize, p: ProcessNumber, x: XPlace, process: Process) -> Access
     let buf = process.mybuf;
     let seq = sequence::following(n, process.x.seq);
     let done = places::is_linked(x.links, p);
-    on_x(19, Act::Sc(done), XContent { buf, seq })
+    Access {
+        line: 19,
+        act: Act::Sc(done, Values::X(XContent { buf, seq })),
+    }
 }

@@ -4,7 +4,7 @@ ghost use Rattle.listing.specs.Writing.{Fits, Writes};
 ghost use Rattle.trace_parts.specs.TraceParts.{spaced};
 ghost use Rattle.access.specs.TraceLines.{half_text, half_place_text, item_text, values_text, stored_text, written_text, act_text};
 
-use crate::Act;
+use crate::{Act, Values};
 use doings::Item;
 use listing::Writer;
 
@@ -65,68 +65,69 @@ fn pair(to: &mut Writer<'_>, first: u64, second: u64)
 
 // One value or two, as many as the item has.
 #[tactic(auto, unfolding(crate::specs::TraceLines::values_text))]
-fn values(to: &mut Writer<'_>, item: Item, first: u64, second: u64)
-    requires { Fits to.old (values_text item first second) }
-    ensures { Writes to.old (values_text item first second) to.new }
+fn values(to: &mut Writer<'_>, values: Values)
+    requires { Fits to.old (values_text values) }
+    ensures { Writes to.old (values_text values) to.new }
 {
-    match item {
-        Item::X | Item::Help(_) => pair(to, first, second),
-        Item::Bank(_) | Item::Half(_, _) => trace_parts::spaced(to, first),
+    match values {
+        Values::X(v) => pair(to, v.buf.0 as u64, v.seq.0 as u64),
+        Values::Bank(_, v) => trace_parts::spaced(to, v.0 as u64),
+        Values::Help(_, v) => pair(to, v.flag as u64, v.buf.0 as u64),
+        Values::Half(_, _, v) => trace_parts::spaced(to, v),
     }
 }
 
 // Of an SC: whether it wrote, and so cleared all links.
-#[tactic(auto, unfolding(crate::specs::TraceLines::stored_text))]
+#[tactic(auto, unfolding(crate::specs::TraceLines::stored_text), using(listing::proofs::WritingLaws::writes_then, listing::proofs::WritingLaws::writes_none))]
 fn stored(to: &mut Writer<'_>, t: bool)
     requires { Fits to.old (stored_text t) }
     ensures { Writes to.old (stored_text t) to.new }
 {
+    trace_parts::truth(to, t);
     if t {
-        to.plain(b" true links cleared");
-    } else {
-        to.plain(b" false");
+        to.plain(b" links cleared");
     }
 }
 
 // Of a plain write: it clears all links of its item, where it has any.
 #[tactic(auto, unfolding(crate::specs::TraceLines::written_text))]
-fn written(to: &mut Writer<'_>, item: Item)
-    requires { Fits to.old (written_text item) }
-    ensures { Writes to.old (written_text item) to.new }
+fn written(to: &mut Writer<'_>, values: Values)
+    requires { Fits to.old (written_text values) }
+    ensures { Writes to.old (written_text values) to.new }
 {
-    match item {
-        Item::X | Item::Bank(_) | Item::Help(_) => to.plain(b" links cleared"),
-        Item::Half(_, _) => {}
+    match values {
+        Values::X(_) | Values::Bank(_, _) | Values::Help(_, _) => to.plain(b" links cleared"),
+        Values::Half(_, _, _) => {}
     }
 }
 
 // The act, with the values that it names.
 #[tactic(auto, unfolding(crate::specs::TraceLines::act_text), using(listing::proofs::WritingLaws::writes_then))]
-pub fn act(to: &mut Writer<'_>, act: Act, item: Item, first: u64, second: u64)
-    requires { Fits to.old (act_text act item first second) }
-    ensures { Writes to.old (act_text act item first second) to.new }
+pub fn act(to: &mut Writer<'_>, act: Act)
+    requires { Fits to.old (act_text act) }
+    ensures { Writes to.old (act_text act) to.new }
 {
     match act {
-        Act::Read => {
+        Act::Read(v) => {
             to.plain(b" read");
-            values(to, item, first, second);
+            values(to, v);
         }
-        Act::Write => {
+        Act::Write(v) => {
             to.plain(b" write");
-            values(to, item, first, second);
-            written(to, item);
+            values(to, v);
+            written(to, v);
         }
-        Act::Ll => {
+        Act::Ll(v) => {
             to.plain(b" LL");
-            values(to, item, first, second);
+            values(to, v);
             to.plain(b" link set");
         }
-        Act::Sc(t) => {
+        Act::Sc(t, v) => {
             to.plain(b" SC");
-            values(to, item, first, second);
+            values(to, v);
             stored(to, t);
         }
-        Act::Vl(t) => {
+        Act::Vl(t, _) => {
             to.plain(b" VL");
             trace_parts::truth(to, t);
         }

@@ -1,27 +1,17 @@
-// The lines of a trace, put into lent bytes by a writer.
-ghost use Rattle.listing.specs.Writing.{Fits, Writes};
-ghost use Rattle.access.specs.TraceLines.{step_line};
+// What a trace shows of a step, put into lent bytes by a writer.
+ghost use Rattle.access.specs.TraceLines.{access_text};
 
 use crate::{Access, texts};
 use listing::Writer;
+use trace_parts::Shown;
 
-// The line of a step; where it answers, up to the listing's line.
-// Kept: the entry's number and the process are what `head` takes; a struct of them would be made for that one call.
-#[tactic(auto, unfolding(crate::specs::TraceLines::step_line))]
-pub fn step_line(to: &mut Writer<'_>, entry: u64, p: u64, access: Access, answered: bool)
-    requires { Fits to.old (step_line entry p access answered) }
-    ensures { Writes to.old (step_line entry p access answered) to.new }
-{
-    let Access {
-        line,
-        item,
-        act,
-        first,
-        second,
-    } = access;
-    trace_parts::head(to, entry, p);
-    trace_parts::spaced(to, line as u64);
-    texts::item(to, item);
-    texts::act(to, act, item, first, second);
-    trace_parts::end(to, answered);
+impl Shown for Access {
+    ghost shown = { access_text };
+
+    #[tactic(auto, unfolding(crate::specs::TraceLines::access_text), using(listing::proofs::WritingLaws::writes_then))]
+    fn show(self, to: &mut Writer<'_>) {
+        trace_parts::spaced(to, u64::from(self.line));
+        texts::item(to, self.act.item());
+        texts::act(to, self.act);
+    }
 }

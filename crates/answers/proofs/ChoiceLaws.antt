@@ -1,9 +1,21 @@
--- A choice.
-use mathlib.Core.Path.{◌≡◌, refl}
-use mathlib.Core.Bool.{Bool, true, false, cond}
+-- A choice, and what is read on.
+use Rattle.std.specs.Prelude.{◌≡◌, ℕ, List, Bool, true, false, cond, refl, Result, Ok, Err, IfOk}
+use Rattle.answers.specs.Readers.{read_on}
 
 -- a choice has a property where both arms have it
 pub either {ℓ} : {A : Type ℓ} (P : A → Type 0) (t : Bool) (a b : A)
     → (t ≡ true → P a) → (t ≡ false → P b) → P (cond t a b)
 either P true a b f g = f refl
 either P false a b f g = g refl
+
+-- what is read on has a property where both ways have it;
+pub either_read : {A B : Type 0} (P : Result B (List ℕ) → Type 0) (r : Result A (List ℕ)) (f : A → Result B (List ℕ))
+    → ((a : A) → r ≡ Ok a → P (f a)) → ((rest : List ℕ) → r ≡ Err rest → P (Err rest)) → P (read_on r f)
+either_read P (Ok a) f h k = h a refl
+either_read P (Err rest) f h k = k rest refl
+
+-- and of a value that is read, it is enough that the value before has its own.
+pub when_read : {A B : Type 0} (Q : A → Type 0) (R : B → Type 0) (r : Result A (List ℕ)) (f : A → Result B (List ℕ))
+    → IfOk r Q → ((a : A) → Q a → IfOk (f a) R) → IfOk (read_on r f) R
+when_read Q R (Ok a) f h k = k a h
+when_read Q R (Err rest) f h k = tt

@@ -5,6 +5,8 @@ use mathlib.Core.Path.{◌≡◌, refl}
 use mathlib.Core.List.{List, [], ◌∷◌}
 use mathlib.Core.Bool.{Bool, true, false}
 use lib.ListN.{length, replicate}
+use Rattle.std.specs.Option.{unwrap_or}
+use Rattle.std.specs.Result.{is_ok, result_err, result_unwrap_or}
 use Rattle.listing.specs.Quoted.{quoted}
 use Rattle.answers.specs.declared.Sum.{Sum}
 use Rattle.answers.specs.Gains.{no_sum, tally}
@@ -14,14 +16,14 @@ abbrev sum : ℕ → ℕ → ℕ → ℕ → Sum
 sum a b c d = record { successes = a; scs = b; steps = c; lls = d }
 
 unfoldable sums : ℕ → String → List Sum
-sums w s = (listing_in 2 w (replicate 2 no_sum) (quoted s)).each
+sums w s = result_unwrap_or (listing_in 2 w (replicate 2 no_sum) (quoted s)) []
 
 unfoldable right : ℕ → String → Bool
-right w s = (listing_in 2 w [] (quoted s)).right
+right w s = is_ok (listing_in 2 w [] (quoted s))
 
 -- the place of the first wrong byte
 unfoldable breaks_at : ℕ → String → ℕ
-breaks_at w s = length (quoted s) - length (listing_in 2 w [] (quoted s)).rest
+breaks_at w s = length (quoted s) - length (unwrap_or (result_err (listing_in 2 w [] (quoted s))) [])
 
 -- 01's case A under CR 4, a failed SC, and a wide LL
 case_a : sums 1 "0 L 10 5\n0 S 6 1\n1 L 10 7\n0 V 1 0\nend 31\n" ≡ sum 1 1 10 1 ∷ sum 0 0 10 1 ∷ []

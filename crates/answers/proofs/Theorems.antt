@@ -1,14 +1,17 @@
 -- What the reader of listings is worth: it takes exactly the listings of 01's shape, and gains what their answers add.
 use Prim.Native.Nat.{ℕ, zero, suc, ◌≤◌}
-use mathlib.Core.Path.{◌≡◌, refl, ap, ◌∙◌}
+use mathlib.Core.Path.{◌≡◌, refl, sym, ap, ◌∙◌}
 use mathlib.Core.List.{List, [], ◌∷◌, ◌++◌}
-use mathlib.Core.Bool.{Bool, true, false, cond}
+use mathlib.Core.Bool.{Bool, true, false, not, cond, true≢false}
 use native.Mathlib.Omega.{arith}
 use lib.ListN.{length, length-append}
+use Rattle.std.specs.Prelude.{Result, Ok, Err, IfOk}
+use Rattle.std.specs.Option.{is_some}
+use Rattle.std.specs.Result.{is_ok, result_err, IsOk}
 use Rattle.answers.specs.declared.Sum.{Sum}
 use Rattle.answers.specs.Shape.{Answer, line_of, lines_of, last_of, Shaped}
 use Rattle.answers.specs.Gains.{tally, gained}
-use Rattle.answers.specs.Readers.{first, is_digit, Told, answer_in, Read, lines_in, listing_in}
+use Rattle.answers.specs.Readers.{first, is_digit, read_on, answer_in, last_in, lines_in, listing_in}
 use Rattle.answers.proofs.Sound.{lines_sound}
 use Rattle.answers.proofs.Complete.{lines_read}
 use Rattle.answers.proofs.WholeLaws.{line_bytes_lem}
@@ -21,7 +24,7 @@ few_lines (a ∷ more) = omega (arith, length-append (line_of a) (lines_of more)
 
 -- a listing of the shape is read to its end, and the sums gain what its answers add;
 pub reads_shaped : (n w : ℕ) (l : List Sum) {bs : List ℕ} → n ≤ 16 → (s : Shaped n w bs)
-    → listing_in n w l bs ≡ record { right = true; each = gained l s.answers; rest = [] }
+    → listing_in n w l bs ≡ Ok (gained l s.answers)
 unfolding listing_in
 reads_shaped n w l {bs} few s =
     let more : List Answer = s.answers in
@@ -31,32 +34,45 @@ reads_shaped n w l {bs} few s =
     (omega (arith, few_lines more, length-append (lines_of more) (last_of s.last)))
 
 -- what is read to its end is of the shape.
-pub shaped_read : (n w : ℕ) (l : List Sum) (bs : List ℕ) → n ≤ 16 → (listing_in n w l bs).right ≡ true → Shaped n w bs
+shape_of : {A B S : Type 0} (r : Result A B) → IsOk r → IfOk r (λ _. S) → S
+shape_of (Ok a) e h = h
+shape_of (Err b) e h = absurd (true≢false (sym e))
+
+pub shaped_read : (n w : ℕ) (l : List Sum) (bs : List ℕ) → IsOk (listing_in n w l bs) → Shaped n w bs
 unfolding listing_in
-shaped_read n w l bs few h = lines_sound n w few (suc (length bs)) l bs h
+shaped_read n w l bs h = shape_of (listing_in n w l bs) h (lines_sound n w (suc (length bs)) l bs)
 
 -- Whether and where a listing breaks does not depend on the sums.
-record Alike (r s : Read) : Type 0 where
-  right : r.right ≡ s.right
-  rest : r.rest ≡ s.rest
+abbrev Alike : {A B : Type 0} → Result A (List ℕ) → Result B (List ℕ) → Type 0
+Alike r s = result_err r ≡ result_err s
 
-either_way : (t : Bool) {r s x y : Read} → Alike r s → Alike x y → Alike (cond t r x) (cond t s y)
-either_way true h k = h
-either_way false h k = k
+either_way : {A B : Type 0} (t : Bool) (r x : Result A (List ℕ)) (s y : Result B (List ℕ)) → Alike r s → Alike x y
+    → Alike (cond t r x) (cond t s y)
+either_way true r x s y h k = h
+either_way false r x s y h k = k
+
+read_alike : {A B C : Type 0} (r : Result A (List ℕ)) (f : A → Result B (List ℕ)) (g : A → Result C (List ℕ))
+    → ((a : A) → Alike (f a) (g a)) → Alike (read_on r f) (read_on r g)
+read_alike (Ok a) f g h = h a
+read_alike (Err rest) f g h = refl
 
 alike : (n w f : ℕ) (l m : List Sum) (bs : List ℕ) → Alike (lines_in n w f l bs) (lines_in n w f m bs)
 unfolding lines_in
-alike n w zero l m bs = record { right = refl; rest = refl }
+alike n w zero l m bs = refl
 alike n w (suc f) l m bs =
-    let a : Told = answer_in n w bs in
-    either_way (is_digit (first bs))
-    (either_way a.right (alike n w f (tally l a.process a.gain) (tally m a.process a.gain) a.rest) (record { right = refl; rest = refl }))
-    (record { right = refl; rest = refl })
+    either_way (is_digit (first bs)) _ _ _ _
+    (read_alike (answer_in n w bs) _ _ (λ a. alike n w f (tally l a.0.process a.0.sum) (tally m a.0.process a.0.sum) a.1))
+    (read_alike (last_in bs) _ _ (λ _. refl))
 
-pub same_right : (n w : ℕ) (l m : List Sum) (bs : List ℕ) → (listing_in n w l bs).right ≡ (listing_in n w m bs).right
+pub same_rest : (n w : ℕ) (l m : List Sum) (bs : List ℕ) → result_err (listing_in n w l bs) ≡ result_err (listing_in n w m bs)
 unfolding listing_in
-same_right n w l m bs = (alike n w (suc (length bs)) l m bs).right
+same_rest n w l m bs = alike n w (suc (length bs)) l m bs
 
-pub same_rest : (n w : ℕ) (l m : List Sum) (bs : List ℕ) → (listing_in n w l bs).rest ≡ (listing_in n w m bs).rest
-unfolding listing_in
-same_rest n w l m bs = (alike n w (suc (length bs)) l m bs).rest
+-- what has no wrong byte is right
+right_by : {A B : Type 0} (r : Result A B) → is_ok r ≡ not (is_some (result_err r))
+right_by (Ok a) = refl
+right_by (Err b) = refl
+
+pub same_right : (n w : ℕ) (l m : List Sum) (bs : List ℕ) → is_ok (listing_in n w l bs) ≡ is_ok (listing_in n w m bs)
+same_right n w l m bs =
+    right_by (listing_in n w l bs) ∙ ap (λ o. not (is_some o)) (same_rest n w l m bs) ∙ sym (right_by (listing_in n w m bs))

@@ -5,16 +5,18 @@ use mathlib.Core.List.{List, [], ◌∷◌, ◌++◌}
 use mathlib.Core.Bool.{Bool, true, false, cond}
 use native.Mathlib.Omega.{arith}
 use lib.ListN.{length, length-append, get_or, set}
+use Rattle.std.specs.Prelude.{Result, Ok, Err, IfOk}
+use Rattle.std.proofs.lemmas.Result.{IfOk-weaker, IfOk-at_ok}
 use Rattle.listing.specs.Decimal.{decimal}
 use Rattle.listing.specs.Lines.{space, answer_head, words_of, ll_line, truth, truth_line}
 use Rattle.answers.specs.declared.Sum.{Sum}
 use Rattle.answers.specs.declared.Gain.{Gain}
 use Rattle.answers.specs.Shape.{largest, Answer, ll, sc, vl, line_of, Fits, ll_fits, sc_fits, vl_fits}
 use Rattle.answers.specs.Gains.{no_sum, plus, bit, gain_of, process_of, tally}
-use Rattle.answers.specs.Readers.{first, is_digit, Passed, Told, Read, answer_in, last_in, strange, lines_in, listing_in}
+use Rattle.answers.specs.Readers.{first, is_digit, Ended, read_on, answer_in, last_in, lines_in, listing_in}
 use Rattle.answers.specs.Ranges.{Below, AllBelow, Readable}
 use Rattle.answers.proofs.SumLaws.{tally_below, weaker}
-use Rattle.answers.proofs.Sound.{answer_sound}
+use Rattle.answers.proofs.Sound.{Tells, answer_sound}
 
 -- an answer line adds at most the largest number, and has bytes
 bit_small : (t : Bool) → bit t ≤ 1
@@ -42,52 +44,56 @@ line_bytes_lem (sc p c t) = omega (arith, length-append (answer_head p 83 c) (tr
 line_bytes_lem (vl p c t) = omega (arith, length-append (answer_head p 86 c) (truth t), head_bytes p 86 c)
 
 -- what the code needs of a line
-pub record Takes (n : ℕ) (bs : List ℕ) (t : Told) : Type 0 where
-  pub process : t.process < n
-  pub gain : Below largest t.gain
-  pub shorter : length t.rest < length bs
+pub record Takes (n : ℕ) (bs : List ℕ) (t : Gain × List ℕ) : Type 0 where
+  pub process : t.0.process < n
+  pub gain : Below largest t.0.sum
+  pub shorter : length t.1 < length bs
 
-pub takes : (n w : ℕ) (bs : List ℕ) → n ≤ 16 → (answer_in n w bs).right ≡ true → Takes n bs (answer_in n w bs)
-takes n w bs few r =
-    let t : Told = answer_in n w bs in
-    let m = answer_sound n w few bs r in
-    record {
+takes : (n w : ℕ) (bs : List ℕ) → IfOk (answer_in n w bs) (Takes n bs)
+takes n w bs =
+    IfOk-weaker (answer_in n w bs) (Tells n w bs) (Takes n bs)
+    (λ t m. record {
       process = subst (λ (x : ℕ). x < n) m.process (own_process n w m.answer m.fits);
       gain = subst (Below largest) m.gain (gain_small n w m.answer m.fits);
-      shorter = omega (arith, ap length m.bytes, length-append (line_of m.answer) t.rest, line_bytes_lem m.answer);
-    }
+      shorter = omega (arith, ap length m.bytes, length-append (line_of m.answer) t.1, line_bytes_lem m.answer);
+    })
+    (answer_sound n w bs)
+
+pub taken : (n w : ℕ) (bs : List ℕ) {t : Gain × List ℕ} → answer_in n w bs ≡ Ok t → Takes n bs t
+taken n w bs e = IfOk-at_ok (Takes n bs) e (takes n w bs)
 
 -- so many lines are enough
 choose : {A : Type 0} (t : Bool) (x y z : A) → (t ≡ true → x ≡ y) → cond t x z ≡ cond t y z
 choose true x y z h = h refl
 choose false x y z h = refl
 
-same_fuel : (n w : ℕ) → n ≤ 16 → (f g : ℕ) (l : List Sum) (bs : List ℕ) → length bs < f → length bs < g → lines_in n w f l bs ≡ lines_in n w g l bs
+read_same : {A B : Type 0} (P : A → Type 0) (r : Result A (List ℕ)) (f g : A → Result B (List ℕ)) → IfOk r P
+    → ((a : A) → P a → f a ≡ g a) → read_on r f ≡ read_on r g
+read_same P (Ok a) f g h k = k a h
+read_same P (Err rest) f g h k = refl
+
+same_fuel : (n w f g : ℕ) (l : List Sum) (bs : List ℕ) → length bs < f → length bs < g → lines_in n w f l bs ≡ lines_in n w g l bs
 unfolding lines_in
-same_fuel n w few zero g l bs p q = absurd (omega arith)
-same_fuel n w few (suc f) zero l bs p q = absurd (omega arith)
-same_fuel n w few (suc f) (suc g) l bs p q =
-    let a : Told = answer_in n w bs in
+same_fuel n w zero g l bs p q = absurd (omega arith)
+same_fuel n w (suc f) zero l bs p q = absurd (omega arith)
+same_fuel n w (suc f) (suc g) l bs p q =
     choose (is_digit (first bs)) _ _ _
-    (λ _. choose a.right _ _ _
-    (λ r. let k = takes n w bs few r in
-    same_fuel n w few f g (tally l a.process a.gain) a.rest (omega (arith, k.shorter)) (omega (arith, k.shorter))))
+    (λ _. read_same (Takes n bs) (answer_in n w bs) _ _ (takes n w bs)
+    (λ t k. same_fuel n w f g (tally l t.0.process t.0.sum) t.1 (omega (arith, k.shorter)) (omega (arith, k.shorter))))
 
-module _ (n w : ℕ) (few : n ≤ 16) (l : List Sum) (bs : List ℕ) where
-  abbrev a : Told
-  a = answer_in n w bs
-
-  pub next_line : is_digit (first bs) ≡ true → a.right ≡ true → listing_in n w l bs ≡ listing_in n w (tally l a.process a.gain) a.rest
+module _ (n w : ℕ) (l : List Sum) (bs : List ℕ) where
+  next_line : {gain : Gain} {more : List ℕ} → is_digit (first bs) ≡ true → answer_in n w bs ≡ Ok (gain, more)
+      → listing_in n w l bs ≡ listing_in n w (tally l gain.process gain.sum) more
   unfolding listing_in lines_in
-  next_line d r =
-      let k = takes n w bs few r in
-      simp (d, r) (same_fuel n w few (length bs) (suc (length a.rest)) (tally l a.process a.gain) a.rest k.shorter (omega arith))
+  next_line {gain} {more} d e =
+      simp (d, e)
+      (same_fuel n w (length bs) (suc (length more)) (tally l gain.process gain.sum) more (taken n w bs e).shorter (omega arith))
 
-  pub no_line : is_digit (first bs) ≡ true → a.right ≡ false → listing_in n w l bs ≡ record { right = false; each = l; rest = a.rest }
+  no_line : {rest : List ℕ} → is_digit (first bs) ≡ true → answer_in n w bs ≡ Err rest → listing_in n w l bs ≡ Err rest
   unfolding listing_in lines_in
-  no_line d r = simp (d, r)
+  no_line d e = simp (d, e)
 
-  pub last_line : is_digit (first bs) ≡ false → listing_in n w l bs ≡ record { right = (last_in bs).right; each = l; rest = (last_in bs).rest }
+  last_line : is_digit (first bs) ≡ false → listing_in n w l bs ≡ read_on (last_in bs) (λ _. Ok l)
   unfolding listing_in lines_in
   last_line d = simp (d)
 
@@ -104,31 +110,22 @@ going_start n w l bs h = record {
   below = weaker n 72057594037927935 (72057594037927935 + (length bs - length bs) * largest) l (omega arith) h.below;
 }
 
--- the first wrong byte begins r
-abbrev pub StopsAt : List ℕ → Read → Type 0
-StopsAt r a = (a.right ≡ false) × (a.rest ≡ r)
-
 module _ {n w : ℕ} {l₀ : List Sum} {bs : List ℕ} {l : List Sum} {rest : List ℕ}
     (h : Readable n l₀ bs) (g : Going n w l₀ bs l rest) where
   -- where no digit stands, the last line is read
-  pub ends : {s : Passed} → is_digit (first rest) ≡ false → last_in rest ≡ s
-      → listing_in n w l₀ bs ≡ record { right = s.right; each = l; rest = s.rest }
-  ends d e = sym g.same ∙ last_line n w h.few l rest d ∙ ap (λ (s : Passed). record { right = s.right; each = l; rest = s.rest }) e
+  pub ends : is_digit (first rest) ≡ false → last_in rest ≡ Ok tt → listing_in n w l₀ bs ≡ Ok l
+  ends d e = sym g.same ∙ last_line n w l rest d ∙ ap (λ (last : Ended). read_on last (λ _. Ok l)) e
 
-  pub ends_wrong : {r : List ℕ} → is_digit (first rest) ≡ false → last_in rest ≡ record { right = false; rest = r }
-      → StopsAt r (listing_in n w l₀ bs)
-  ends_wrong d e = let z = ends d e in (ap (λ (a : Read). a.right) z, ap (λ (a : Read). a.rest) z)
+  pub ends_wrong : {r : List ℕ} → is_digit (first rest) ≡ false → last_in rest ≡ Err r → listing_in n w l₀ bs ≡ Err r
+  ends_wrong d e = sym g.same ∙ last_line n w l rest d ∙ ap (λ (last : Ended). read_on last (λ _. Ok l)) e
 
-  pub stops : {r : List ℕ} → is_digit (first rest) ≡ true → answer_in n w rest ≡ strange r → StopsAt r (listing_in n w l₀ bs)
-  stops d e =
-      let z = sym g.same ∙ no_line n w h.few l rest d (ap (λ (t : Told). t.right) e) in
-      (ap (λ (a : Read). a.right) z, ap (λ (a : Read). a.rest) z ∙ ap (λ (t : Told). t.rest) e)
+  pub stops : {r : List ℕ} → is_digit (first rest) ≡ true → answer_in n w rest ≡ Err r → listing_in n w l₀ bs ≡ Err r
+  stops d e = sym g.same ∙ no_line n w l rest d e
 
   -- a turn of the loop: a digit stands there, and a line is read
-  module _ (gain : Gain) (more : List ℕ)
-      (e : answer_in n w rest ≡ record { right = true; process = gain.process; gain = gain.sum; rest = more }) where
-    took : Takes n rest (record { right = true; process = gain.process; gain = gain.sum; rest = more })
-    took = subst (Takes n rest) e (takes n w rest h.few (ap (λ (t : Told). t.right) e))
+  module _ (gain : Gain) (more : List ℕ) (e : answer_in n w rest ≡ Ok (gain, more)) where
+    took : Takes n rest (gain, more)
+    took = taken n w rest e
 
     pub own : gain.process < 16
     own = omega (arith, took.process, h.few)
@@ -166,10 +163,11 @@ module _ {n w : ℕ} {l₀ : List Sum} {bs : List ℕ} {l : List Sum} {rest : Li
         let next : List Sum = tally l gain.process gain.sum in
         let so_far : ℕ = length bs - length rest in
         record {
-          same = ap (λ (t : Told). listing_in n w (tally l t.process t.gain) t.rest) (sym e)
-              ∙ sym (next_line n w h.few l rest d (ap (λ (t : Told). t.right) e)) ∙ g.same;
+          same = sym (next_line n w l rest d e) ∙ g.same;
           within = omega (arith, further, g.within);
           below = weaker n (b + so_far * largest + largest) (b + (length bs - length more) * largest) next
               (omega (arith, further, g.within))
               (tally_below n (b + so_far * largest) largest l gain.process gain.sum took.gain g.below);
         }
+
+pub ruleset reading_lines = (ends, ends_wrong, stops, own, further)

@@ -1,13 +1,13 @@
 // Answer lines.
-ghost use Rattle.std.specs.Prelude.{◌≡◌, ◌≤◌};
+ghost use Rattle.std.specs.Prelude.{◌≤◌};
 ghost use Rattle.answers.specs.Shape.{largest};
-ghost use Rattle.answers.specs.Gains.{ll_gain, sc_gain};
 ghost use Rattle.answers.specs.Readers.{words_in, fed, ll_tail, truth_tail, by_letter, answer_in, GivesNumber, GivesSpot, GivesLine};
 
 use crate::numbers::{expect, number, spaced_number};
 use crate::{Gain, NO_SUM, Read, Sum};
 
 // So many numbers, each after a space.
+#[tactic(auto, using(crate::proofs::NumberLaws::passing_words))]
 fn words(text: &[u8], w: u64) -> Result<&[u8], &[u8]>
     ensures { GivesSpot result (words_in w text.now) }
 {
@@ -52,28 +52,6 @@ fn truth_tail(text: &[u8]) -> Read<'_, u64>
     close(rest, truth)
 }
 
-// What an LL of so many steps adds.
-fn ll_gain(count: u64) -> Sum
-    ensures { result ≡ ll_gain count }
-{
-    Sum {
-        steps: count,
-        lls: 1,
-        ..NO_SUM
-    }
-}
-
-// What an SC adds that answered 1 or 0.
-fn sc_gain(success: u64) -> Sum
-    ensures { result ≡ sc_gain success }
-{
-    Sum {
-        successes: success,
-        scs: 1,
-        ..NO_SUM
-    }
-}
-
 // The line of process p from its letter on.
 #[tactic(auto, unfolding(crate::specs::Readers::by_letter))]
 fn by_letter(text: &[u8], w: u64, p: u64) -> Read<'_, Gain>
@@ -82,11 +60,21 @@ fn by_letter(text: &[u8], w: u64, p: u64) -> Read<'_, Gain>
     let (sum, rest) = match text {
         [b'L', rest @ ..] => {
             let (count, rest) = ll_tail(rest, w)?;
-            (ll_gain(count), rest)
+            let sum = Sum {
+                steps: count,
+                lls: 1,
+                ..NO_SUM
+            };
+            (sum, rest)
         }
         [b'S', rest @ ..] => {
             let (success, rest) = truth_tail(rest)?;
-            (sc_gain(success), rest)
+            let sum = Sum {
+                successes: success,
+                scs: 1,
+                ..NO_SUM
+            };
+            (sum, rest)
         }
         [b'V', rest @ ..] => {
             let (_, rest) = truth_tail(rest)?;

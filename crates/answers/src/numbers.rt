@@ -1,7 +1,7 @@
 // Numbers and expected bytes, at the front of a text.
 ghost use Rattle.std.specs.Prelude.{◌≡◌, ◌≤◌};
 ghost use Rattle.answers.specs.Shape.{largest};
-ghost use Rattle.answers.specs.Readers.{first, is_digit, digits_after, number_in, spaced_number, expected, GivesNumber, GivesSpot};
+ghost use Rattle.answers.specs.Readers.{first, is_digit, digits_after, number_in, spaced_number, expected, GivesDigit, GivesNumber, GivesSpot};
 
 use crate::Read;
 
@@ -15,51 +15,63 @@ pub fn begins_with_digit(text: &[u8]) -> bool
     matches!(text, [b'0'..=b'9', ..])
 }
 
+// The digit with which a text begins, and the text behind it.
+fn digit(text: &[u8]) -> Option<(u64, &[u8])>
+    ensures { GivesDigit result text.now }
+{
+    match text.split_first() {
+        Some((c, rest)) if c.is_ascii_digit() => Some((u64::from(*c - b'0'), rest)),
+        _ => None,
+    }
+}
+
 // The number that begins with the digits of `value` and goes on with those of the text.
+#[tactic(auto, using(crate::proofs::NumberLaws::reading_digits))]
 fn digits_after(value: u64, text: &[u8]) -> Read<'_, u64>
     requires { value ≤ largest }
     ensures { GivesNumber result (digits_after value text.now) }
 {
-    match text {
-        [digit @ b'0'..=b'9', rest @ ..] => {
-            let more = value * 10 + u64::from(*digit - b'0');
-            if value == 0 || LARGEST < more {
-                return Err(text);
-            }
-            digits_after(more, rest)
-        }
-        _ => Ok((value, text)),
+    let Some((digit, rest)) = digit(text) else {
+        return Ok((value, text));
+    };
+    if value == 0 {
+        return Err(text);
     }
+    let more = value * 10 + digit;
+    if LARGEST < more {
+        return Err(text);
+    }
+    digits_after(more, rest)
 }
 
 // A number.
+#[tactic(auto, using(crate::proofs::NumberLaws::reading_numbers))]
 pub fn number(text: &[u8]) -> Read<'_, u64>
     ensures { GivesNumber result (number_in text.now) }
 {
-    match text {
-        [digit @ b'0'..=b'9', rest @ ..] => digits_after(u64::from(*digit - b'0'), rest),
-        _ => Err(text),
+    match digit(text) {
+        Some((digit, rest)) => digits_after(digit, rest),
+        None => Err(text),
     }
 }
 
 // A space and a number.
+#[tactic(auto, unfolding(crate::specs::Readers::spaced_number))]
 pub fn spaced_number(text: &[u8]) -> Read<'_, u64>
     ensures { GivesNumber result (spaced_number text.now) }
 {
-    match text {
-        [b' ', rest @ ..] => number(rest),
-        _ => Err(text),
-    }
+    number(expect(text, b" ")?)
 }
 
 // The text behind a word.
+#[tactic(auto, using(crate::proofs::NumberLaws::passing_bytes))]
 pub fn expect<'a>(text: &'a [u8], word: &[u8]) -> Result<&'a [u8], &'a [u8]>
     ensures { GivesSpot result (expected word.now text.now) }
 {
     let mut rest = text;
     for k in word {
-        match rest {
-            [c, more @ ..] if *c == *k => rest = more,
+        match rest.split_first() {
+            Some((c, more)) if *c == *k => rest = more,
             _ => return Err(rest),
         }
     }

@@ -26,6 +26,7 @@ impl AddAssign for Sum {
 
 // The lines of a listing of n processes and w words: the sums with what they add, or the text from the first wrong byte
 // on.
+#[tactic(auto, using(crate::proofs::WholeLaws::reading_lines))]
 fn read_lines(n: u64, w: u64, each: [Sum; 16], text: &[u8]) -> Result<[Sum; 16], &[u8]>
     requires { Readable n each text.now }
     ensures { GivesListing result (listing_in n w each text.now) }
@@ -42,6 +43,7 @@ fn read_lines(n: u64, w: u64, each: [Sum; 16], text: &[u8]) -> Result<[Sum; 16],
 }
 
 // A listing on top of the sums of the processes, or the place of its first wrong byte.
+#[tactic(auto, using(crate::proofs::RestLaws::listing_left))]
 pub fn read_listing(n: u64, w: u64, each: [Sum; 16], text: &[u8]) -> Result<[Sum; 16], usize>
     requires { Readable n each text.now }
     ensures { GivesReading text.now result (listing_in n w each text.now) }

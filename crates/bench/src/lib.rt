@@ -16,8 +16,9 @@ use llsc::refusals::number_of;
 use model::Reply;
 use station::{Station, StationProcess};
 use station_records::gathered::{Gathered, gather};
-use station_rows::commands::Command;
+use station_rows::commands::{Command, Ordered};
 use station_setup::gathered::set_up_gathered;
+pub use text_runs::returned::TextRun;
 
 // Process `process`, any number, is given an order: a start names a record, any number, and brings the words of `value`
 // where it starts an SC; a step goes to the record of the open call, whatever `named` and `value` are.
@@ -41,8 +42,7 @@ pub fn command(
     let gathered = gather(*station, processes);
     let command = Command {
         process,
-        order,
-        named,
+        order: Ordered::new(order, named),
     };
     match station_machine::decide(gathered, command, value, words) {
         Ok(out) => {
@@ -85,15 +85,6 @@ pub fn set_up(
     }
 }
 
-// What a text run returns: its number, 0 at `end`, the entries done and the listing bytes written.
-// Kept: 01 promises its users a number.
-#[derive(Clone, Copy)]
-pub struct TextRun {
-    pub number: u8,
-    pub entries: usize,
-    pub written: usize,
-}
-
 // A whole text run on record 0, on any text and any lent memory. What it returns, all lent memory and the listing after
 // it are those of `station_run_text`.
 // Wrong programs that this rules out: one that sets the station up and then finds a fault further on in the text;
@@ -120,13 +111,10 @@ pub fn run_text(
         len,
     } = gather(*station, processes);
     let out = station_run::run_by_value(s, all, len, words, text, listing);
-    *station = out.station;
-    lent::store_back(processes, &out.all, station::empty_process(), out.stored);
-    TextRun {
-        number: number_of(out.outcome),
-        entries: out.entries,
-        written: out.written,
+    if let Some(left) = out.held {
+        left.store(station, processes);
     }
+    TextRun::from(out)
 }
 
 // The number of a view's refusal, 0 for none: rows 2, 3, 8, 15.

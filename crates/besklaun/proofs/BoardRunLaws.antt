@@ -15,6 +15,6 @@ use Rattle.besklaun.proofs.OwnBenchLaws.{own_memory_lem}
 
 pub board_alone : (held : Held) (n w k : ℕ) (file bytes : List ℕ) (r : Stopped) (words after : List ℕ) →
     held ≡ empty_held → end_of r words after ≡ board_listed (memory_of held 16 own_words) n w k file bytes →
-    (record { number = number_told r.outcome; done = r.run.entries; written = r.run.written }, after) ≡ board_run n w k file bytes
+    (record { number = number_told r.outcome; done = r.entries; written = r.written }, after) ≡ board_run n w k file bytes
 board_alone held n w k file bytes r words after e ran =
     ap board_seen ran ∙ ap (λ m. board_seen (board_listed m n w k file bytes)) (own_memory_lem held e)

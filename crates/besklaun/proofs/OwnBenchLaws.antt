@@ -4,10 +4,10 @@ use mathlib.Core.List.{List}
 use mathlib.Core.Bool.{Bool}
 use Prim.Native.Nat.{ℕ}
 use Rattle.semantics.specs.TextRun.{run_with}
-use Rattle.llsc.specs.Refusals.{number_told}
 use Rattle.entry.specs.declared.state.Held.{Held}
 use Rattle.entry.specs.RunState.{empty_held}
 use Rattle.text_runs.specs.declared.runs.Finished.{Finished}
+use Rattle.text_runs.specs.Returned.{told}
 use Rattle.run.specs.Finished.{TextRan, memory_of}
 use Rattle.besklaun.specs.OwnBench.{own_memory, own_words, seen, text_run}
 
@@ -17,6 +17,6 @@ own_memory_lem held e = rw e refl
 
 pub ran_alone : (t : Bool) (held : Held) (text bytes : List ℕ) (r : Finished Held) (words after : List ℕ) →
     held ≡ empty_held → TextRan t held 16 own_words text bytes r words after →
-    (record { number = number_told r.outcome; entries = r.entries; written = r.written }, after) ≡ text_run t text bytes
+    (told r, after) ≡ text_run t text bytes
 ran_alone t held text bytes r words after e ran =
     ap seen ran.same ∙ ap (λ m. seen (run_with t m text bytes)) (own_memory_lem held e)

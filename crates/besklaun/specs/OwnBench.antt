@@ -4,10 +4,7 @@ use Rattle.model.specs.Records.{no_process}
 use Rattle.model.specs.Machine.{Memory}
 use Rattle.model.specs.SetUp.{empty_bench}
 use Rattle.semantics.specs.TextRun.{Ended, run_with}
-use Rattle.llsc.specs.Refusals.{number_told}
-use Rattle.entry.specs.declared.state.Held.{Held}
-use Rattle.text_runs.specs.declared.runs.Finished.{Finished}
-use Rattle.besklaun.specs.declared.texts.TextRun.{TextRun}
+use Rattle.text_runs.specs.declared.returned.TextRun.{TextRun}
 
 -- enough for every text: sixteen process records, and 5NW words for N = 16 and W = 64
 abbrev pub own_words : List ℕ
@@ -20,10 +17,6 @@ own_memory = record { bench = empty_bench; records = replicate 16 no_process; wo
 -- caller sees these and the bytes that it lent, and nothing of the bench.
 abbrev pub seen : Ended → TextRun × List ℕ
 seen e = (record { number = e.number; entries = e.entries; written = e.written }, e.listing)
-
--- the same of a run by value
-abbrev pub told : Finished Held → TextRun
-told out = record { number = number_told out.outcome; entries = out.entries; written = out.written }
 
 -- a text run into these bytes, of its listing or, where `traced`, of its trace
 abbrev pub text_run : Bool → List ℕ → List ℕ → TextRun × List ℕ

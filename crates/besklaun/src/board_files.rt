@@ -46,7 +46,7 @@ pub fn besklaun_run_board(
     let out = board_listing::listed::run_listed(held, n, w, initial, file, &mut words, listing);
     BoardRun {
         number: number_of(out.outcome),
-        done: out.run.entries,
-        written: out.run.written,
+        done: out.entries,
+        written: out.written,
     }
 }

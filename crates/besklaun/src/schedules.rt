@@ -65,6 +65,7 @@ pub fn besklaun_schedule_for(a: usize, b: usize, number: u64, turns: &mut [u8]) 
 }
 
 // The number for a schedule.
+// Kept: a, b and the turns one by one, as the C library's header declares them.
 pub fn besklaun_number_for(a: usize, b: usize, turns: &[u8]) -> TurnsNumber
     ensures { result ≡ number_told (numbered_for a b turns.now) }
 {
@@ -78,6 +79,7 @@ pub fn besklaun_number_for(a: usize, b: usize, turns: &[u8]) -> TurnsNumber
 }
 
 // The schedule after the one in the bytes lent, in its place.
+// Kept: a, b and the turns one by one, as the C library's header declares them.
 // Wrong program that this rules out: one that changes the turns of the last schedule.
 pub fn besklaun_schedule_after(a: usize, b: usize, turns: &mut [u8]) -> TurnsAfter
     ensures { (result, turns.new) ≡ after_into (following_for a b turns.old) turns.old }

@@ -1,30 +1,10 @@
 // Text runs for C, on a bench of their own.
 ghost use Rattle.std.specs.Prelude.{◌≡◌, true, false};
-ghost use Rattle.besklaun.specs.OwnBench.{text_run, told};
+ghost use Rattle.besklaun.specs.OwnBench.{text_run};
 
 use entry::state::Held;
-use llsc::refusals::number_of;
-use text_runs::runs::Finished;
 
-// What a text run returns: its number, 0 at `end`, the entries done and the bytes written.
-// Kept: no enum crosses to C.
-#[repr(C)]
-#[derive(Clone, Copy)]
-pub struct TextRun {
-    pub number: u8,
-    pub entries: usize,
-    pub written: usize,
-}
-
-fn told(out: Finished<Held>) -> TextRun
-    ensures { result ≡ told out }
-{
-    TextRun {
-        number: number_of(out.outcome),
-        entries: out.entries,
-        written: out.written,
-    }
-}
+pub use text_runs::returned::TextRun;
 
 // A run on a bench of its own, of its listing or, where `traced`, of its trace.
 fn own_run(traced: bool, text: &[u8], into: &mut [u8]) -> TextRun
@@ -33,7 +13,7 @@ fn own_run(traced: bool, text: &[u8], into: &mut [u8]) -> TextRun
     let mut words = [0; 5120];
     let held = Held::empty();
     let out = run::text_run::run_by_value(held, 16, traced, &mut words, text, into);
-    told(out)
+    TextRun::from(out)
 }
 
 // A whole text run, whose listing goes to the bytes lent.

@@ -8,7 +8,7 @@ use Rattle.llsc.specs.Refusals.{refusal_number}
 use Rattle.llsc.specs.declared.refusals.Refusal.{Refusal}
 use Rattle.boards.specs.Files.{decode, file_number}
 use Rattle.boards.specs.Places.{read, RightFile, WrongFile}
-use Rattle.boards.proofs.RefusalLaws.{positive}
+use Rattle.llsc.proofs.RefusalNumbers.{number_some}
 use Rattle.station.specs.declared.Station.{Station}
 use Rattle.station.specs.declared.StationProcess.{StationProcess}
 use Rattle.board_commands.specs.declared.RunLeft.{RunLeft}
@@ -23,7 +23,7 @@ module _ (file : List ℕ) (s : Station) (all : List StationProcess) (len : ℕ)
   unfolding file_run
   refused_file refusal w n r q =
       ap (λ (x : RunLeft). (x, ws)) (q ∙ ap (λ (i : ℕ). left_with s all i 0) (n ∙ sym w))
-      ∙ sym (ap ran (ne_eqb (file_number file) 0 (λ z. positive refusal (sym w ∙ z))))
+      ∙ sym (ap ran (ne_eqb (file_number file) 0 (λ z. number_some refusal (sym w ∙ z))))
 
   pub run_file_is : {rs : List (List ℕ)} → RightFile file rs → (r : RunLeft) (ws' : List ℕ) → (r, ws') ≡ records_run 0 (read rs) s all len ws
       → (r, ws') ≡ file_run file s all len ws

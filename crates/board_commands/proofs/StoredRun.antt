@@ -6,11 +6,11 @@ use Prim.Native.Nat.{ℕ, zero, suc, ◌<◌, ◌≤◌}
 use native.Mathlib.Decide.{dec_lt}
 use native.Mathlib.Nat.{not-suc-le-zero}
 use native.Mathlib.Omega.{arith}
-use lib.Dec.{eqb}
-use Rattle.std.specs.Prelude.{Ok, Err}
+use lib.Dec.{eqb, ltb}
+use Rattle.std.specs.Prelude.{None, Some, Ok, Err}
 use lib.ListN.{length, get_or, set, replicate, length-set}
 use lib.Seq.{get_or-set_same, get_or-set_other, ext_get_or}
-use borrow.Author.Tests.{eqb-true, eqb-false, eq-eqb, ne_eqb}
+use borrow.Author.Tests.{eqb-true, eqb-false, eq-eqb, ne_eqb, ltb-true, ltb-false}
 use Rattle.model.specs.declared.Reply.{Reply}
 use Rattle.model.specs.Replies.{number_of}
 use Rattle.boards.specs.Files.{BoardRecord, decode, file_number}
@@ -20,7 +20,7 @@ use Rattle.station.specs.Station.{StationMemory, station_memory}
 use Rattle.station.specs.StationCommand.{station_command}
 use Rattle.station.specs.StationSetUp.{empty_process}
 use Rattle.lent.specs.Gathered.{gathered, stored}
-use Rattle.station_records.specs.Gathered.{processes_stored}
+use Rattle.station_records.specs.Gathered.{processes_stored, left_stored}
 use Rattle.lent.proofs.GatheredLaws.{gathered_length, gathered_here}
 use Rattle.station_machine.specs.declared.Outcome.{Outcome}
 use Rattle.station_machine.specs.StationDecision.{Decided, stored_back}
@@ -77,30 +77,22 @@ set_gathered l i q h k =
         ∙ sym (gathered_here (set l i q) e 16 j (omega arith) b ∙ get_or-set_other l i j q e ne)
 
 -- The process records now, after so many commands done, and those that were lent: the first N may have changed.
-record Kept (n done : ℕ) (lent ps : List StationProcess) : Type 0 where
+record Kept (before : Station) (s : Station) (done : ℕ) (lent ps : List StationProcess) : Type 0 where
   long : length ps ≡ length lent
-  others : (j : ℕ) → n ≤ j → get_or ps j e ≡ get_or lent j e
-  none_done : done ≡ 0 → ps ≡ lent
-  some_done : (done ≡ 0 → ⊥) → n ≤ 16
+  others : (j : ℕ) → s.n ≤ j → get_or ps j e ≡ get_or lent j e
+  none_done : done ≡ 0 → (ps ≡ lent) × (s ≡ before)
+  some_done : 0 < done → s.n ≤ 16
 
-stored_as_kept : (n done : ℕ) (lent ps : List StationProcess) → Kept n done lent ps
-    → processes_stored lent (gathered ps e 16) (cond (eqb done 0) 0 n) ≡ ps
-unfolding stored
-stored_as_kept n done lent ps k = go (eqb done 0) refl
+stored_as_kept : (n : ℕ) (lent ps : List StationProcess) → length ps ≡ length lent → ((j : ℕ) → n ≤ j → get_or ps j e ≡ get_or lent j e) → n ≤ 16
+    → processes_stored lent (gathered ps e 16) n ≡ ps
+stored_as_kept n lent ps long others few =
+    ext_get_or e (processes_stored lent (gathered ps e 16) n) ps
+    (stored_length lent (gathered ps e 16) n ∙ sym long)
+    (λ j h. at j (let x = stored_length lent (gathered ps e 16) n in omega arith) (dec_lt j n))
   where
-    go : (t : Bool) → eqb done 0 ≡ t → processes_stored lent (gathered ps e 16) (cond t 0 n) ≡ ps
-    go true z = sym (k.none_done (eqb-true done 0 z))
-    go false z =
-        ext_get_or e (processes_stored lent (gathered ps e 16) n) ps
-        (stored_length lent (gathered ps e 16) n ∙ sym k.long)
-        (λ j h. at j (let x = stored_length lent (gathered ps e 16) n in omega arith) (dec_lt j n))
-      where
-        few : n ≤ 16
-        few = k.some_done (eqb-false done 0 z)
-
-        at : (j : ℕ) → j < length lent → Dec (j < n) → get_or (processes_stored lent (gathered ps e 16) n) j e ≡ get_or ps j e
-        at j h (yes b) = stored_below lent (gathered ps e 16) n j b h ∙ gathered_here ps e 16 j (omega arith) (omega (arith, b, few))
-        at j h (no b) = stored_above lent (gathered ps e 16) n j (omega arith) ∙ sym (k.others j (omega arith))
+    at : (j : ℕ) → j < length lent → Dec (j < n) → get_or (processes_stored lent (gathered ps e 16) n) j e ≡ get_or ps j e
+    at j h (yes b) = stored_below lent (gathered ps e 16) n j b h ∙ gathered_here ps e 16 j (omega arith) (omega (arith, b, few))
+    at j h (no b) = stored_above lent (gathered ps e 16) n j (omega arith) ∙ sym (others j (omega arith))
 
 -- one record: its command by value, stored back, is the command
 module _ (lent : List StationProcess) (r : BoardRecord) (s : Station) (ps : List StationProcess) (ws : List ℕ) where
@@ -135,7 +127,7 @@ module _ (lent : List StationProcess) (r : BoardRecord) (s : Station) (ps : List
     gathered_after : processes_after all o ≡ gathered after e 16
     gathered_after = let a = ok in set_gathered ps o.at o.process (omega (arith, a.place, a.most)) (omega (arith, a.place, a.lent))
 
-    kept_after : (done : ℕ) → Kept s.n done lent ps → Kept o.station.n (suc done) lent after
+    kept_after : {before : Station} (done : ℕ) → Kept before s done lent ps → Kept before o.station (suc done) lent after
     kept_after done k = let a = ok in record {
       long = length-set ps o.at o.process ∙ k.long;
       others = λ j h. get_or-set_other ps o.at j o.process e (λ i. omega (arith, i, h, a.place, a.n_stays)) ∙ k.others j (omega (arith, h, a.n_stays));
@@ -144,13 +136,22 @@ module _ (lent : List StationProcess) (r : BoardRecord) (s : Station) (ps : List
     }
 
 -- a run that ends here
-end_stored : (lent : List StationProcess) (number done : ℕ) (s : Station) (ps : List StationProcess) (ws : List ℕ) → Kept s.n done lent ps
-    → stored_run lent (left_with s (gathered ps e 16) number done, ws) ≡ (record { number = number; done = done }, station_memory s ps ws)
-end_stored lent number done s ps ws k =
-    ap (λ (l : List StationProcess). (record { number = number; done = done }, station_memory s l ws)) (stored_as_kept s.n done lent ps k)
+end_stored : (before : Station) (lent : List StationProcess) (number done : ℕ) (s : Station) (ps : List StationProcess) (ws : List ℕ) → Kept before s done lent ps
+    → stored_run before lent (left_with s (gathered ps e 16) number done, ws) ≡ (record { number = number; done = done }, station_memory s ps ws)
+end_stored before lent number done s ps ws k = go (ltb 0 done) refl
+  where
+    told : StationMemory → FileRun × StationMemory
+    told m = (record { number = number; done = done }, m)
+
+    go : (t : Bool) → ltb 0 done ≡ t
+        → told (left_stored before lent ws (cond t (Some (record { station = s; all = gathered ps e 16 })) None)) ≡ told (station_memory s ps ws)
+    go true z = ap (λ (l : List StationProcess). told (station_memory s l ws)) (stored_as_kept s.n lent ps k.long k.others (k.some_done (ltb-true 0 done z)))
+    go false z =
+        let none = k.none_done (let y = ltb-false 0 done z in omega arith) in
+        ap₂ (λ (l : List StationProcess) (r : Station). told (station_memory r l ws)) (sym none.0) (sym none.1)
 
 -- a record, and the rest after it
-module _ (lent : List StationProcess) (r : BoardRecord) (rs : List BoardRecord) (done : ℕ) (s : Station) (ps : List StationProcess) (ws : List ℕ) where
+module _ (before : Station) (lent : List StationProcess) (r : BoardRecord) (rs : List BoardRecord) (done : ℕ) (s : Station) (ps : List StationProcess) (ws : List ℕ) where
   abbrev m : Reply × StationMemory
   m = made lent r s ps ws
 
@@ -166,41 +167,41 @@ module _ (lent : List StationProcess) (r : BoardRecord) (rs : List BoardRecord) 
   abbrev Rest : Outcome → List ℕ → Type 0
   Rest o ws' =
       let here = set ps o.at o.process in
-      Kept o.station.n (suc done) lent here
-      → stored_run lent (records_run (suc done) rs o.station (gathered here e 16) (length here) ws') ≡ run_records (suc done) rs (station_memory o.station here ws')
+      Kept before o.station (suc done) lent here
+      → stored_run before lent (records_run (suc done) rs o.station (gathered here e 16) (length here) ws') ≡ run_records (suc done) rs (station_memory o.station here ws')
 
-  one_record_lem : Kept s.n done lent ps → ((o : Outcome) (ws' : List ℕ) → Rest o ws') → (d : Decided) → d ≡ out lent r s ps ws → stored_run lent (by_value d) ≡ said m
+  one_record_lem : Kept before s done lent ps → ((o : Outcome) (ws' : List ℕ) → Rest o ws') → (d : Decided) → d ≡ out lent r s ps ws → stored_run before lent (by_value d) ≡ said m
   one_record_lem k rest (Ok o, ws') h =
       let as_long : length (set ps o.at o.process) ≡ length ps = length-set ps o.at o.process in
       let x : Reply × StationMemory = stored_back s ps (Ok o, ws') in
-      ap₂ (λ (l : List StationProcess) (i : ℕ). stored_run lent (records_run (suc done) rs o.station l i ws')) (gathered_after lent r s ps ws o ws' h) (sym as_long)
+      ap₂ (λ (l : List StationProcess) (i : ℕ). stored_run before lent (records_run (suc done) rs o.station l i ws')) (gathered_after lent r s ps ws o ws' h) (sym as_long)
       ∙ rest o ws' (kept_after lent r s ps ws o ws' h done k)
       ∙ ap (λ (t : Bool). cond t (run_records (suc done) rs x.1) (record { number = number_of x.0; done = done }, x.1)) (sym (eq-eqb (number_of o.reply) 0 (replied lent r s ps ws o ws' h)))
       ∙ ap said (as_command lent r s ps ws (Ok o, ws') h)
   one_record_lem k rest (Err number, ws') h =
       let x : Reply × StationMemory = stored_back s ps (Err number, ws') in
-      end_stored lent number done s ps ws' k
+      end_stored before lent number done s ps ws' k
       ∙ ap (λ (t : Bool). cond t (run_records (suc done) rs x.1) (record { number = number; done = done }, x.1)) (sym (ne_eqb number 0 (numbered_row lent r s ps ws number ws' h)))
       ∙ ap said (as_command lent r s ps ws (Err number, ws') h)
 
-stored_records : (lent : List StationProcess) (rs : List BoardRecord) (done : ℕ) (s : Station) (ps : List StationProcess) (ws : List ℕ) → Kept s.n done lent ps
-    → stored_run lent (records_run done rs s (gathered ps e 16) (length ps) ws) ≡ run_records done rs (station_memory s ps ws)
+stored_records : (before : Station) (lent : List StationProcess) (rs : List BoardRecord) (done : ℕ) (s : Station) (ps : List StationProcess) (ws : List ℕ) → Kept before s done lent ps
+    → stored_run before lent (records_run done rs s (gathered ps e 16) (length ps) ws) ≡ run_records done rs (station_memory s ps ws)
 unfolding records_run run_records
-stored_records lent [] done s ps ws k = end_stored lent 0 done s ps ws k
-stored_records lent (r ∷ rs) done s ps ws k =
-    one_record_lem lent r rs done s ps ws k
-    (λ o ws'. stored_records lent rs (suc done) o.station (set ps o.at o.process) ws')
+stored_records before lent [] done s ps ws k = end_stored before lent 0 done s ps ws k
+stored_records before lent (r ∷ rs) done s ps ws k =
+    one_record_lem before lent r rs done s ps ws k
+    (λ o ws'. stored_records before lent rs (suc done) o.station (set ps o.at o.process) ws')
     (out lent r s ps ws) refl
 
 pub stored_file : (file : List ℕ) (s : Station) (ps : List StationProcess) (ws : List ℕ)
-    → stored_run ps (file_run file s (gathered ps empty_process 16) (length ps) ws) ≡ run_file file (station_memory s ps ws)
+    → stored_run s ps (file_run file s (gathered ps empty_process 16) (length ps) ws) ≡ run_file file (station_memory s ps ws)
 unfolding file_run run_file
 stored_file file s ps ws = go (eqb (file_number file) 0)
   where
-    begun : Kept s.n 0 ps ps
-    begun = record { long = refl; others = λ j h. refl; none_done = λ z. refl; some_done = λ h. absurd (h refl) }
+    begun : Kept s s 0 ps ps
+    begun = record { long = refl; others = λ j h. refl; none_done = λ z. (refl, refl); some_done = λ h. absurd (omega (arith, h)) }
 
-    go : (t : Bool) → stored_run ps (cond t (records_run 0 (decode file) s (gathered ps e 16) (length ps) ws) (left_with s (gathered ps e 16) (file_number file) 0, ws))
+    go : (t : Bool) → stored_run s ps (cond t (records_run 0 (decode file) s (gathered ps e 16) (length ps) ws) (left_with s (gathered ps e 16) (file_number file) 0, ws))
         ≡ cond t (run_records 0 (decode file) (station_memory s ps ws)) (record { number = file_number file; done = 0 }, station_memory s ps ws)
-    go true = stored_records ps (decode file) 0 s ps ws begun
-    go false = end_stored ps (file_number file) 0 s ps ws begun
+    go true = stored_records s ps (decode file) 0 s ps ws begun
+    go false = end_stored s ps (file_number file) 0 s ps ws begun

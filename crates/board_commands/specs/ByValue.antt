@@ -1,12 +1,12 @@
 -- The run by value: `all` holds the first sixteen lent process records, with a filler where there are fewer, `len` is how
 -- many were lent.
 -- Inner: `StoredRun` proves that this, stored back, is `run_file`.
-use Rattle.std.specs.Prelude.{ℕ, suc, List, [], ◌∷◌, Ok, Err, cond, eqb, ltb, replicate, set}
+use Rattle.std.specs.Prelude.{ℕ, suc, List, [], ◌∷◌, None, Some, Ok, Err, cond, eqb, ltb, replicate, set}
 use Rattle.boards.specs.Files.{BoardRecord, decode, file_number}
 use Rattle.station.specs.declared.Station.{Station}
 use Rattle.station.specs.declared.StationProcess.{StationProcess}
-use Rattle.station.specs.Station.{StationMemory, station_memory}
-use Rattle.station_records.specs.Gathered.{processes_stored}
+use Rattle.station.specs.Station.{StationMemory}
+use Rattle.station_records.specs.Gathered.{left_stored}
 use Rattle.station_machine.specs.declared.Outcome.{Outcome}
 use Rattle.station_machine.specs.StationDecision.{Decided, station_decided}
 use Rattle.board_commands.specs.declared.FileRun.{FileRun}
@@ -22,14 +22,12 @@ unfoldable pub decided : Station → List StationProcess → ℕ → BoardRecord
 decided s all len r ws =
     station_decided s all len r.process (order_of r.order) 0 (replicate s.w r.value) ws
 
--- a run that ends here
+-- a run that ends here: nothing is left to store where nothing was done
 abbrev pub left_with : Station → List StationProcess → ℕ → ℕ → RunLeft
-left_with s all number done =
-    record { station = s; all = all; ran = record { number = number; done = done } }
-
--- how many process records are stored back: none where nothing was done
-abbrev pub stored_of : RunLeft → ℕ
-stored_of left = cond (eqb left.ran.done 0) 0 left.station.n
+left_with s all number done = record {
+  left = cond (ltb 0 done) (Some (record { station = s; all = all })) None;
+  ran = record { number = number; done = done };
+}
 
 abbrev pub processes_after : List StationProcess → Outcome → List StationProcess
 processes_after all out = set all out.at out.process
@@ -51,9 +49,6 @@ unfoldable pub file_run : List ℕ → Station → List StationProcess → ℕ �
 file_run file s all len ws =
     cond (eqb (file_number file) 0) (records_run 0 (decode file) s all len ws) (left_with s all (file_number file) 0, ws)
 
--- what a run returns and leaves, once the caller has stored the process records back
-abbrev pub stored_run : List StationProcess → RunLeft × List ℕ → FileRun × StationMemory
-stored_run ps x = (
-  x.0.ran,
-  station_memory x.0.station (processes_stored ps x.0.all (stored_of x.0)) x.1,
-)
+-- what a run returns and leaves, once the caller has stored it back
+abbrev pub stored_run : Station → List StationProcess → RunLeft × List ℕ → FileRun × StationMemory
+stored_run s ps x = (x.0.ran, left_stored s ps x.1 x.0.left)

@@ -10,7 +10,7 @@ use llsc::Order;
 use llsc::refusals::Refusal;
 use station_machine::Outcome;
 use station_records::gathered::Gathered;
-use station_rows::commands::Command;
+use station_rows::commands::{Command, Ordered};
 use text_runs::lists::repeated;
 
 // CR 12: "order (1: 0 step, 1 LL, 2 SC, 3 VL)".
@@ -38,8 +38,7 @@ pub fn decide(lent: Gathered, bytes: &Record, words: &mut [u64]) -> Result<Outco
     let w = lent.station.w.min(64);
     let command = Command {
         process: p,
-        order,
-        named: 0,
+        order: Ordered::new(order, 0),
     };
     station_machine::decide(lent, command, &value[..w], words)
 }

@@ -6,10 +6,7 @@
 pub mod commands;
 pub mod running;
 
-ghost use Rattle.std.specs.Prelude.{◌≡◌};
-ghost use Rattle.board_commands.specs.ByValue.{stored_of};
-
-use station::{Station, StationProcess};
+use station_records::left::Left;
 
 // What a run returns: the number of the refusal that ended it, 0 for none, and the commands done.
 // Kept: 02 promises its users a number.
@@ -19,23 +16,9 @@ pub struct FileRun {
     pub done: usize,
 }
 
-// What a run by value leaves: the station, the process records, and what it returns.
+// What a run by value leaves to be stored back, nothing where nothing was done, and what it returns.
 #[derive(Clone, Copy)]
 pub struct RunLeft {
-    pub station: Station,
-    pub all: [StationProcess; 16],
+    pub left: Option<Left>,
     pub ran: FileRun,
-}
-
-impl RunLeft {
-    // How many process records are to be stored back: none where nothing was done.
-    pub fn stored(&self) -> usize
-        ensures { result ≡ stored_of self.now }
-    {
-        if self.ran.done == 0 {
-            0
-        } else {
-            self.station.n
-        }
-    }
 }

@@ -9,13 +9,17 @@ use board_rows::right_records;
 use boards::records::Record;
 use station::{Station, StationProcess};
 use station_records::gathered::Gathered;
+use station_records::left::Left;
 
 // A run that ends here.
 fn left_with(station: Station, all: [StationProcess; 16], number: u8, done: usize) -> RunLeft
     ensures { result ≡ left_with station all number done }
 {
-    let ran = FileRun { number, done };
-    RunLeft { station, all, ran }
+    let left = Left { station, all };
+    RunLeft {
+        left: (done > 0).then_some(left),
+        ran: FileRun { number, done },
+    }
 }
 
 fn run_records(lent: Gathered, records: &[Record], words: &mut [u64]) -> RunLeft

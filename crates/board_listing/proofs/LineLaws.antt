@@ -33,8 +33,8 @@ refused_length : (c e : ℕ) → c ≤ 99 → e ≤ 9999999 → length (refused_
 unfolding refused_line
 refused_length c e k h = omega (arith, joined (decimal c) (space ∷ (decimal e ++ line_feed ∷ [])) 2 9 (cause_digits c k) (omega (arith, with_feed e h)))
 
-pub closable_room : {s : Stopped} {l : List ℕ} → Closable s l → Room l s.run.written (last_of s.run.entries s.outcome)
+pub closable_room : {s : Stopped} {l : List ℕ} → Closable s l → Room l s.written (last_of s.entries s.outcome)
 closable_room {s} x =
     let k : ℕ = number_told s.outcome in
-    let short = last_room_lem k s.run.entries 19 (omega (arith, end_length s.run.entries x.entries)) (refused_length k s.run.entries x.stop x.entries) in
+    let short = last_room_lem k s.entries 19 (omega (arith, end_length s.entries x.entries)) (refused_length k s.entries x.stop x.entries) in
     record { fits = omega (arith, x.room, short) }

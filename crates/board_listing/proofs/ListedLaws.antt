@@ -23,49 +23,45 @@ use Rattle.boards.specs.Places.{read, RightFile, WrongFile}
 use Rattle.text_runs.specs.TextRun.{room_needed}
 use Rattle.semantics.specs.TextRun.{Progress, Ended, ended, begun}
 use Rattle.entry.specs.declared.state.Held.{Held}
-use Rattle.entry.specs.declared.state.Run.{Run}
-use Rattle.entry.specs.RunState.{RunState, state_of, progress}
+use Rattle.entry.specs.RunState.{RunState, progress}
 use Rattle.entry.proofs.FilledLaws.{gathered_filled}
-use Rattle.entry.specs.RunState.{fresh_run}
-use Rattle.text_runs.specs.Runs.{Outcome}
 use Rattle.run.specs.Finished.{memory_of, Lending}
 use Rattle.run.proofs.StartLaws.{set_up_same, first, begun_same, begun_sound}
 use Rattle.text_runs.proofs.TextLaws.{not_begun, is_begun}
 use Rattle.board_listing.specs.BoardListing.{obey_all, run_listed, after_set_up, board_listed}
-use Rattle.board_listing.specs.ListedRun.{Between, Obeys, Closable, refused_with, closed, end_of, RunsFile}
+use Rattle.board_listing.specs.ListedRun.{fresh_state, stopped_state, Between, Obeys, Closable, refused_with, closed, end_of, RunsFile}
 
 pub refused_closable : {held : Held} {f : Refusal} {list : List ℕ} → refusal_number f ≤ 99 → room_needed false ≤ length list → Closable (refused_with held f) list
 refused_closable h l = record { entries = omega arith; stop = h; room = omega (arith, l) }
 
 -- with its last line a run is ended
 closed_ends : {out : Stopped} {list' : List ℕ} (s : Stopped) (ws list : List ℕ) → ◌≡◌ {A = Stopped × List ℕ} (out, list') (closed s list)
-    → end_of out ws list' ≡ ended (progress 16 (state_of s.run (number_told s.outcome) ws list))
+    → end_of out ws list' ≡ ended (progress 16 (stopped_state s ws list))
 closed_ends s ws list e = ap (λ (x : Stopped × List ℕ). end_of x.0 ws x.1) e
 
 -- "25 and 26 also before a run"
-module _ (r : Run) (ws file list : List ℕ) where
+module _ (held : Held) (ws file list : List ℕ) where
   abbrev m : Memory
-  m = memory_of r.held 16 ws
+  m = memory_of held 16 ws
 
   abbrev ran : Bool → Ended
   ran t = cond t (ended (obey_all (decode file) (begun false m list 0))) (ended (begun false m list (file_number file)))
 
-  pub file_refused : (f : Refusal) → WrongFile file f → {out : Stopped} {list' : List ℕ} → ◌≡◌ {A = Stopped × List ℕ} (out, list') (closed (refused_with r.held f) list)
-      → RunsFile r ws file list out ws list'
+  pub file_refused : (f : Refusal) → WrongFile file f → {out : Stopped} {list' : List ℕ} → ◌≡◌ {A = Stopped × List ℕ} (out, list') (closed (refused_with held f) list)
+      → RunsFile held ws file list out ws list'
   unfolding run_listed
   file_refused f e c = record {
-    same = closed_ends (refused_with r.held f) ws list c ∙ ap (λ (j : ℕ). ended (begun false m list j)) (sym e)
+    same = closed_ends (refused_with held f) ws list c ∙ ap (λ (j : ℕ). ended (begun false m list j)) (sym e)
         ∙ sym (ap ran (ne_eqb (file_number file) 0 (λ z. number_some f (sym e ∙ z))));
     words = refl;
   }
 
-  pub file_run_is : {bs : List (List ℕ)} → RightFile file bs → r ≡ fresh_run r.held false → {done out : Stopped} {ws' list' last : List ℕ}
-      → Obeys (read bs) (state_of r 0 ws list) (state_of done.run (number_told done.outcome) ws' list')
-      → ◌≡◌ {A = Stopped × List ℕ} (out, last) (closed done list') → RunsFile r ws file list out ws' last
+  pub file_run_is : {bs : List (List ℕ)} → RightFile file bs → {done out : Stopped} {ws' list' last : List ℕ}
+      → Obeys (read bs) (fresh_state held ws list) (stopped_state done ws' list')
+      → ◌≡◌ {A = Stopped × List ℕ} (out, last) (closed done list') → RunsFile held ws file list out ws' last
   unfolding run_listed
-  file_run_is {bs} f fresh {done} {ws' = ws'} {list' = list'} o c = record {
+  file_run_is {bs} f {done} {ws' = ws'} {list' = list'} o c = record {
     same = closed_ends done ws' list' c ∙ ap ended o.same
-        ∙ ap (λ (x : Run). ended (obey_all (read bs) (progress 16 (state_of x 0 ws list)))) fresh
         ∙ ap (λ rs. ended (obey_all rs (begun false m list 0))) f.reads
         ∙ sym (ap ran (eq-eqb (file_number file) 0 f.number));
     words = o.words;
@@ -97,7 +93,7 @@ module _ {list : List ℕ} (held : Held) (ws file : List ℕ) (x : Lending 16 he
     abbrev begins : RunState
     begins = first false held ws x n w k small (sym e ∙ z)
 
-    pub begun_between : Shaped before → {r : Run} {ws₁ : List ℕ} → state_of r 0 ws₁ list ≡ begins → Between (state_of r 0 ws₁ list)
+    pub begun_between : Shaped before → {after : Held} {ws₁ : List ℕ} → fresh_state after ws₁ list ≡ begins → Between (fresh_state after ws₁ list)
     begun_between s q = subst Between (sym q) (record {
       sound = begun_sound false held ws x n w k small (sym e ∙ z) s;
       goes = refl;
@@ -106,7 +102,7 @@ module _ {list : List ℕ} (held : Held) (ws file : List ℕ) (x : Lending 16 he
       room = omega (arith, x.room);
     })
 
-    pub set_up_run : {r : Run} {out : Stopped} {ws₁ ws' list' : List ℕ} → state_of r 0 ws₁ list ≡ begins → RunsFile r ws₁ file list out ws' list'
+    pub set_up_run : {after : Held} {out : Stopped} {ws₁ ws' list' : List ℕ} → fresh_state after ws₁ list ≡ begins → RunsFile after ws₁ file list out ws' list'
         → end_of out ws' list' ≡ after_set_up before file list (set_up before n w v)
     unfolding set_up
     set_up_run q o =
@@ -133,6 +129,3 @@ file_small file e = rw e (either (good_trailer file) (good_records file))
     either false u = omega arith
     either true false = omega arith
     either true true = omega arith
-
-pub as_fresh : {held : Held} {r : Run} → r ≡ fresh_run held false → r ≡ fresh_run r.held false
-as_fresh e = e ∙ ap (λ (x : Run). fresh_run x.held false) (sym e)

@@ -13,35 +13,47 @@ use borrow.Author.Tests.{eq-eqb, ne_eqb}
 use Rattle.notation.specs.declared.Entry.{Entry}
 use Rattle.boards.specs.Files.{BoardRecord, record_of}
 use Rattle.boards.specs.Places.{read}
-use Rattle.semantics.specs.TextRun.{Progress, single, carry}
-use Rattle.entry.specs.declared.state.Run.{Run}
-use Rattle.entry.specs.RunState.{RunState, state_of, progress, Small, Becomes}
+use Rattle.semantics.specs.TextRun.{figure2, Progress, single}
+use Rattle.std.specs.Prelude.{Result, Ok, Err}
+use Rattle.llsc.specs.declared.refusals.Refusal.{Refusal}
+use Rattle.text_runs.specs.Carrying.{Turned, turn_number}
+use Rattle.entry.specs.RunState.{RunState, progress, Sound, Small, Becomes}
 use Rattle.board_listing.specs.BoardListing.{entry_of, obeyed, obey_all}
-use Rattle.board_listing.specs.ListedRun.{recounted, with_entries, Between, Obeys}
-use Rattle.board_listing.proofs.RecordLaws.{one_command, counts, stops, stays_listed, writes_none, room_left}
+use Rattle.board_listing.specs.ListedRun.{recounted, counted_state, stopped_state, Between, Obeys}
+use Rattle.board_listing.specs.declared.ending.Stopped.{Stopped}
+use Rattle.board_listing.proofs.RecordLaws.{counts, stops, stays_listed, writes_none, room_left}
+
+-- an entry's turn, as it is said of a run
+pub turned_becomes : {e : Entry} {out : Result Bool Refusal} (h h' : RunState) {a b : ℕ} → a ≡ 16 → b ≡ a → Turned figure2 e (progress a h) out (progress b h')
+    → Sound b h' → length h'.words ≡ length h.words → length h'.listing ≡ length h.listing → Becomes 16 (single e) h h'
+turned_becomes h h' {b = b} x y t s w l = let z : b ≡ 16 = y ∙ x in record { same = rw (x, z) at t.same; kept = record { sound = rw z at s; words = w; listing = l } }
+
+pub not_stopped : (r : Result Bool Refusal) → ((x : Refusal) → r ≡ Err x → ⊥) → turn_number r ≡ 0
+not_stopped (Ok x) n = refl
+not_stopped (Err x) n = absurd (n x refl)
+
+-- the bytes after the loop are those that the writer had
+pub in_list : {rs : List BoardRecord} {h : RunState} {ws l l' : List ℕ} (s : Stopped) → l' ≡ l → Obeys rs h (stopped_state s ws l) → Obeys rs h (stopped_state s ws l')
+in_list {rs} {h} {ws} s e o = subst (λ (y : List ℕ). Obeys rs h (stopped_state s ws y)) (sym e) o
 
 -- what is left, and what is still to be done, is the whole
-pub record Obeying (bs : List (List ℕ)) (ws₀ list₀ : List ℕ) (run₀ : Run) (ws list : List ℕ) (run : Run) (done : ℕ) : Type 0 where
-  pub between : Between (state_of run 0 ws list)
-  pub words : length ws ≡ length ws₀
-  pub listing : length list ≡ length list₀
-  pub same : obey_all (read bs) (progress 16 (state_of run₀ 0 ws₀ list₀)) ≡ obey_all (read (drop done bs)) (recounted done (progress 16 (state_of run 0 ws list)))
+pub record Obeying (bs : List (List ℕ)) (h₀ h : RunState) (done : ℕ) : Type 0 where
+  pub between : Between h
+  pub words : length h.words ≡ length h₀.words
+  pub listing : length h.listing ≡ length h₀.listing
+  pub same : obey_all (read bs) (progress 16 h₀) ≡ obey_all (read (drop done bs)) (recounted done (progress 16 h))
 
-pub first_record : (bs : List (List ℕ)) (ws list : List ℕ) (run : Run) → Between (state_of run 0 ws list) → Obeying bs ws list run ws list run 0
-first_record bs ws list run b = record {
+pub first_record : (bs : List (List ℕ)) (h : RunState) → Between h → Obeying bs h h 0
+first_record bs h b = record {
   between = b;
   words = refl;
   listing = refl;
-  same = ap (λ (k : ℕ). obey_all (read bs) (recounted k (progress 16 (state_of run 0 ws list)))) b.none;
+  same = ap (λ (k : ℕ). obey_all (read bs) (recounted k (progress 16 h))) b.none;
 }
 
-module _ {bs : List (List ℕ)} {ws₀ list₀ : List ℕ} {run₀ : Run} {ws list : List ℕ} {run : Run} {done : ℕ}
-    (m : Obeying bs ws₀ list₀ run₀ ws list run done) where
-  abbrev h₀ : RunState
-  h₀ = state_of run₀ 0 ws₀ list₀
-
+module _ {bs : List (List ℕ)} {h₀ h : RunState} {done : ℕ} (m : Obeying bs h₀ h done) where
   abbrev s : Progress
-  s = progress 16 (state_of run 0 ws list)
+  s = progress 16 h
 
   abbrev whole : Progress
   whole = obey_all (read bs) (progress 16 h₀)
@@ -49,18 +61,17 @@ module _ {bs : List (List ℕ)} {ws₀ list₀ : List ℕ} {run₀ : Run} {ws li
   abbrev r : BoardRecord
   r = record_of (get_or bs done [])
 
-  module _ (some : done < length bs) {e : Entry} (is : e ≡ entry_of r) (small : Small e) {next : Run} {k : ℕ} {ws' list' : List ℕ}
-      (b : Becomes 16 (carry e) (state_of run 0 ws list) (state_of next k ws' list')) where
+  module _ (some : done < length bs) {e : Entry} (is : e ≡ entry_of r) (small : Small e) {h' : RunState} (b : Becomes 16 (single e) h h') where
     abbrev rs : List BoardRecord
     rs = read (drop (done + 1) bs)
 
     abbrev t : Progress
-    t = progress 16 (state_of next k ws' list')
+    t = progress 16 h'
 
     made : t ≡ single (entry_of r) s
-    made = b.same ∙ ap (λ (y : Entry). carry y s) is ∙ one_command r s
+    made = b.same ∙ ap (λ (y : Entry). single y s) is
 
-    stop_is : k ≡ (single (entry_of r) s).stop
+    stop_is : h'.stop ≡ (single (entry_of r) s).stop
     stop_is = ap (λ (x : Progress). x.stop) made
 
     abbrev further : Progress → Bool → Progress
@@ -75,47 +86,46 @@ module _ {bs : List (List ℕ)} {ws₀ list₀ : List ℕ} {run₀ : Run} {ws li
         m.same ∙ ap (λ (l : List BoardRecord). obey_all l (recounted done s)) next_record
         ∙ ap (λ (y : Progress). further y (eqb y.stop 0)) (sym q)
 
-    pub refused : length bs ≤ 9999999 → (k ≡ 0 → ⊥) → (out : Run) → out ≡ with_entries next done → Obeys (read bs) h₀ (state_of out k ws' list')
-    refused few n out q =
+    pub refused : length bs ≤ 9999999 → (h'.stop ≡ 0 → ⊥) → Obeys (read bs) h₀ (counted_state done h')
+    refused few n =
         let g : (single (entry_of r) s).stop ≡ 0 → ⊥ = λ z. n (stop_is ∙ z) in
         let d = m.between in
         let one : recounted done t ≡ obeyed r (recounted done s) = ap (recounted done) made ∙ sym (stops (entry_of r) s d.goes d.none d.listed done g) in
-        let w : next.written ≡ run.written = ap (λ (x : Progress). x.written) made ∙ writes_none (entry_of r) s d.goes d.none d.listed g in
-        subst (λ (x : Run). Obeys (read bs) h₀ (state_of x k ws' list')) (sym q) (record {
-          same = sym (opened (recounted done t) one ∙ ap (further (recounted done t)) (ne_eqb k 0 n));
+        let w : h'.written ≡ h.written = ap (λ (x : Progress). x.written) made ∙ writes_none (entry_of r) s d.goes d.none d.listed g in
+        record {
+          same = sym (opened (recounted done t) one ∙ ap (further (recounted done t)) (ne_eqb h'.stop 0 n));
           words = b.kept.words ∙ m.words;
           listing = b.kept.listing ∙ m.listing;
           room = omega (arith, w, d.room, b.kept.listing);
           stop = b.kept.sound.stop;
           few = omega arith;
-        })
+        }
 
-    pub goes_on : k ≡ 0 → (out : Run) → out ≡ with_entries next 0 → Obeying bs ws₀ list₀ run₀ ws' list' out (done + 1)
-    goes_on z out q =
+    pub goes_on : h'.stop ≡ 0 → Obeying bs h₀ (counted_state 0 h') (done + 1)
+    goes_on z =
         let g : (single (entry_of r) s).stop ≡ 0 = sym stop_is ∙ z in
         let d = m.between in
         let x = b.kept.sound in
         let one : recounted (done + 1) t ≡ obeyed r (recounted done s) = ap (recounted (done + 1)) made ∙ sym (counts (entry_of r) s d.goes d.none d.listed done g) in
         let left_over = room_left d (entry_of r) (subst Small is small) g in
-        subst (λ (y : Run). Obeying bs ws₀ list₀ run₀ ws' list' y (done + 1)) (sym q) (record {
+        record {
           between = record {
-            sound = record { few = x.few; filled = x.filled; entries = omega arith; stop = omega arith; room = x.room; going = λ y. x.going z };
-            goes = refl;
+            sound = record { few = x.few; filled = x.filled; entries = omega arith; stop = x.stop; room = x.room; going = x.going };
+            goes = z;
             none = refl;
             listed = ap (λ (y : Progress). y.traced) made ∙ stays_listed (entry_of r) s d.goes d.none d.listed ∙ d.listed;
             room = omega (arith, left_over, ap (λ (y : Progress). y.written) made, b.kept.listing);
           };
           words = b.kept.words ∙ m.words;
           listing = b.kept.listing ∙ m.listing;
-          same = opened (recounted (done + 1) t) one ∙ ap (further (recounted (done + 1) t)) (eq-eqb k 0 z)
-              ∙ ap (λ (j : ℕ). obey_all rs (recounted (done + 1) (progress 16 (state_of next j ws' list')))) z;
-        })
+          same = opened (recounted (done + 1) t) one ∙ ap (further (recounted (done + 1) t)) (eq-eqb h'.stop 0 z);
+        }
 
-  pub all_done : length bs ≤ 9999999 → length bs ≡ done → (out : Run) → out ≡ with_entries run done → Obeys (read bs) h₀ (state_of out 0 ws list)
+  pub all_done : length bs ≤ 9999999 → length bs ≡ done → Obeys (read bs) h₀ (counted_state (length bs) h)
   unfolding obey_all
-  all_done few z out q =
+  all_done few z =
       let d = m.between in
-      subst (λ (x : Run). Obeys (read bs) h₀ (state_of x 0 ws list)) (sym q) (record {
+      subst (λ (k : ℕ). Obeys (read bs) h₀ (counted_state k h)) (sym z) (record {
         same = sym (m.same ∙ rw (drop_all done bs (omega arith)) refl);
         words = m.words;
         listing = m.listing;

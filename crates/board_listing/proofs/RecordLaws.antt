@@ -15,17 +15,12 @@ use Rattle.machine.specs.Decision.{Outcome, decided}
 use Rattle.notation.specs.declared.Entry.{Entry}
 use Rattle.notation.specs.declared.Entry.TheVariants.{StartLl, StartVl, StartSc, Step}
 use Rattle.notation.specs.Grammar.{largest}
-use Rattle.notation.specs.EntryWords.{entry_in, kept_entry}
 use Rattle.boards.specs.Files.{BoardRecord}
-use Rattle.text_runs.specs.KeptEntries.{entries_in}
-use Rattle.carrying.specs.Carried.{Carries}
-use Rattle.text_runs.proofs.KeptLaws.{kept_run}
-use Rattle.semantics.proofs.FarLaws.{far_refused}
 use Rattle.text_runs.specs.TextRun.{most_entries, room_needed, process_of, order_of, value_of}
 use Rattle.text_runs.specs.TextRun as TR
 use Rattle.semantics.specs.TextRun.{figure2, Progress, stopped, lines_of, trace_line, counted, commanded, single, carry, carry_all}
 use Rattle.text_runs.proofs.SingleEntries.{outcome}
-use Rattle.entry.specs.RunState.{RunState, progress, Ready, Small, Becomes, answer_line}
+use Rattle.entry.specs.RunState.{RunState, progress, Ready, Small, answer_line}
 use Rattle.entry.proofs.WordLaws.{Below}
 use Rattle.entry.proofs.CommandLaws.{decides}
 use Rattle.entry.proofs.DecisionLaws.{done}
@@ -115,12 +110,12 @@ module _ {h : RunState} (b : Between h) (e : Entry) (small : Small e) where
   abbrev x : Outcome × List ℕ
   x = decided h.run.held.bench h.run.held.all 16 (process_of e) (order_of e) (value_of h.run.held.bench.w e) h.words
 
-  module _ (l : room_needed false ≤ length h.listing - h.run.written) where
+  module _ (l : room_needed false ≤ length h.listing - h.written) where
     ready : Ready h
     ready = record {
       goes = b.goes;
       entries = omega (arith, b.none);
-      room = subst (λ (t : Bool). h.run.written + room_needed t ≤ length h.listing) (sym b.listed) (omega (arith, l, b.room));
+      room = subst (λ (t : Bool). h.written + room_needed t ≤ length h.listing) (sym b.listed) (omega (arith, l, b.room));
     }
 
     number : (commanded e s).stop ≡ 0 → number_of x.0.reply ≡ 0
@@ -132,7 +127,7 @@ module _ {h : RunState} (b : Between h) (e : Entry) (small : Small e) where
             let r = refused_becomes e x.0 x.1 small b.sound ready refl (λ y. omega (arith, y, q)) in
             let w : number_of x.0.reply ≡ 0 = ap (λ (t : Progress). t.stop) r.same ∙ g in omega (arith, w, q)
 
-    within : (commanded e s).stop ≡ 0 → (commanded e s).written ≤ h.run.written + 713
+    within : (commanded e s).stop ≡ 0 → (commanded e s).written ≤ h.written + 713
     within g =
         let z = number g in
         let did = done h.run.held.bench h.run.held.all 16 (process_of e) (order_of e) (value_of h.run.held.bench.w e) h.words b.sound.filled.sixteen
@@ -140,9 +135,9 @@ module _ {h : RunState} (b : Between h) (e : Entry) (small : Small e) where
         let below : Below _ h.words = record { at = (b.sound.going b.goes).small } in
         let line = answer_line x.0.bench.n x.0.bench.w x.1 (process_of e) x.0.reply in
         let all = cond h.run.traced (trace_line (h.run.entries + 1) s.memory e x.0.reply) [] ++ line in
-        let a = answered_becomes e x.0 x.1 small b.sound ready refl z (sets h.listing h.run.written all) (h.run.written + length all) (record { place = refl; list = refl }) in
+        let a = answered_becomes e x.0 x.1 small b.sound ready refl z (sets h.listing h.written all) (h.written + length all) (record { place = refl; list = refl }) in
         let only : all ≡ line = ap (λ (t : Bool). cond t (trace_line (h.run.entries + 1) s.memory e x.0.reply) [] ++ line) b.listed in
-        let w : h.run.written + length all ≡ (commanded e s).written = ap (λ (t : Progress). t.written) a.same in
+        let w : h.written + length all ≡ (commanded e s).written = ap (λ (t : Progress). t.written) a.same in
         omega (arith, w, ap length only, did.line below)
 
   pub room_left : (single e s).stop ≡ 0 → (single e s).written + 31 ≤ length h.listing
@@ -151,15 +146,6 @@ module _ {h : RunState} (b : Between h) (e : Entry) (small : Small e) where
       let k = ap (λ (t : Progress). t.stop) r.1 in
       let w = within r.0 (sym k ∙ g) in
       omega (arith, w, r.0, ap (λ (t : Progress). t.written) r.1)
-
--- a list of one entry, as the code keeps it
-pub only_entry : {h h' : RunState} {at : ℕ} (word : ℕ) (e : Entry) → Between h → entry_in word ≡ kept_entry e
-    → Carries 16 (entries_in (word ∷ [])) h h' at → Becomes 16 (carry e) h h'
-unfolding TR.carry_all
-only_entry {h} word e b w x = record {
-  same = x.becomes.same ∙ ap (λ (y : Entry). carry_all (y ∷ []) (progress 16 h)) w ∙ kept_run figure2 far_refused (e ∷ []) (progress 16 h) b.none;
-  kept = x.becomes.kept;
-}
 
 -- the entry of a record, by its order
 module _ (r : BoardRecord) (small : r.process ≤ largest) where

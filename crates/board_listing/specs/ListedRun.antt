@@ -7,11 +7,10 @@ use Rattle.llsc.specs.Refusals.{number_told}
 use Rattle.std.proofs.lemmas.List.Edits.{sets}
 use Rattle.boards.specs.Files.{BoardRecord}
 use Rattle.entry.specs.declared.state.Held.{Held}
-use Rattle.entry.specs.declared.state.Run.{Run}
-use Rattle.entry.specs.RunState.{RunState, progress, Sound}
+use Rattle.text_runs.specs.Carrying.{in_run}
+use Rattle.entry.specs.RunState.{RunState, state_with, progress, Sound}
 use Rattle.run.specs.Finished.{memory_of}
-use Rattle.entry.specs.RunState.{fresh_run}
-use Rattle.text_runs.specs.Runs.{last_of}
+use Rattle.text_runs.specs.Runs.{fresh_run, last_of}
 use Rattle.semantics.specs.TextRun.{Progress, Ended}
 use Rattle.model.specs.Machine.{Memory}
 use Rattle.model.specs.SetUp.{set_up}
@@ -22,8 +21,17 @@ use Rattle.board_listing.specs.BoardListing.{obey_all, run_listed, after_set_up}
 abbrev pub recounted : ℕ → Progress → Progress
 recounted k s = record { memory = s.memory; listing = s.listing; written = s.written; entries = k; stop = s.stop; traced = s.traced }
 
-abbrev pub with_entries : Run → ℕ → Run
-with_entries r k = record { held = r.held; written = r.written; entries = k; traced = r.traced }
+-- a run that has done none and written nothing
+abbrev pub fresh_state : Held → List ℕ → List ℕ → RunState
+fresh_state held ws list = state_with (fresh_run held false) 0 ws list 0
+
+-- a run that has stopped
+abbrev pub stopped_state : Stopped → List ℕ → List ℕ → RunState
+stopped_state s ws list = state_with (in_run s.held s.entries false) (number_told s.outcome) ws list s.written
+
+-- a state with another count of commands done
+abbrev pub counted_state : ℕ → RunState → RunState
+counted_state k h = state_with (in_run h.run.held k h.run.traced) h.stop h.words h.listing h.written
 
 -- where 744 bytes were left there are 31 behind an answer line; the longest last line has 19
 abbrev pub last_room : ℕ
@@ -35,43 +43,40 @@ pub record Between (h : RunState) : Type 0 where
   pub goes : h.stop ≡ 0
   pub none : h.run.entries ≡ 0
   pub listed : h.run.traced ≡ false
-  pub room : h.run.written + last_room ≤ length h.listing
+  pub room : h.written + last_room ≤ length h.listing
 
 -- records carried out, and room for the last line
 pub record Obeys (rs : List BoardRecord) (h h' : RunState) : Type 0 where
   pub same : progress 16 h' ≡ obey_all rs (progress 16 h)
   pub words : length h'.words ≡ length h.words
   pub listing : length h'.listing ≡ length h.listing
-  pub room : h'.run.written + last_room ≤ length h'.listing
+  pub room : h'.written + last_room ≤ length h'.listing
   pub stop : h'.stop ≤ 15
   pub few : h'.run.entries ≤ 9999999
 
 -- there is room for the last line
 pub record Closable (s : Stopped) (list : List ℕ) : Type 0 where
-  pub entries : s.run.entries ≤ 9999999
+  pub entries : s.entries ≤ 9999999
   pub stop : number_told s.outcome ≤ 99
-  pub room : s.run.written + last_room ≤ length list
-
-abbrev pub with_written : Run → ℕ → Run
-with_written r k = record { held = r.held; written = k; entries = r.entries; traced = r.traced }
+  pub room : s.written + last_room ≤ length list
 
 -- a run that is refused before its first command
 abbrev pub refused_with : Held → Refusal → Stopped
-refused_with held f = record { run = fresh_run held false; outcome = Err f }
+refused_with held f = record { held = held; entries = 0; written = 0; outcome = Err f }
 
 -- a run with its last line
 abbrev pub closed : Stopped → List ℕ → Stopped × List ℕ
 closed s list =
-    (record { run = with_written s.run (s.run.written + length (last_of s.run.entries s.outcome)); outcome = s.outcome }, sets list s.run.written (last_of s.run.entries s.outcome))
+    (record { held = s.held; entries = s.entries; written = s.written + length (last_of s.entries s.outcome); outcome = s.outcome }, sets list s.written (last_of s.entries s.outcome))
 
 -- what a closed run returns and leaves
 abbrev pub end_of : Stopped → List ℕ → List ℕ → Ended
 end_of s ws list =
-    record { number = number_told s.outcome; entries = s.run.entries; written = s.run.written; memory = memory_of s.run.held 16 ws; listing = list }
+    record { number = number_told s.outcome; entries = s.entries; written = s.written; memory = memory_of s.held 16 ws; listing = list }
 
 -- the file run after a set-up, and the whole from the set-up on
-pub record RunsFile (r : Run) (ws file list : List ℕ) (s : Stopped) (ws' list' : List ℕ) : Type 0 where
-  pub same : end_of s ws' list' ≡ run_listed (memory_of r.held 16 ws) file list
+pub record RunsFile (held : Held) (ws file list : List ℕ) (s : Stopped) (ws' list' : List ℕ) : Type 0 where
+  pub same : end_of s ws' list' ≡ run_listed (memory_of held 16 ws) file list
   pub words : length ws' ≡ length ws
 
 abbrev pub SetsUp : Memory → ℕ → ℕ → ℕ → List ℕ → List ℕ → Ended → Type 0

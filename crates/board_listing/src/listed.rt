@@ -3,18 +3,18 @@ ghost use Rattle.std.specs.Prelude.{◌≡◌, ◌≤◌, false, length, take};
 ghost use Rattle.llsc.specs.Refusals.{refusal_number};
 ghost use Rattle.model.specs.Records.{no_process};
 ghost use Rattle.lent.specs.Gathered.{gathered};
-ghost use Rattle.entry.specs.RunState.{state_of};
 ghost use Rattle.run.specs.Finished.{memory_of};
 ghost use Rattle.text_runs.specs.TextRun.{room_needed};
-ghost use Rattle.entry.specs.RunState.{fresh_run};
 ghost use Rattle.board_listing.specs.BoardListing.{board_listed};
-ghost use Rattle.board_listing.specs.ListedRun.{Between, closed, refused_with, end_of, RunsFile, SetsUp};
+ghost use Rattle.board_listing.specs.ListedRun.{fresh_state, Between, closed, refused_with, end_of, RunsFile, SetsUp};
 
 use crate::ending::Stopped;
 use crate::{ending, records};
 use board_rows::right_records;
-use entry::state::{Held, Run};
+use entry::state::Held;
+use llsc::counts::Processes;
 use llsc::refusals::Refusal;
+use rows::table::Lent;
 use run::set_up;
 use text_runs::{limits, lists};
 
@@ -25,7 +25,9 @@ fn refused(held: Held, cause: Refusal, list: &mut [u8]) -> Stopped
     ensures { (result, list.new) ≡ closed (refused_with held cause) list.old }
 {
     let stopped = Stopped {
-        run: Run::fresh(held, false),
+        held,
+        entries: 0,
+        written: 0,
         outcome: Err(cause),
     };
     ending::close(stopped, list)
@@ -33,16 +35,16 @@ fn refused(held: Held, cause: Refusal, list: &mut [u8]) -> Stopped
 
 // The file on a run that has done nothing: "25 and 26 also before a run".
 // Kept: file, words and list come from the caller one by one, and go on so to three crates.
-fn run_file(run: Run, file: &[u8], words: &mut [u64], list: &mut [u8]) -> Stopped
-    requires { (Between (state_of run 0 words.old list.old)) × (run ≡ fresh_run run.held false) × (room_needed false ≤ length list.old) }
-    ensures { RunsFile run words.old file.now list.old result words.new list.new }
+fn run_file(held: Held, file: &[u8], words: &mut [u64], list: &mut [u8]) -> Stopped
+    requires { (Between (fresh_state held words.old list.old)) × (room_needed false ≤ length list.old) }
+    ensures { RunsFile held words.old file.now list.old result words.new list.new }
 {
     match right_records(file) {
         Ok(records) => {
-            let done = records::obey_records(run, records, words, list);
+            let done = records::obey_records(held, records, words, list);
             ending::close(done, list)
         }
-        Err(cause) => refused(run.held, cause, list),
+        Err(cause) => refused(held, cause, list),
     }
 }
 
@@ -59,15 +61,21 @@ fn set_up_and_run(
     requires { (held.all ≡ gathered (take 16 held.all) no_process 16) × (room_needed false ≤ length list.old) }
     ensures { SetsUp (memory_of held 16 words.old) n w initial file.now list.old (end_of result words.new list.new) }
 {
-    if let Err(cause) = setup::set_up_refusal(n, w, 16, words.len(), w) {
+    let lent = Lent {
+        n,
+        w,
+        records: 16,
+        words: words.len(),
+    };
+    if let Err(cause) = setup::set_up_refusal(lent, w) {
         return refused(held, cause, list);
     }
     let value = lists::repeated(initial as u64);
     setup::words_at_set_up(words, n, w, &value[..w]);
-    let bench = setup::bench_at_set_up(held.bench, n, w);
-    let all = set_up::records_at_set_up(held.all, n);
-    let run = Run::fresh(Held { bench, all }, false);
-    run_file(run, file, words, list)
+    let count = Processes { n };
+    let bench = setup::bench_at_set_up(held.bench, count, w);
+    let all = set_up::records_at_set_up(held.all, count);
+    run_file(Held { bench, all }, file, words, list)
 }
 
 // The run as `board_listed` says, over the bench record, sixteen process records and the words that it is given: why
@@ -88,7 +96,9 @@ pub fn run_listed(
 {
     if list.len() < limits::LISTING_ROOM {
         return Stopped {
-            run: Run::fresh(held, false),
+            held,
+            entries: 0,
+            written: 0,
             outcome: Err(Refusal::NoRoom),
         };
     }

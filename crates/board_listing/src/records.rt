@@ -1,35 +1,38 @@
 // The records of a file, one command after the other, up to the first refusal.
-ghost use Rattle.llsc.specs.Refusals.{number_told};
-ghost use Rattle.boards.specs.Places.{read};
-ghost use Rattle.entry.specs.RunState.{state_of};
 ghost use Rattle.std.specs.Prelude.{◌≤◌, length};
-ghost use Rattle.board_listing.specs.ListedRun.{Between, Obeys};
+ghost use Rattle.boards.specs.Places.{read};
+ghost use Rattle.board_listing.specs.ListedRun.{fresh_state, stopped_state, Between, Obeys};
 
 use crate::commands;
 use crate::ending::Stopped;
 use boards::records::Record;
-use entry::state::Run;
+use carrying::LentHeld;
+use entry::state::Held;
+use listing::Writer;
+use text_runs::entry_loop::Carrier;
 
-// Each record is the only entry of a run that has done none; the commands done are counted here.
-pub fn obey_records(run: Run, records: &[Record], words: &mut [u64], list: &mut [u8]) -> Stopped
-    requires { (Between (state_of run 0 words.old list.old)) × (length records.now ≤ 9999999) }
-    ensures { Obeys (read records.now) (state_of run 0 words.old list.old)
-        (state_of result.run (number_told result.outcome) words.new list.new) }
+// Each record is an entry of a run that has done none; the commands done are counted here.
+pub fn obey_records(held: Held, records: &[Record], words: &mut [u64], list: &mut [u8]) -> Stopped
+    requires { (Between (fresh_state held words.old list.old)) × (length records.now ≤ 9999999) }
+    ensures { Obeys (read records.now) (fresh_state held words.old list.old) (stopped_state result words.new list.new) }
 {
-    let mut state = run;
+    let mut lent = LentHeld { held, len: 16 };
+    let mut to = Writer { list, written: 0 };
     for (done, bytes) in records.iter().enumerate() {
         let e = commands::entry_of(bytes);
-        let next = commands::obey(state, e, words, list);
-        if let Err(cause) = next.outcome {
+        if let Err(cause) = lent.turn(false, 0, e, words, &mut to) {
             return Stopped {
-                run: commands::with_entries(next.run, done),
+                held: lent.held,
+                entries: done,
+                written: to.written,
                 outcome: Err(cause),
             };
         }
-        state = commands::with_entries(next.run, 0);
     }
     Stopped {
-        run: commands::with_entries(state, records.len()),
+        held: lent.held,
+        entries: records.len(),
+        written: to.written,
         outcome: Ok(()),
     }
 }

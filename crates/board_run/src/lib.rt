@@ -25,7 +25,8 @@ pub fn run_file(
         (station_memory station.old processes.old words.old) }
 {
     let out = running::run_by_value(gather(*station, processes), file, words);
-    *station = out.station;
-    lent::store_back(processes, &out.all, station::empty_process(), out.stored());
+    if let Some(left) = out.left {
+        left.store(station, processes);
+    }
     out.ran
 }

@@ -83,9 +83,9 @@ module _ (rs : List (List ℕ)) (table : List Bool) (i : ℕ) where
   unfolding marks
   mark_next h e = rw (e, drop-cons rs i [] h, add-one i) refl
 
-  pub all_marked : length rs ≤ i → {t : List Bool} → t ≡ marks (read (drop i rs)) table → table ≡ t
+  pub all_marked : length rs ≤ i → marks (read (drop i rs)) table ≡ table
   unfolding marks
-  all_marked h e = sym (e ∙ rw (drop_all i rs h) refl)
+  all_marked h = rw (drop_all i rs h) refl
 
 pub in_marks : (xs : List BoardRecord) {t : List Bool} → t ≡ marks xs (replicate 256 false)
     → (p q : ℕ) → p ≡ q → p < 256 → get_or t p false ≡ some (λ x. eqb x.process q) xs

@@ -13,11 +13,8 @@ use Rattle.laws.proofs.AndLaws.{left, right}
 use Rattle.laws.proofs.AllLaws.{or_none}
 use Rattle.llsc.specs.Refusals.{refusal_number}
 use Rattle.llsc.specs.declared.refusals.Refusal.{Refusal}
-use Rattle.llsc.specs.declared.refusals.Refusal.TheVariants.{NOutOfRange, WOutOfRange, TooLittleLent, NoSuchProcess, StartAtBusy, StepAtIdle}
-use Rattle.llsc.specs.declared.refusals.Refusal.TheVariants.{NeverLinked, ValueNotWWords, NumberOutOfRange, TextBroken, TooDeep, TooMuch}
-use Rattle.llsc.specs.declared.refusals.Refusal.TheVariants.{NoRoom, NoSuchSuccess, TooManyCalls, AnswerNotAfterStart, NoListing, SeasonFull}
-use Rattle.llsc.specs.declared.refusals.Refusal.TheVariants.{TooManyTurns, NoSuchNumber, NotASchedule, ROutOfRange, NoSuchRecord, BadTrailer}
-use Rattle.llsc.specs.declared.refusals.Refusal.TheVariants.{BadRecord, ProcessInBoth, TooLittleRoom}
+use Rattle.llsc.specs.declared.refusals.Refusal.TheVariants.{BadTrailer}
+use Rattle.llsc.proofs.RefusalNumbers.{number_some}
 use Rattle.std.specs.Borrow.{Bor}
 use Rattle.std.specs.Prelude.{Option, Some, None, Result, Ok, Err, MatchOption, ok_or}
 use Rattle.std.specs.List.{ends_with}
@@ -35,6 +32,7 @@ use Rattle.boards.specs.declared.merging.Left.{Left}
 use Rattle.boards.specs.declared.Merged.{Merged}
 use Rattle.boards.proofs.FrontLaws.{four_drop, read_chunks, good_chunks, so_many, chunks_taken}
 use Rattle.boards.proofs.LoopLaws.{length_read}
+use Rattle.std.proofs.lemmas.Result.{err_from_is_err_and}
 
 -- what a good trailer says
 pub record Trailed (bs : List ℕ) : Type 0 where
@@ -238,42 +236,12 @@ passed a b room e =
     truths true true false true z = absurd (omega arith)
     truths true true false false z = (refl, (refl, (refl, refl)))
 
--- no refusal has the number 0
-pub positive : (r : Refusal) → refusal_number r ≡ 0 → ⊥
-positive NOutOfRange e = omega arith
-positive WOutOfRange e = omega arith
-positive TooLittleLent e = omega arith
-positive NoSuchProcess e = omega arith
-positive StartAtBusy e = omega arith
-positive StepAtIdle e = omega arith
-positive NeverLinked e = omega arith
-positive ValueNotWWords e = omega arith
-positive NumberOutOfRange e = omega arith
-positive TextBroken e = omega arith
-positive TooDeep e = omega arith
-positive TooMuch e = omega arith
-positive NoRoom e = omega arith
-positive NoSuchSuccess e = omega arith
-positive TooManyCalls e = omega arith
-positive AnswerNotAfterStart e = omega arith
-positive NoListing e = omega arith
-positive SeasonFull e = omega arith
-positive TooManyTurns e = omega arith
-positive NoSuchNumber e = omega arith
-positive NotASchedule e = omega arith
-positive ROutOfRange e = omega arith
-positive NoSuchRecord e = omega arith
-positive BadTrailer e = omega arith
-positive BadRecord e = omega arith
-positive ProcessInBoth e = omega arith
-positive TooLittleRoom e = omega arith
-
 -- the entry: refused, or not
 module _ (a b out : List ℕ) where
   pub merge_refused : (r : Refusal) → RefusedWith a b (length out) r → (record { number = refusal_number r; written = 0 }, out) ≡ merge_files a b out
   unfolding merge_files
   merge_refused r e =
-      ap (λ (t : Bool). chosen t) (sym (ne_eqb (refusal_number r) 0 (positive r))) ∙ ap (λ (k : ℕ). merged k (merged_file a b) out) (sym e)
+      ap (λ (t : Bool). chosen t) (sym (ne_eqb (refusal_number r) 0 (number_some r))) ∙ ap (λ (k : ℕ). merged k (merged_file a b) out) (sym e)
     where
       chosen : Bool → Merged × List ℕ
       chosen t = cond t (record { number = 0; written = length (merged_file a b) }, sets out 0 (merged_file a b)) (record { number = refusal_number r; written = 0 }, out)
@@ -307,3 +275,9 @@ module _ (a b out : List ℕ) where
         ap (λ (x : ℕ × List ℕ). (record { number = 0; written = x.0 }, x.1)) e
         ∙ ap₂ (λ xs ys. (record { number = 0; written = length (encode (merge xs ys)) }, sets out 0 (encode (merge xs ys)))) (reads ra) (reads rb)
         ∙ ap (λ (x : ℕ). merged x (merged_file a b) out) (sym h.number)
+
+-- what `records_of` rests on
+pub ruleset records_laws = (too_short, too_long, not_marked, ends_elsewhere, is_good, cut_there, offset_is, count_is)
+
+-- what `records_of_both` rests on
+pub ruleset both_laws = (err_from_is_err_and, no_records, its_records, few, first_trailer, second_trailer)

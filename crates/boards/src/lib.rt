@@ -39,6 +39,7 @@ impl From<Result<usize, Refusal>> for Merged {
 // Two files into one: the bytes written. At a refusal the output stays as it was; else the bytes after those written do.
 // Ruled out: the second file first at equal ticks, 27 before 26, a falling tick, a record left out at the end of a
 // file, free bytes in the result.
+#[tactic(auto, using(std::proofs::lemmas::Result::err_from_is_err_and, crate::proofs::RefusalLaws::merge_refused))]
 pub fn merge(first: &[u8], second: &[u8], out: &mut [u8]) -> Result<usize, Refusal>
     ensures { (told result, out.new) ≡ merge_files first.now second.now out.old }
 {

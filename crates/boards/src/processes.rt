@@ -6,6 +6,7 @@ ghost use Rattle.boards.specs.Places.{read, marks};
 use crate::records::{Record, process};
 
 // The processes of these records, marked.
+#[tactic(auto, using(crate::proofs::ProcessLaws::mark_next, crate::proofs::ProcessLaws::all_marked))]
 fn marked(records: &[Record]) -> [bool; 256]
     ensures { result ≡ marks (read records.now) (replicate 256 false) }
 {

@@ -36,12 +36,14 @@ pub fn value(bytes: &Record) -> u32
     two_numbers(bytes).1
 }
 
+// Kept: the byte as the file has it, and any will do; it need not be a process of a bench.
 pub fn process(bytes: &Record) -> u8
     ensures { result ≡ (record_of bytes.now).process }
 {
     bytes[8]
 }
 
+// Kept: the byte as the file has it; row 26 looks at it, and no number over 3 is an order.
 pub fn order(bytes: &Record) -> u8
     ensures { result ≡ (record_of bytes.now).order }
 {
@@ -60,6 +62,7 @@ fn is_good(bytes: &Record) -> bool
 }
 
 // What row 26 asks of a file: good records, whose ticks never fall.
+// Kept: two passes of the library's; one that held each record's tick for the next would be a loop by hand.
 pub fn good_records(records: &[Record]) -> bool
     ensures { result ≡ (all_good records.now && rising 0 (read records.now)) }
 {

@@ -20,6 +20,7 @@ fn too_large(count: usize, room: usize) -> bool
 }
 
 // The records of two files that may be merged; refused for the first cause that holds.
+#[tactic(auto, using(crate::proofs::RefusalLaws::both_laws))]
 pub(crate) fn records_of_both<'a>(
     first: &'a [u8],
     second: &'a [u8],

@@ -11,6 +11,7 @@ pub const LARGEST: usize = 16777216;
 pub const TRAILER_SIZE: usize = 12;
 
 // The records of a file, as its trailer says; none where row 25 refuses it.
+#[tactic(auto, using(crate::proofs::RefusalLaws::records_laws))]
 pub fn records_of(file: &[u8]) -> Option<&[Record]>
     ensures { MatchOption result (good_trailer file.now ≡ false) (λ records. RecordsOf file.now records.now) }
 {

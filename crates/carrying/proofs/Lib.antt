@@ -1,2 +1,1 @@
-pub mod CarryingLaws
-pub mod LoopLaws
+pub mod TurnLaws

@@ -24,3 +24,5 @@ lost_on None b c xs ys h h' = tt
 lost_on (Some u) None c xs ys h h' = elim h [ ]
 lost_on (Some u) (Some v) None xs ys h h' = elim h' [ ]
 lost_on (Some u) (Some v) (Some w) xs ys h h' = h ∙ ap (λ l. xs ++ l) h' ∙ sym (append_assoc xs ys w)
+
+pub ruleset reading = (within, front, lost_on)

@@ -25,6 +25,7 @@ pub fn large_buffer() -> [u8; 65536]
 }
 
 // Reads until the room is full, the input ends or a read fails, and answers how many bytes it put at the room's start.
+#[tactic(auto, using(crate::proofs::Reading::reading))]
 pub fn read_full<R: Read>(from: &mut R, room: &mut [u8]) -> usize
     ensures in_bounds { IsPrefixLen result room.new }
     ensures bytes { Consumes (R.remaining from.old) (R.remaining from.new) (take result room.new) }
@@ -40,6 +41,7 @@ pub fn read_full<R: Read>(from: &mut R, room: &mut [u8]) -> usize
 }
 
 // A number in decimal, with no line feed.
+#[tactic(auto, using(crate::proofs::Shown::shown))]
 pub fn print_decimal<W: Write>(to: &mut W, n: u64) -> io::Result<()>
     ensures { OnOk result (Appends (W.contents to.old) (W.contents to.new) (decimal n)) }
 {

@@ -35,10 +35,9 @@ use Rattle.notation.specs.declared.Entry.{Entry}
 use Rattle.notation.specs.declared.Entry.TheVariants.{StartLl, StartVl, StartSc, Step, Finish}
 use Rattle.listing.specs.declared.Writer.{Writer}
 use Rattle.listing.proofs.WritingLaws.{wrote, same}
-use Rattle.entry.specs.declared.turn.Turn.{Turn}
 use Rattle.text_runs.specs.TextRun.{most_entries, room_needed, process_of, order_of, value_of}
 use Rattle.semantics.specs.TextRun.{trace_line, single}
-use Rattle.entry.specs.RunState.{RunState, state_of, progress, Sound, Ready as Going, Becomes, Small, answer_line}
+use Rattle.entry.specs.RunState.{RunState, state_of, state_with, progress, Sound, Ready as Going, Becomes, Small, answer_line}
 use Rattle.entry.specs.Turned.{refusal_of, place_of, turned, turn_lines, Turnable, Turns}
 use Rattle.entry.proofs.ObeyLaws.{order_obeyed, plain_none}
 use Rattle.entry.proofs.OrderLaws.{in_order, enough, most_processes}
@@ -77,7 +76,7 @@ module _ {len : ℕ} {h : RunState} (e : Entry) (small : Small e) (s : Sound len
   q = record_at list (record { 0 = p })
 
   abbrev room : ℕ
-  room = length h.listing - h.run.written
+  room = length h.listing - h.written
 
   abbrev number : ℕ
   number = decision_number b list len p o (length v) (length h.words)
@@ -101,7 +100,7 @@ module _ {len : ℕ} {h : RunState} (e : Entry) (small : Small e) (s : Sound len
   refusal needed = refusal_of o h.run.entries room needed b.n p seen
 
   abbrev stopped_by : ℕ → RunState
-  stopped_by k = state_of h.run k h.words h.listing
+  stopped_by k = state_with h.run k h.words h.listing h.written
 
   module _ {needed : ℕ} (en : needed ≡ room_needed h.run.traced) where
     -- refused: 12, 14, or a row
@@ -186,7 +185,7 @@ module _ {len : ℕ} {h : RunState} (e : Entry) (small : Small e) (s : Sound len
             (shown_same s z e moved.reply entry_ready.lent.process (h.run.entries + 1) ei ej et h.run.traced)
 
         -- to is where its lines go, behind what is written of the listing
-        module _ {to : Writer} (el : to.list.now ≡ h.listing) (ew : to.written ≡ h.run.written) where
+        module _ {to : Writer} (el : to.list.now ≡ h.listing) (ew : to.written ≡ h.written) where
           pub entry_turnable : Turnable h.run.traced (h.run.entries + 1) e b.n b.w t q h.words to
           entry_turnable =
               let fits = lines_fit e (obeyed_outcome moved p) out.1 small s going decides unrefused in
@@ -197,14 +196,13 @@ module _ {len : ℕ} {h : RunState} (e : Entry) (small : Small e) (s : Sound len
               }
 
           -- one entry more
-          module _ {r : Turn} {ws : List ℕ} {to' : Writer} (turn : Turns h.run.traced (h.run.entries + 1) e b.n b.w t q h.words to r ws to') where
+          module _ {r : Stepped} {ws : List ℕ} {to' : Writer} (turn : Turns h.run.traced (h.run.entries + 1) e b.n b.w t q h.words to r ws to') where
             abbrev after : RunState
             after = state_of (record {
               held = record { bench = put_taken b i j r.taken; all = set list p r.process };
-              written = to'.written;
               entries = h.run.entries + 1;
               traced = h.run.traced;
-            }) 0 ws to'.list.now
+            }) 0 ws to'
 
             pub entry_made : Becomes len (single e) h after
             entry_made =

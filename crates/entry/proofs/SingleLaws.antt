@@ -21,7 +21,7 @@ use Rattle.semantics.specs.Reached.{Reached}
 use Rattle.text_runs.specs.TextRun.{most_entries, room_needed, process_of, order_of, value_of}
 use Rattle.text_runs.specs.TextRun as TR
 use Rattle.semantics.specs.TextRun.{Progress, line_of, trace_line, lines_of, counted, replied, commanded, single}
-use Rattle.entry.specs.RunState.{RunState, state_of, progress, Sound, Ready, Kept, Becomes, Small, answer_line}
+use Rattle.entry.specs.RunState.{RunState, state_with, progress, Sound, Ready, Kept, Becomes, Small, answer_line}
 use Rattle.entry.proofs.WordLaws.{Below, Every, every_replicate, every_none}
 use Rattle.entry.proofs.FilledLaws.{filled_set}
 use Rattle.semantics.proofs.ReachedLaws.{reached_command}
@@ -44,7 +44,7 @@ line_same m p (ScAnswered t k) = refl
 line_same m p (VlAnswered t k) = refl
 
 -- a run that stops stays sound
-pub stops : {len : ℕ} {h : RunState} (k : ℕ) → (k ≡ 0 → ⊥) → k ≤ 15 → Sound len h → Kept len h (state_of h.run k h.words h.listing)
+pub stops : {len : ℕ} {h : RunState} (k : ℕ) → (k ≡ 0 → ⊥) → k ≤ 15 → Sound len h → Kept len h (state_with h.run k h.words h.listing h.written)
 stops k n l s = record {
   sound = record { few = s.few; filled = s.filled; entries = s.entries; stop = l; room = s.room; going = λ z. absurd (n z) };
   words = refl;
@@ -70,7 +70,7 @@ module _ {len : ℕ} {h : RunState} (e : Entry) (out : Outcome) (ws : List ℕ) 
   stored = ap (stored_back (take len h.run.held.all)) d ∙ decided_command h.run.held.bench h.run.held.all len (process_of e) (order_of e) v h.words s.few s.filled
 
   -- refused: the run stops, and nothing changes
-  pub refused_becomes : (number_of out.reply ≡ 0 → ⊥) → Becomes len (commanded e) h (state_of h.run (number_of out.reply) ws h.listing)
+  pub refused_becomes : (number_of out.reply ≡ 0 → ⊥) → Becomes len (commanded e) h (state_with h.run (number_of out.reply) ws h.listing h.written)
   refused_becomes n =
       let u = unchanged h.run.held.bench h.run.held.all len (process_of e) (order_of e) v h.words s.filled.sixteen cases n in
       rw u.words (record {
@@ -95,22 +95,21 @@ module _ {len : ℕ} {h : RunState} (e : Entry) (out : Outcome) (ws : List ℕ) 
     abbrev line : List ℕ
     line = answer_line out.bench.n out.bench.w ws (process_of e) out.reply
 
-    pub lines_fit : h.run.written + length (shown ++ line) ≤ length h.listing
+    pub lines_fit : h.written + length (shown ++ line) ≤ length h.listing
     lines_fit = let x = did in omega (arith, x.line below, shown_small, length-append shown line, r.room)
 
     pub words_lent : length ws ≡ length h.words
     words_lent = did.words
 
     -- obeyed: one entry more, with its lines
-    module _ (list : List ℕ) (next : ℕ) (w : Wrote h.listing h.run.written (shown ++ line) list next) where
+    module _ (list : List ℕ) (next : ℕ) (w : Wrote h.listing h.written (shown ++ line) list next) where
       abbrev after : RunState
       after =
-          state_of (record {
+          state_with (record {
             held = record { bench = out.bench; all = set h.run.held.all out.at out.process };
-            written = next;
             entries = h.run.entries + 1;
             traced = h.run.traced;
-          }) 0 ws list
+          }) 0 ws list next
 
       lent_place : out.at < len
       lent_place = let x = did in omega (arith, x.place, x.process, x.records)
@@ -153,24 +152,24 @@ module _ {len : ℕ} {h : RunState} (e : Entry) (out : Outcome) (ws : List ℕ) 
 
 -- "before each entry 12, then 14"
 module _ {len : ℕ} {h : RunState} (e : Entry) (s : Sound len h) where
-  pub single_12 : h.stop ≡ 0 → most_entries ≤ h.run.entries → Becomes len (single e) h (state_of h.run 12 h.words h.listing)
+  pub single_12 : h.stop ≡ 0 → most_entries ≤ h.run.entries → Becomes len (single e) h (state_with h.run 12 h.words h.listing h.written)
   unfolding TR.single
   single_12 z m = record { same = simp (eq-eqb h.stop 0 z, le-leb most_entries h.run.entries m); kept = stops 12 (λ y. omega arith) (omega arith) s }
 
   module _ (z : h.stop ≡ 0) (m : h.run.entries < most_entries) where
-    pub single_14 : length h.listing - h.run.written < room_needed h.run.traced → Becomes len (single e) h (state_of h.run 14 h.words h.listing)
+    pub single_14 : length h.listing - h.written < room_needed h.run.traced → Becomes len (single e) h (state_with h.run 14 h.words h.listing h.written)
     unfolding TR.single
     single_14 l = record {
-      same = simp (eq-eqb h.stop 0 z, lt-leb most_entries h.run.entries m, lt-ltb (length h.listing - h.run.written) (room_needed h.run.traced) l);
+      same = simp (eq-eqb h.stop 0 z, lt-leb most_entries h.run.entries m, lt-ltb (length h.listing - h.written) (room_needed h.run.traced) l);
       kept = stops 14 (λ y. omega arith) (omega arith) s;
     }
 
-    pub single_ready : room_needed h.run.traced ≤ length h.listing - h.run.written → Ready h
+    pub single_ready : room_needed h.run.traced ≤ length h.listing - h.written → Ready h
     single_ready l = record { goes = z; entries = m; room = omega (arith, s.room) }
 
-    pub single_commanded : {h' : RunState} → room_needed h.run.traced ≤ length h.listing - h.run.written → Becomes len (commanded e) h h' → Becomes len (single e) h h'
+    pub single_commanded : {h' : RunState} → room_needed h.run.traced ≤ length h.listing - h.written → Becomes len (commanded e) h h' → Becomes len (single e) h h'
     unfolding TR.single
     single_commanded l b = record {
-      same = b.same ∙ simp (eq-eqb h.stop 0 z, lt-leb most_entries h.run.entries m, le-ltb (length h.listing - h.run.written) (room_needed h.run.traced) l);
+      same = b.same ∙ simp (eq-eqb h.stop 0 z, lt-leb most_entries h.run.entries m, le-ltb (length h.listing - h.written) (room_needed h.run.traced) l);
       kept = b.kept;
     }

@@ -26,28 +26,19 @@ use Rattle.rows.specs.CommandRows.{late_number}
 use Rattle.rows.proofs.RowLaws.{late_decides}
 use Rattle.machine.proofs.ObeyLaws.{obeyable}
 use Rattle.notation.specs.declared.Entry.{Entry}
-use Rattle.notation.specs.declared.Entry.TheVariants.{StartLl, StartVl, StartSc, Step, Finish}
-use Rattle.listing.specs.Lines.{letter_l, letter_s, letter_v}
 use Rattle.access.specs.declared.Access.{Access}
 use Rattle.access.specs.Accesses.{access_of}
 use Rattle.access.proofs.AccessLaws.{access_seen_is}
-use Rattle.trace_parts.proofs.Lengths.{start_length}
-use Rattle.access.proofs.Lengths.{SmallAccess, step_length}
+use Rattle.access.specs.TraceLines.{access_text}
+use Rattle.access.proofs.Lengths.{SmallAccess, access_length}
 use Rattle.access.proofs.SmallLaws.{row_9_parts, access_small}
 use Rattle.text_runs.specs.TextRun.{most_entries, process_of}
+use Rattle.text_runs.proofs.TraceLengths.{line_length}
 use Rattle.semantics.specs.TextRun.{answers, access_now, entry_line, trace_line}
 use Rattle.entry.specs.RunState.{RunState, progress, Sound, Small, shown_line}
 use Rattle.entry.specs.Turned.{number_of, access_seen}
 use Rattle.semantics.proofs.ReachedLaws.{unhindered}
 use Rattle.entry.proofs.OrderLaws.{in_order, enough, lent}
-
--- a line with a small access
-entry_fits : (k : ℕ) (a : Access) (e : Entry) (r : Reply) → k ≤ most_entries → Small e → SmallAccess a → length (entry_line k a e r) ≤ 128
-entry_fits k a (StartLl p) r h s x = start_length k p letter_l 0 h s (omega arith)
-entry_fits k a (StartVl p) r h s x = start_length k p letter_v 0 h s (omega arith)
-entry_fits k a (StartSc p v) r h s x = start_length k p letter_s v h s.0 s.1
-entry_fits k a (Step p) r h s x = step_length k p a (answers r) h s x
-entry_fits k a (Finish p) r h s x = step_length k p a (answers r) h s x
 
 -- all sixteen records that a run holds
 abbrev pub state_memory : RunState → Memory
@@ -105,5 +96,6 @@ module _ {len : ℕ} {h : RunState} (s : Sound len h) (z : h.stop ≡ 0) where
     shown_same k ei ej et false = refl
 
     pub shown_fits : (t : Bool) (k : ℕ) → k ≤ most_entries → Small e → length (cond t (trace_line k m e r) []) ≤ cond t 128 0
-    shown_fits true k l x = entry_fits k (access_now m (process_of e)) e r l x (small_access n)
+    shown_fits true k l x =
+        let a = access_now m (process_of e) in line_length access_text k a e (answers r) l x (omega (arith, access_length a (small_access n)))
     shown_fits false k l x = omega arith

@@ -16,7 +16,10 @@ use Rattle.listing.specs.declared.Writer.{Writer}
 use Rattle.listing.specs.Writing.{Fits, Writes}
 use Rattle.listing.proofs.WritingLaws.{writes_then, writes_same, fits_same, fits_first, fits_then}
 use Rattle.access.specs.declared.Access.{Access}
+use Rattle.access.specs.TraceLines.{access_text}
+use Rattle.text_runs.specs.Parts as P
 use Rattle.text_runs.specs.TextRun.{process_of, order_of, value_of}
+use Rattle.semantics.specs.TextRun.{answers}
 use Rattle.entry.specs.RunState.{answer_line, Listable, shown_line}
 use Rattle.entry.specs.Turned.{number_of, turned, access_seen, Turnable, Turns}
 
@@ -54,29 +57,33 @@ module _ {traced : Bool} {k n w : ℕ} {e : Entry} {t : Taken} {q : Process} {ws
     same_answer : answer_line n w ws₂ p st.reply ≡ answer
     same_answer = rw (same_words_lem, same_stepped, ep)
 
-    pub shown_room : Fits to (shown_line k a e st.reply)
-    shown_room = fits_same (sym same_shown) (fits_first shown answer f.fits)
+    module _ {answered : Bool} (et : answered ≡ answers st.reply) where
+      is_shown : P.shown_line access_text k a e answered ≡ shown
+      is_shown = ap (P.shown_line access_text k a e) et ∙ same_shown
 
-    module _ {to₁ : Writer} (w₁ : Writes to (shown_line k a e st.reply) to₁) where
-      wrote_shown : Writes to shown to₁
-      wrote_shown = writes_same (sym same_shown) w₁
+      pub shown_room : Fits to (P.shown_line access_text k a e answered)
+      shown_room = fits_same (sym is_shown) (fits_first shown answer f.fits)
 
-      pub answer_listable : Listable st.reply p n w ws₂ to₁
-      answer_listable =
-          let l = f.ready.lent in
-          record {
-            process = omega (arith, ep, l.process);
-            n_most = l.n_most;
-            w_most = l.w_most;
-            lent = omega (arith, l.words, ap length same_words_lem, f.lent);
-            room = fits_same (sym same_answer) (fits_then answer f.fits wrote_shown);
-          }
+      module _ {to₁ : Writer} (w₁ : Writes to (P.shown_line access_text k a e answered) to₁) where
+        wrote_shown : Writes to shown to₁
+        wrote_shown = writes_same (sym is_shown) w₁
 
-      pub turn_made : {to₂ : Writer} → Writes to₁ (answer_line n w ws₂ p st.reply) to₂
-          → Turns traced k e n w t q ws to (record { taken = st.taken; process = st.process }) ws₂ to₂
-      turn_made w₂ = record {
-        taken = ap (λ (x : Stepped). x.taken) same_stepped;
-        process = ap (λ (x : Stepped). x.process) same_stepped;
-        words = same_words_lem;
-        wrote = writes_then wrote_shown (writes_same (sym same_answer) w₂);
-      }
+        pub answer_listable : Listable st.reply p n w ws₂ to₁
+        answer_listable =
+            let l = f.ready.lent in
+            record {
+              process = omega (arith, ep, l.process);
+              n_most = l.n_most;
+              w_most = l.w_most;
+              lent = omega (arith, l.words, ap length same_words_lem, f.lent);
+              room = fits_same (sym same_answer) (fits_then answer f.fits wrote_shown);
+            }
+
+        pub turn_made : {to₂ : Writer} → Writes to₁ (answer_line n w ws₂ p st.reply) to₂
+            → Turns traced k e n w t q ws to st ws₂ to₂
+        turn_made w₂ = record {
+          taken = ap (λ (x : Stepped). x.taken) same_stepped;
+          process = ap (λ (x : Stepped). x.process) same_stepped;
+          words = same_words_lem;
+          wrote = writes_then wrote_shown (writes_same (sym same_answer) w₂);
+        }

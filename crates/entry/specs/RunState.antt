@@ -1,6 +1,6 @@
 -- The run as the code holds it, what holds of it at every moment, and what its inner functions promise of it.
 -- Inner: `progress` gives `TextRun`'s run of it, and `RunLaws` (crate `run`) puts the promises together to that run.
-use Rattle.std.specs.Prelude.{◌≡◌, ℕ, ◌+◌, ◌≤◌, ◌<◌, List, [], Bool, Option, Some, None, length, get_or, take, replicate}
+use Rattle.std.specs.Prelude.{◌≡◌, ℕ, ◌+◌, ◌≤◌, ◌<◌, List, [], Bool, Option, length, get_or, take, replicate}
 use Rattle.model.specs.declared.Process.{Process}
 use Rattle.model.specs.declared.Reply.{Reply}
 use Rattle.model.specs.declared.Reply.TheVariants.{Refused, Accepted, LlAnswered, ScAnswered, VlAnswered}
@@ -16,37 +16,41 @@ use Rattle.listing.specs.Lines.{letter_s, letter_v, ll_line, truth_line}
 use Rattle.listing.specs.declared.Writer.{Writer}
 use Rattle.listing.specs.Writing.{Fits}
 use Rattle.access.specs.declared.Access.{Access}
+use Rattle.access.specs.TraceLines.{access_text}
 use Rattle.entry.specs.declared.state.Held.{Held}
-use Rattle.entry.specs.declared.state.Run.{Run}
+use Rattle.text_runs.specs.declared.runs.Run.{Run}
 use Rattle.text_runs.specs.TextRun.{most_entries, room_needed}
 use Rattle.text_runs.specs.Runs.{last_room}
-use Rattle.semantics.specs.TextRun.{Progress, entry_line}
+use Rattle.text_runs.specs.Parts as Parts
+use Rattle.semantics.specs.TextRun.{Progress, answers}
 use Rattle.semantics.specs.Reached.{Reached}
 
 -- an empty bench, and sixteen records that stand for none
 abbrev pub empty_held : Held
 empty_held = record { bench = empty_bench; all = replicate 16 no_process }
 
--- before the first entry nothing is written and no entry done
-abbrev pub fresh_run : Held → Bool → Run
-fresh_run held t = record { held = held; written = 0; entries = 0; traced = t }
-
--- the run, the number of the refusal that stopped it, 0 while it goes on, the lent words and the listing
+-- the run, the number of the refusal that stopped it, 0 while it goes on, the lent words, the listing and how many of its
+-- bytes are written
 pub record RunState : Type 0 where
-  pub run : Run
+  pub run : Run Held
   pub stop : ℕ
   pub words : List ℕ
   pub listing : List ℕ
+  pub written : ℕ
 
-abbrev pub state_of : Run → ℕ → List ℕ → List ℕ → RunState
-state_of r k words listing = record { run = r; stop = k; words = words; listing = listing }
+abbrev pub state_with : Run Held → ℕ → List ℕ → List ℕ → ℕ → RunState
+state_with r k words listing written = record { run = r; stop = k; words = words; listing = listing; written = written }
+
+-- the same with the writer that its lines go to
+abbrev pub state_of : Run Held → ℕ → List ℕ → Writer → RunState
+state_of r k words to = state_with r k words to.list.now to.written
 
 -- what that is as a run in progress, where `len` records are lent
 abbrev pub progress : ℕ → RunState → Progress
 progress len h = record {
   memory = record { bench = h.run.held.bench; records = take len h.run.held.all; words = h.words };
   listing = h.listing;
-  written = h.run.written;
+  written = h.written;
   entries = h.run.entries;
   stop = h.stop;
   traced = h.run.traced;
@@ -69,14 +73,14 @@ pub record Sound (len : ℕ) (h : RunState) : Type 0 where
   pub filled : Filled len h.run.held.all
   pub entries : h.run.entries ≤ most_entries
   pub stop : h.stop ≤ 15
-  pub room : h.run.written + last_room ≤ length h.listing
+  pub room : h.written + last_room ≤ length h.listing
   pub going : h.stop ≡ 0 → Fit (progress len h).memory
 
 -- it goes on, and neither 12 nor 14 holds
 pub record Ready (h : RunState) : Type 0 where
   pub goes : h.stop ≡ 0
   pub entries : h.run.entries < most_entries
-  pub room : h.run.written + room_needed h.run.traced ≤ length h.listing
+  pub room : h.written + room_needed h.run.traced ≤ length h.listing
 
 -- the run stays sound, and as much is lent as before
 pub record Kept (len : ℕ) (h h' : RunState) : Type 0 where
@@ -111,5 +115,4 @@ pub record Listable (r : Reply) (p n w : ℕ) (ws : List ℕ) (to : Writer) : Ty
 
 -- the trace's line of an accepted entry, none where no access is shown
 abbrev pub shown_line : ℕ → Option Access → Entry → Reply → List ℕ
-shown_line k (Some a) e r = entry_line k a e r
-shown_line k None e r = []
+shown_line k a e r = Parts.shown_line access_text k a e (answers r)

@@ -17,7 +17,6 @@ use Rattle.listing.specs.declared.Writer.{Writer}
 use Rattle.listing.specs.Writing.{Fits, Writes}
 use Rattle.access.specs.declared.Access.{Access}
 use Rattle.access.specs.AccessOn.{access_on}
-use Rattle.entry.specs.declared.turn.Turn.{Turn}
 use Rattle.text_runs.specs.TextRun.{most_entries, process_of, order_of, value_of}
 use Rattle.entry.specs.RunState.{answer_line, shown_line}
 
@@ -54,7 +53,7 @@ pub record Turnable (traced : Bool) (k : ℕ) (e : Entry) (n w : ℕ) (t : Taken
   pub lent : length (turned e n w t q ws).1 ≡ length ws
   pub fits : Fits to (turn_lines traced k e n w t q ws)
 
-pub record Turns (traced : Bool) (k : ℕ) (e : Entry) (n w : ℕ) (t : Taken) (q : Process) (ws : List ℕ) (to : Writer) (r : Turn) (ws' : List ℕ) (to' : Writer) : Type 0 where
+pub record Turns (traced : Bool) (k : ℕ) (e : Entry) (n w : ℕ) (t : Taken) (q : Process) (ws : List ℕ) (to : Writer) (r : Stepped) (ws' : List ℕ) (to' : Writer) : Type 0 where
   pub taken : r.taken ≡ (turned e n w t q ws).0.taken
   pub process : r.process ≡ (turned e n w t q ws).0.process
   pub words : ws' ≡ (turned e n w t q ws).1

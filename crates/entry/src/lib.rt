@@ -7,5 +7,4 @@ pub mod answer_lines;
 pub mod entries;
 pub mod refusals;
 pub mod state;
-pub mod traces;
 pub mod turn;

@@ -1,21 +1,15 @@
 // One accepted entry, on the places taken out for it: its access, its order obeyed, its lines.
 ghost use Rattle.entry.specs.Turned.{Turnable, Turns};
 
-use crate::{answer_lines, entries, traces};
+use crate::{answer_lines, entries};
+use access::access_of;
 use listing::Writer;
 use llsc::ProcessNumber;
 use model::Process;
 use notation::Entry;
 use steps::orders;
-use taken::Taken;
-use text_runs::entries as text_entries;
-
-// The places and the process as the entry leaves them.
-#[derive(Clone, Copy)]
-pub struct Turn {
-    pub taken: Taken,
-    pub process: Process,
-}
+use taken::{Stepped, Taken};
+use text_runs::{entries as text_entries, traces};
 
 // The k-th entry of a run. What a trace shows is seen in the places before the step, and is the very step that is made.
 pub fn carry(
@@ -28,23 +22,17 @@ pub fn carry(
     process: Process,
     words: &mut [u64],
     to: &mut Writer<'_>,
-) -> Turn
+) -> Stepped
     requires { Turnable traced k e n w taken process words.old to.old }
     ensures { Turns traced k e n w taken process words.old to.old result words.new to.new }
 {
     let p = text_entries::process_of(e);
     let own = ProcessNumber(p as u8);
     let order = text_entries::order_of(e);
-    let access = traces::access_seen(traced, n, w, own, process, taken, words);
+    let access = traced.then(|| access_of::access_of(n, w, own, process, taken, words));
     entries::offer(e, n, w, own, words);
     let stepped = orders::obey_taken(order, n, w, own, process, taken, words);
-    let reply = stepped.reply;
-    traces::trace_line(access, k, e, reply, to);
-    answer_lines::answer_line(reply, p, n, w, words, to);
-    let left = stepped.taken;
-    let next = stepped.process;
-    Turn {
-        taken: left,
-        process: next,
-    }
+    traces::trace_line(access, k, e, answer_lines::answers(stepped.reply), to);
+    answer_lines::answer_line(stepped.reply, p, n, w, words, to);
+    stepped
 }

@@ -18,6 +18,8 @@ use Rattle.enumeration.specs.Replies.{row20, row21, row22, number_refusal, turns
 use Rattle.enumeration.specs.Replies.{kept, found_for, numbered_for, following_of, following_for}
 use Rattle.enumeration.specs.Turns.{placed}
 use Rattle.enumeration.proofs.Theorems.{number_of_schedule}
+use Rattle.std.proofs.lemmas.Result.{err_from_is_err_and}
+use Rattle.enumeration.proofs.LoopLaws.{ways_fit}
 
 -- the refusals are the rows' numbers, in their order
 pub found_refusal : (a b k : ℕ) → refusal_of (found_for a b k) ≡ number_refusal a b k
@@ -162,6 +164,9 @@ module _ (a b : ℕ) (ts : List ℕ) where
       go false true e = ap Err (sym (same_err e))
       go false false e = absurd (err_ok (sym e))
 
+  pub following_20 : (row20 a b).holds ≡ true → Err TooManyTurns ≡ following_for a b ts
+  following_20 e = following_refused TooManyTurns (sym (numbered_20 a b ts e))
+
   module _ (k : ℕ) (e : numbered_for a b ts ≡ Ok k) where
     pub taken : Taken a b ts
     taken = (numbered_is a b ts k e).0
@@ -214,3 +219,12 @@ following_is a b ts s e = go (row20 a b).holds (row22 a b ts).holds (ltb (k + 1)
     go false false false et e = absurd (none-some s (same_ok e))
     go false false true et e =
         record { number = k + 1; below = ltb-true (k + 1) (ways a b) et; is = same_Some _ _ (same_ok e) }
+
+-- what `schedule_for` rests on
+pub ruleset found_laws = (err_from_is_err_and, over, found_20, found_21, found_0)
+
+-- what `number_for` rests on
+pub ruleset numbered_laws = (err_from_is_err_and, over, numbered_20, numbered_placed)
+
+-- what `schedule_after` rests on
+pub ruleset following_laws = (err_from_is_err_and, over, following_20, following_refused, ways_fit, taken, below, following_last, following_next)

@@ -22,6 +22,7 @@ pub struct Schedule {
 }
 
 // The schedule for a number.
+#[tactic(auto, using(crate::proofs::ReplyLaws::found_laws))]
 pub fn schedule_for(a: usize, b: usize, number: u64) -> Result<Schedule, Refusal>
     ensures { result ≡ found_for a b number }
 {
@@ -33,6 +34,7 @@ pub fn schedule_for(a: usize, b: usize, number: u64) -> Result<Schedule, Refusal
 }
 
 // The number for a schedule.
+#[tactic(auto, using(crate::proofs::ReplyLaws::numbered_laws))]
 pub fn number_for(a: usize, b: usize, turns: &[u8]) -> Result<u64, Refusal>
     ensures { result ≡ numbered_for a b turns.now }
 {
@@ -41,6 +43,7 @@ pub fn number_for(a: usize, b: usize, turns: &[u8]) -> Result<u64, Refusal>
 }
 
 // The schedule after a given one; none where it was the last.
+#[tactic(auto, using(crate::proofs::ReplyLaws::following_laws))]
 pub fn schedule_after(a: usize, b: usize, turns: &[u8]) -> Result<Option<Schedule>, Refusal>
     ensures { result ≡ following_for a b turns.now }
 {

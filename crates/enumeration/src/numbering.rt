@@ -9,6 +9,7 @@ use crate::totals::Totals;
 use crate::{Schedule, turns};
 
 // The schedule with this number.
+#[tactic(auto, using(crate::proofs::LoopLaws::fill_begins, crate::proofs::LoopLaws::fill_ends))]
 pub fn schedule_at(totals: Totals, number: u64) -> Schedule
     requires { number < ways totals.a totals.b }
     ensures { result ≡ kept totals.a totals.b (schedule_for totals.a totals.b number) }
@@ -27,6 +28,7 @@ pub fn schedule_at(totals: Totals, number: u64) -> Schedule
 }
 
 // The number for the turns; none where they are no schedule.
+#[tactic(auto, using(crate::proofs::LoopLaws::count_begins, crate::proofs::LoopLaws::count_short))]
 pub fn number_of(totals: Totals, turns: &[u8]) -> Option<u64>
     ensures { result ≡ placed totals.a totals.b turns.now }
 {

@@ -7,6 +7,7 @@ ghost use Rattle.enumeration.specs.Taking.{choice, taking};
 use crate::totals::Totals;
 
 // The first turn of a schedule, with what is left to take, and the rest's number.
+// Kept: `turn` is a process, 0 or 1, as the byte of the user's list that it is put into; no field hangs on which it is.
 #[derive(Clone, Copy)]
 pub struct Chosen {
     pub turn: u8,

@@ -56,3 +56,5 @@ module _ (text : List ℕ) (v i : ℕ) (inv : DigitInv text v i) where
   pub all_read : length text ≤ i → Some v ≡ number_told text
   unfolding number_from
   all_read h = sym (ap (number_from v) (drop_of_length-le text {i = i} h)) ∙ inv.same
+
+pub ruleset reading_digits = (no_digit, too_large, goes_on, all_read)

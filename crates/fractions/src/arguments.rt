@@ -30,6 +30,7 @@ pub(crate) fn number_argument(rt: &impl Env, i: usize) -> Option<u64> {
 
 // The number that the digits make.
 // Kept: the digits read one by one, since `parse` would take a sign too.
+#[tactic(auto, using(crate::proofs::DigitLaws::reading_digits))]
 fn digits(text: &[u8]) -> Option<u64>
     ensures { result ≡ number_told text.now }
 {

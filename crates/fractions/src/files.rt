@@ -1,6 +1,6 @@
 // The files of a season. Which bytes one has is for the operating system to say; what they make of the sums is proved.
 ghost use Rattle.std.specs.Prelude.{◌≡◌};
-ghost use Rattle.sums.specs.Season.{added};
+ghost use Rattle.sums.specs.Season.{sums_after};
 
 use crate::notices;
 use std::env::Env;
@@ -65,8 +65,9 @@ impl<R: Env + Files + Alloc, W: Write> Season<'_, R, W> {
     }
 
     // A listing's bytes added; where they are refused, that is told and the sums stay.
+    #[tactic(auto, unfolding(sums::specs::Season::sums_after))]
     fn add_text(&mut self, name: &[u8], text: &[u8])
-        ensures { self.new.sums ≡ (added self.old.sums text.now).sums }
+        ensures { self.new.sums ≡ sums_after self.old.sums text.now }
     {
         match sums::add_listing(self.sums, text) {
             Ok(after) => self.sums = after,

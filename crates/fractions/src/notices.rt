@@ -1,5 +1,6 @@
 // What the program says, beside the table.
 use llsc::refusals::Refusal;
+use saying::Place;
 use std::alloc::Allocator;
 use std::io;
 use std::io::Write;
@@ -52,7 +53,7 @@ pub(crate) fn file_refused(
     write!(to, ": refused {}", why.number())?;
     if let NotAdded::NoListing { at } = why {
         write!(to, " at byte {at}, ")?;
-        saying::line(to, text, at)?;
+        saying::line(to, Place::of(text, at))?;
     }
     writeln!(to)
 }

@@ -1,6 +1,6 @@
 // Why a text is no log, and where.
 use logtext::{Fault, number_places};
-use saying::Named;
+use saying::{Named, Place};
 use std::io;
 use std::io::Write;
 
@@ -20,14 +20,15 @@ pub(crate) fn lacks_n_and_w(to: &mut impl Write, count: usize) -> io::Result<()>
 
 // The fault, and how many numbers were read before it.
 pub(crate) fn tell(to: &mut impl Write, fault: Fault, count: usize, text: &[u8]) -> io::Result<()> {
+    let place = Place::of(text, number_places::number_place(text, count));
     match fault {
         Fault::StrayByte => stray(to, text),
         Fault::TooLarge => {
-            saying::position(to, text, number_places::number_place(text, count))?;
+            saying::position(to, place)?;
             write!(to, ": a number of 2^64 or more")
         }
         Fault::TooMany => {
-            saying::position(to, text, number_places::number_place(text, count))?;
+            saying::position(to, place)?;
             write!(to, ": the text has more than 65,536 numbers")
         }
     }?;
@@ -38,6 +39,6 @@ fn stray(to: &mut impl Write, text: &[u8]) -> io::Result<()> {
     let Some(place) = number_places::stray_place(text) else {
         return Ok(());
     };
-    saying::position(to, text, place)?;
+    saying::position(to, Place::of(text, place))?;
     write!(to, ": {} is no digit and no space", Named(text[place]))
 }

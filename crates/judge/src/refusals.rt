@@ -23,7 +23,8 @@ pub(crate) fn refused(to: &mut impl Write, refusal: LogRefusal, log: Log) -> io:
 
 // N or W, the number of an index, is not in its range.
 fn range(to: &mut impl Write, index: usize, name: &str, most: u64, log: Log) -> io::Result<()> {
-    saying::line(to, log.text, number_places::number_place(log.text, index))?;
+    let place = number_places::number_place(log.text, index);
+    saying::line(to, saying::Place::of(log.text, place))?;
     let number = calls::at(log.numbers, index);
     write!(to, ": {name} is {number}, not 1 to {most}")
 }

@@ -46,3 +46,9 @@ module _ {A : Type 0} where
       (simp (length-take, gathered_length) (omega arith))
       (λ i s. let t : i < n = omega (arith, length-take n (gathered l e 16)) in
       get_or-take n (gathered l e 16) i d t ∙ gathered_at l d e 16 i (omega arith) (omega arith) (omega arith) ∙ sym (get_or-take n l i d t))
+
+  -- a list of sixteen that has l's elements, and e where l has none, is l gathered
+  pub gathered_is : (l : List A) (e : A) (ys : List A) → length ys ≡ 16 → ((j : ℕ) → j < 16 → get_or ys j e ≡ get_or l j e) → ys ≡ gathered l e 16
+  gathered_is l e ys n f =
+      ext_get_or e ys (gathered l e 16) (n ∙ sym (gathered_length l e 16))
+      (λ j s. let t : j < 16 = omega arith in f j t ∙ sym (gathered_here l e 16 j (omega arith) t))

@@ -1,1 +1,2 @@
 pub mod GatheredLaws
+mod MadeLaws

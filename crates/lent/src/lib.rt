@@ -6,6 +6,8 @@
 ghost use Rattle.std.specs.Prelude.{◌≡◌, get_or, set};
 ghost use Rattle.lent.specs.Gathered.{gathered, stored};
 
+use std::array;
+
 // The record at i, or another one where there is none.
 pub fn record_or<T: Copy>(records: &[T], i: usize, other: T) -> T
     ensures { result ≡ get_or records.now i other }
@@ -24,15 +26,10 @@ pub fn store_at<T: Copy>(records: &mut [T], i: usize, q: T)
 }
 
 // The first sixteen records, with another one where there is none.
-#[tactic(auto, unfolding(crate::specs::Gathered::gathered))]
 pub fn gather<T: Copy>(records: &[T], none: T) -> [T; 16]
     ensures { result ≡ gathered records.now none 16 }
 {
-    let mut all = [none; 16];
-    for i in 0..16 {
-        all[i] = record_or(records, i, none);
-    }
-    all
+    array::from_fn(|i| record_or(records, i, none))
 }
 
 // The first n of sixteen records are stored back, where they are lent; past the sixteen, `none`.

@@ -6,6 +6,7 @@ use crate::points::IDLE;
 use model::Process;
 
 // A step goes on at another line, and adds 1 to the count.
+// Kept: `to` and `begun` beside `moir_lines`' own: each is one update, which the two `impl`s of a trait would repeat.
 pub fn to(line: u8, process: Process) -> Process
     requires { process.count < 4294967296 }
     ensures { result ≡ to_line line process }

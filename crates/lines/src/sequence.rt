@@ -5,6 +5,7 @@ ghost use Rattle.model.specs.Tables.{next, helped};
 ghost use Rattle.lines.specs.Ranges.{Sized};
 
 use llsc::ProcessNumber;
+use llsc::counts::Processes;
 use model::{SequenceNumber, sizes};
 
 // A rest that fits the one-byte kinds.
@@ -21,7 +22,7 @@ pub fn following(n: usize, s: SequenceNumber) -> SequenceNumber
     ensures { result ≡ next n s }
 {
     let i = s.0 as usize;
-    SequenceNumber(modulo(i + 1, sizes::sequence_numbers(n)))
+    SequenceNumber(modulo(i + 1, sizes::sequence_numbers(Processes { n })))
 }
 
 // s mod N of lines 14 and 15: whom the process helps.

@@ -10,7 +10,7 @@ use lib.Seq.{take_all, drop_at, drop-length, set_split, length-take-le}
 use Rattle.listing.specs.Decimal.{decimal, tens}
 use Rattle.listing.specs.Divisions.{Division, divide, divided, ReadyDigits}
 use Rattle.listing.proofs.DecimalLaws.{at_most}
-use Rattle.listing.proofs.DivisionLaws.{above, some, small, ready_digits}
+use Rattle.listing.proofs.DivisionLaws.{above, some, ready_digits}
 
 pub most : (n : ℕ) → n < above → length (decimal n) ≤ 20
 unfolding tens
@@ -38,9 +38,6 @@ filled_none n places l h = record {
 module _ {n m k rest : ℕ} {places : List ℕ} (l : n < above) (f : Filled n m k rest places) where
   pub room : k + 1 ≤ m
   room = omega (arith, f.more, f.fits)
-
-  pub not_more : rest ≤ n
-  not_more = omega (arith, ap (λ (d : Division). d.rest) f.after, small n l k)
 
   -- one division more, and its digit into place i
   abbrev digit : ℕ

@@ -45,9 +45,6 @@ pub grows : {l l' bs : List ℕ} {i k : ℕ} → Room l i bs → Wrote l i bs l'
 grows {l} {bs = bs} {i = i} {k = k} r w = ap (take k) (stays r w) ∙ take_at (take i l ++ bs) (drop k l) k (omega (arith, length-append (take i l) bs, length-take i l, w.place, r.fits, min-eq_left {n = i} {m = length l} (omega (arith, r.fits))))
 
 -- room for a part, and for the rest after it
-pub room_same : {l bs bs' : List ℕ} {i : ℕ} → bs ≡ bs' → Room l i bs → Room l i bs'
-room_same {l} {i = i} e r = subst (λ (x : List ℕ). Room l i x) e r
-
 pub room_first : {l : List ℕ} {i : ℕ} (a b : List ℕ) → Room l i (a ++ b) → Room l i a
 room_first a b r = record { fits = omega (arith, r.fits, length-append a b) }
 

@@ -28,6 +28,7 @@ impl<'a> Writer<'a> {
     }
 
     // Bytes as they stand.
+    #[tactic(auto, using(crate::proofs::WritingLaws::copied, crate::proofs::WritingLaws::written))]
     pub fn plain(&mut self, bytes: &[u8])
         requires { Fits self.old bytes.now }
         ensures { Writes self.old bytes.now self.new }
@@ -39,6 +40,7 @@ impl<'a> Writer<'a> {
 
     // A number in decimal: one division for each digit, the last digit first, and then the digits copied.
     // Kept: 02, CR 6 asks for one division for each digit; crate itoa divides otherwise.
+    #[tactic(auto, using(crate::proofs::WritingLaws::writes_same, crate::proofs::FilledLaws::filled_all))]
     pub fn number(&mut self, n: u64)
         requires { Fits self.old (decimal n) }
         ensures { Writes self.old (decimal n) self.new }
@@ -59,6 +61,7 @@ impl<'a> Writer<'a> {
     }
 
     // A space and a number for each word.
+    #[tactic(auto, unfolding(crate::specs::Lines::words_of), using(crate::proofs::LineLaws::writing_words))]
     pub fn words(&mut self, ws: &[u64])
         requires { Fits self.old (words_of ws.now) }
         ensures { Writes self.old (words_of ws.now) self.new }
@@ -70,7 +73,7 @@ impl<'a> Writer<'a> {
     }
 
     // The part of an answer line that all kinds share: process, letter and count.
-    #[tactic(auto, unfolding(crate::specs::Lines::answer_head))]
+    #[tactic(auto, unfolding(crate::specs::Lines::answer_head), using(crate::proofs::WritingLaws::writes_then))]
     pub fn answer_head(&mut self, process: u64, letter: u8, count: u64)
         requires { Fits self.old (answer_head process letter count) }
         ensures { Writes self.old (answer_head process letter count) self.new }

@@ -1,4 +1,5 @@
 pub mod Answers
+pub mod CallKinds
 pub mod Object
 pub mod History
 pub mod Linearizable

@@ -5,10 +5,14 @@
 ghost use Rattle.std.specs.Prelude.{◌≡◌};
 ghost use Rattle.llsc.specs.Rows.{is_start};
 
+pub mod calls;
+pub mod counts;
 pub mod refusals;
 
+pub use crate::calls::CallKind;
+
 // A process's number, below N.
-#[derive(Clone, Copy, PartialEq, Eq)]
+#[derive(Clone, Copy, Default, PartialEq, Eq)]
 pub struct ProcessNumber(pub u8);
 
 impl ProcessNumber {

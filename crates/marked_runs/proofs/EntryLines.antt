@@ -1,6 +1,6 @@
 -- The line of an accepted entry: it is one line, and it is read for what its command does.
 use mathlib.Core.Path.{◌≡◌, refl, sym, ap, subst, ◌∙◌}
-use mathlib.Core.List.{List, [], ◌∷◌, ◌++◌, append-nil, append_assoc}
+use mathlib.Core.List.{List, [], ◌++◌, append-nil, append_assoc}
 use mathlib.Core.Bool.{Bool, true, false}
 use Prim.Native.Nat.{ℕ, ◌*◌, ◌≤◌}
 use native.Mathlib.Omega.{arith}
@@ -24,11 +24,12 @@ use Rattle.doings.specs.Doings.{doing}
 use Rattle.notation.specs.declared.Entry.{Entry}
 use Rattle.notation.specs.declared.Entry.TheVariants.{StartLl, StartVl, StartSc, Step, Finish}
 use Rattle.notation.specs.Stretches.{Small}
-use Rattle.listing.specs.Lines.{letter_l, letter_s, letter_v}
 use Rattle.answers.specs.Shape.{largest}
+use Rattle.trace_parts.specs.declared.Start.{Start}
+use Rattle.trace_parts.specs.declared.Start.TheVariants as call
 use Rattle.trace_parts.specs.TraceParts.{start_line}
 use Rattle.access.specs.TraceLines.{step_line}
-use Rattle.trace_parts.proofs.Lengths.{start_length}
+use Rattle.trace_parts.proofs.Lengths.{SmallStart, start_length}
 use Rattle.access.proofs.Lengths.{SmallAccess, step_length}
 use Rattle.access.proofs.SmallLaws.{row_9_parts, access_small}
 use Rattle.commuting.specs.OnTheBench.{Admitted, bench_does, BenchSwapped}
@@ -93,16 +94,16 @@ pub record EntryLine (k : ℕ) (m : Memory) (e : Entry) : Type 0 where
   pub short : length (trace_line k m e (command m (process_of e) (order_of e) (value_of m.bench.w e)).0) ≤ 128
 
 module _ {m : Memory} (r : Reached m) (b : Below (5 * m.bench.n * m.bench.w) m.words) (k : ℕ) (hk : k ≤ 60000) where
-  start_entry : (o : Order) (p letter v : ℕ) (value : List ℕ) → p ≤ largest → v ≤ largest → feedless (letter ∷ []) ≡ true
+  start_entry : (o : Order) (p : ℕ) (start : Start) (value : List ℕ) → p ≤ largest → SmallStart start
       → (obeyed m (record { 0 = p }) o value).0 ≡ Accepted → number_of (command m p o value).0 ≡ 0 → (m' : Memory)
-      → let l = start_line k p letter v ++ line_of m' p (command m p o value).0 in
-      IsLine l × (((rest : List ℕ) → line_in (l ++ rest) ≡ Some (started_line p)) × (length (start_line k p letter v) ≤ 128))
-  start_entry o p letter v value hp hv hl a z m' =
-      let alone = started_alone m p value o a z (start_line k p letter v) m' in (
-        subst IsLine (sym alone) (start_is_line k p letter v hl),
+      → let l = start_line k p start ++ line_of m' p (command m p o value).0 in
+      IsLine l × (((rest : List ℕ) → line_in (l ++ rest) ≡ Some (started_line p)) × (length (start_line k p start) ≤ 128))
+  start_entry o p start value hp hv a z m' =
+      let alone = started_alone m p value o a z (start_line k p start) m' in (
+        subst IsLine (sym alone) (start_is_line k p start),
         (
-          (λ rest. ap (λ (x : List ℕ). line_in (x ++ rest)) alone ∙ start_line_read k p letter v rest (omega (arith, hk)) hp),
-          start_length k p letter v hk hp hv,
+          (λ rest. ap (λ (x : List ℕ). line_in (x ++ rest)) alone ∙ start_line_read k p start rest (omega (arith, hk)) hp),
+          start_length k p start hk hp hv,
         ),
       )
 
@@ -127,14 +128,14 @@ module _ {m : Memory} (r : Reached m) (b : Below (5 * m.bench.n * m.bench.w) m.w
   pub entry_line_is : (e : Entry) → Small e → number_of (command m (process_of e) (order_of e) (value_of m.bench.w e)).0 ≡ 0 → EntryLine k m e
   unfolding doing feedless
   entry_line_is (StartLl p) h z =
-      let x = start_entry order.StartLl p letter_l 0 [] h (omega arith) refl (ll_start m p []) z (next m (command_of m (StartLl p))) in
+      let x = start_entry order.StartLl p call.Ll [] h tt (ll_start m p []) z (next m (command_of m (StartLl p))) in
       record { is_line = x.0; read_as = x.1.0; short = x.1.1 }
   entry_line_is (StartVl p) h z =
-      let x = start_entry order.StartVl p letter_v 0 [] h (omega arith) refl (vl_start m p []) z (next m (command_of m (StartVl p))) in
+      let x = start_entry order.StartVl p call.Vl [] h tt (vl_start m p []) z (next m (command_of m (StartVl p))) in
       record { is_line = x.0; read_as = x.1.0; short = x.1.1 }
   entry_line_is (StartSc p v) h z =
       let value = replicate m.bench.w v in
-      let x = start_entry order.StartSc p letter_s v value h.0 h.1 refl (sc_start m p value) z (next m (command_of m (StartSc p v))) in
+      let x = start_entry order.StartSc p (call.Sc v) value h.0 h.1 (sc_start m p value) z (next m (command_of m (StartSc p v))) in
       record { is_line = x.0; read_as = x.1.0; short = x.1.1 }
   entry_line_is (Step p) h z =
       let x = step_entry p h z (next m (command_of m (Step p))) in record { is_line = x.0; read_as = x.1.0; short = x.1.1 }

@@ -17,11 +17,17 @@ use Rattle.doings.specs.declared.Item.TheVariants.{X, Bank, Help, Half}
 use Rattle.listing.specs.Quoted.{quoted}
 use Rattle.listing.specs.Decimal.{digits, decimal}
 use Rattle.listing.specs.Lines.{line_feed, letter_l, letter_s, letter_v, answer_head, words_of, ll_line, truth_line, end_line, refused_line}
+use Rattle.access.specs.declared.Values.{Values}
+use Rattle.access.specs.declared.Values.TheVariants as of
 use Rattle.access.specs.declared.Act.{Act}
 use Rattle.access.specs.declared.Act.TheVariants.{Read, Write, Ll, Sc, Vl}
 use Rattle.access.specs.declared.Access.{Access}
-use Rattle.trace_parts.specs.TraceParts.{spaced, bracketed, head_text, truth_text, end_text, brought_text, start_line}
-use Rattle.access.specs.TraceLines.{half_text, half_place_text, item_text, values_text, stored_text, written_text, act_text, step_line}
+use Rattle.access.specs.Accesses.{item_of}
+use Rattle.trace_parts.specs.declared.Start.{Start}
+use Rattle.trace_parts.specs.declared.Start.TheVariants as call
+use Rattle.trace_parts.specs.TraceParts as Parts
+use Rattle.trace_parts.specs.TraceParts.{spaced, bracketed, head_text, truth_text, end_text, start_text, start_line}
+use Rattle.access.specs.TraceLines.{half_text, half_place_text, item_text, values_text, stored_text, written_text, act_text, access_text, step_line}
 use Rattle.semantics.specs.TextRun.{answers}
 use Rattle.semantics.specs.TextRun as T
 use Rattle.std.specs.Prelude.{Option}
@@ -157,50 +163,47 @@ truth_plain true = refl
 truth_plain false = refl
 
 stored_plain : (t : Bool) → feedless (stored_text t) ≡ true
-unfolding stored_text feedless
+unfolding stored_text truth_text feedless
 stored_plain true = refl
 stored_plain false = refl
 
-written_plain : (i : Item) → feedless (written_text i) ≡ true
+written_plain : (v : Values) → feedless (written_text v) ≡ true
 unfolding written_text feedless
-written_plain X = refl
-written_plain (Bank i) = refl
-written_plain (Help i) = refl
-written_plain (Half f k) = refl
+written_plain (of.X v) = refl
+written_plain (of.Bank i v) = refl
+written_plain (of.Help i v) = refl
+written_plain (of.Half f k v) = refl
 
-values_plain : (i : Item) (v u : ℕ) → feedless (values_text i v u) ≡ true
+values_plain : (v : Values) → feedless (values_text v) ≡ true
 unfolding values_text
-values_plain X v u = joined (spaced v) (spaced u) (spaced_plain v) (spaced_plain u)
-values_plain (Bank i) v u = spaced_plain v
-values_plain (Help i) v u = joined (spaced v) (spaced u) (spaced_plain v) (spaced_plain u)
-values_plain (Half f k) v u = spaced_plain v
+values_plain (of.X v) = joined (spaced v.buf.0) (spaced v.seq.0) (spaced_plain v.buf.0) (spaced_plain v.seq.0)
+values_plain (of.Bank i v) = spaced_plain v.0
+values_plain (of.Help i v) = joined (spaced v.flag) (spaced v.buf.0) (spaced_plain v.flag) (spaced_plain v.buf.0)
+values_plain (of.Half f k v) = spaced_plain v
 
-act_plain : (a : Act) (i : Item) (v u : ℕ) → feedless (act_text a i v u) ≡ true
+act_plain : (a : Act) → feedless (act_text a) ≡ true
 unfolding act_text feedless
-act_plain Read i v u = joined (quoted " read") (values_text i v u) refl (values_plain i v u)
-act_plain Write i v u =
-    joined (quoted " write") (values_text i v u ++ written_text i) refl
-    (joined (values_text i v u) (written_text i) (values_plain i v u) (written_plain i))
-act_plain Ll i v u = joined (quoted " LL") (values_text i v u ++ quoted " link set") refl (joined (values_text i v u) (quoted " link set") (values_plain i v u) refl)
-act_plain (Sc t) i v u = joined (quoted " SC") (values_text i v u ++ stored_text t) refl (joined (values_text i v u) (stored_text t) (values_plain i v u) (stored_plain t))
-act_plain (Vl t) i v u = joined (quoted " VL") (truth_text t) refl (truth_plain t)
+act_plain (Read v) = joined (quoted " read") (values_text v) refl (values_plain v)
+act_plain (Write v) =
+    joined (quoted " write") (values_text v ++ written_text v) refl
+    (joined (values_text v) (written_text v) (values_plain v) (written_plain v))
+act_plain (Ll v) = joined (quoted " LL") (values_text v ++ quoted " link set") refl (joined (values_text v) (quoted " link set") (values_plain v) refl)
+act_plain (Sc t v) = joined (quoted " SC") (values_text v ++ stored_text t) refl (joined (values_text v) (stored_text t) (values_plain v) (stored_plain t))
+act_plain (Vl t i) = joined (quoted " VL") (truth_text t) refl (truth_plain t)
 
-brought_plain : (letter v : ℕ) → feedless (brought_text letter v) ≡ true
-unfolding brought_text feedless
-brought_plain letter v = by (eqb letter letter_s)
-  where
-    by : (t : Bool) → feedless (cond t (spaced v) []) ≡ true
-    by true = spaced_plain v
-    by false = refl
+start_plain : (start : Start) → feedless (start_text start) ≡ true
+unfolding start_text feedless
+start_plain call.Ll = refl
+start_plain call.Vl = refl
+start_plain (call.Sc v) = joined (letter_s ∷ []) (spaced v) refl (spaced_plain v)
 
 -- a start's line
-pub start_is_line : (k p letter v : ℕ) → feedless (letter ∷ []) ≡ true → IsLine (start_line k p letter v)
+pub start_is_line : (k p : ℕ) (start : Start) → IsLine (start_line k p start)
 unfolding start_line feedless
-start_is_line k p letter v e =
+start_is_line k p start =
     before_line (head_text k p) (head_plain k p)
     (before_line (quoted " start ") refl
-    (before_line (letter ∷ []) e
-    (before_line (brought_text letter v) (brought_plain letter v) feed)))
+    (before_line (start_text start) (start_plain start) feed))
 
 -- an answer's line
 answer_head_plain : (p letter k : ℕ) → feedless (letter ∷ []) ≡ true → feedless (answer_head p letter k) ≡ true
@@ -227,16 +230,16 @@ truth_is_line p letter k false e = before_line (answer_head p letter k) (answer_
 
 -- a step's line, with its answer
 step_then : (k p : ℕ) (a : Access) (t : Bool) (tail : List ℕ) → IsLine (end_text t ++ tail) → IsLine (step_line k p a t ++ tail)
-unfolding step_line
+unfolding Parts.step_line access_text
 step_then k p a t tail i =
-    let act = act_text a.act a.item a.first a.second in
-    let parts = head_text k p ++ (spaced a.line ++ (item_text a.item ++ (act ++ (end_text t ++ tail)))) in
+    let item = item_text (item_of a.act) in
+    let parts = head_text k p ++ (spaced a.line ++ (item ++ (act_text a.act ++ (end_text t ++ tail)))) in
     let same : step_line k p a t ++ tail ≡ parts = simp append_assoc in
     subst IsLine (sym same)
     (before_line (head_text k p) (head_plain k p)
     (before_line (spaced a.line) (spaced_plain a.line)
-    (before_line (item_text a.item) (item_plain a.item)
-    (before_line act (act_plain a.act a.item a.first a.second) i))))
+    (before_line item (item_plain (item_of a.act))
+    (before_line (act_text a.act) (act_plain a.act) i))))
 
 answer_then : {l : List ℕ} → IsLine l → IsLine (end_text true ++ l)
 unfolding end_text feedless

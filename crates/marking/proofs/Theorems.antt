@@ -25,7 +25,7 @@ use Rattle.doings.specs.Doings.{read, ll, vl, sc, write, looks, Seen, seen, Doin
 use Rattle.laws.proofs.AndLaws.{left, right}
 use Rattle.laws.proofs.Updates.{contra}
 use Rattle.access.specs.Accesses.{shown_act, shown, paper_line, doing_now, access_of}
-use Rattle.access.proofs.Theorems.{IsOne, one_at}
+use Rattle.access.proofs.Theorems.{IsOne, one_at, item_shown}
 use Rattle.commuting.specs.OnTheBench.{bench_does}
 use Rattle.commuting.proofs.OnTheBench.{commute_on_the_bench}
 use Rattle.std.specs.Bool.{beq}
@@ -131,18 +131,19 @@ marks_mean_apart p q t u = record {
 }
 
 -- an act that only looks is shown as one
-looks_shown : (a : Doings.Act) (s : Seen) → only_looks (shown_act a s) ≡ looks a
-looks_shown read s = refl
-looks_shown ll s = refl
-looks_shown vl s = refl
-looks_shown (sc v u) s = refl
-looks_shown (write v u) s = refl
+looks_shown : (i : Item) (a : Doings.Act) (s : Seen) → only_looks (shown_act i a s) ≡ looks a
+looks_shown i read s = refl
+looks_shown i ll s = refl
+looks_shown i vl s = refl
+looks_shown i (sc v u) s = refl
+looks_shown i (write v u) s = refl
 
 shown_line_lem : (k : ℕ) (p : ProcessNumber) (t : Touching Item Process) (b : Bench) (ws : List ℕ) → IsOne t → shown_line p.0 (shown k p t b ws) ≡ line_of p.0 t
 shown_line_lem k p (nothing out) b ws x = absurd x
 shown_line_lem k p (one d) b ws x =
-    ap (λ (l : Bool). record { process = p.0; touched = Some (record { item = named d.item; looks = l }) })
-    (looks_shown d.act (seen p (item_at d.item b ws)))
+    let s = seen p (item_at d.item b ws) in
+    ap₂ (λ (i : Item) (l : Bool). record { process = p.0; touched = Some (record { item = named i; looks = l }) })
+    (item_shown d.item d.act s) (looks_shown d.item d.act s)
 
 pub trace_shows_line : TraceShowsLine
 unfolding access_of doing

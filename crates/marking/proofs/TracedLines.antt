@@ -2,19 +2,20 @@
 use mathlib.Core.Path.{◌≡◌, refl, sym, ap, ap₂, ◌∙◌}
 use mathlib.Core.List.{List, [], ◌∷◌, ◌++◌, append_assoc}
 use mathlib.Core.Bool.{Bool, true, false, not, cond}
-use Rattle.std.specs.Prelude.{Some}
+use Rattle.std.specs.Prelude.{Some, Ok}
+use Rattle.std.specs.Result.{is_ok}
 use Prim.Native.Nat.{ℕ, ◌%◌, ◌≤◌}
 use native.Mathlib.Omega.{arith}
 use lib.Dec.{eqb}
 use lib.ListN.{drop}
-use borrow.Author.Tests.{eqb-true, eqb-false, eq-eqb, ne_eqb, le-leb}
+use borrow.Author.Tests.{eqb-true, eqb-false, eq-eqb, ne_eqb}
 use Rattle.model.specs.Words.{word_of}
 use Rattle.listing.specs.Quoted.{quoted, byte}
 use Rattle.listing.specs.Decimal.{decimal}
 use Rattle.listing.specs.Lines.{space, end_line, refused_line}
 use Rattle.laws.proofs.Updates.{contra, is_true}
 use Rattle.answers.specs.Shape.{largest}
-use Rattle.answers.specs.Readers.{first, is_digit, Got, is_number, number_in, spaced_number}
+use Rattle.answers.specs.Readers.{first, is_digit, Read as ReadFrom, number_in}
 use Rattle.answers.proofs.Complete.{number_read, spaced_read}
 use Rattle.doings.specs.declared.Item.{Item}
 use Rattle.doings.specs.declared.Item.TheVariants.{X, Bank, Help, Half}
@@ -22,14 +23,17 @@ use Rattle.doings.specs.Items.{index, word_place}
 use Rattle.access.specs.declared.Act.{Act}
 use Rattle.access.specs.declared.Act.TheVariants.{Read, Write, Ll, Sc, Vl}
 use Rattle.access.specs.declared.Access.{Access}
-use Rattle.access.specs.TraceLines.{half_text, half_place_text, item_text, act_text, step_line}
-use Rattle.trace_parts.specs.TraceParts.{spaced, bracketed, head_text, end_text, brought_text, start_line}
-use Rattle.access.proofs.Lengths.{SmallAccess}
+use Rattle.access.specs.Accesses.{item_of}
+use Rattle.access.specs.TraceLines.{half_text, half_place_text, item_text, act_text, access_text, step_line}
+use Rattle.trace_parts.specs.declared.Start.{Start}
+use Rattle.trace_parts.specs.TraceParts as Parts
+use Rattle.trace_parts.specs.TraceParts.{spaced, bracketed, head_text, end_text, start_text, start_line}
+use Rattle.access.proofs.Lengths.{SmallAccess, small_item}
 use Rattle.marking.specs.declared.NamedItem.{NamedItem}
 use Rattle.marking.specs.declared.NamedItem.TheVariants as name
 use Rattle.marking.specs.declared.Line.{Line}
 use Rattle.marking.specs.Marks.{named, started_line, only_looks, shown_line}
-use Rattle.marking.specs.Reading.{ItemRead, numbered, word_in, half_in, item_in, looks_in, no_line, stepped_in, process_in, line_in}
+use Rattle.marking.specs.Reading.{ItemRead, or_too_large, number_at, spaced_at, numbered, word_in, half_in, item_in, looks_in, no_line, stepped_in, process_in, line_in}
 
 -- what a named item should be read as
 abbrev as_named : Item → List ℕ → ItemRead
@@ -40,18 +44,18 @@ numbered_named : (place : ℕ → NamedItem) (v : ℕ) (cs : List ℕ) → v ≤
     → numbered place (decimal v ++ (byte "]" ∷ cs)) ≡ record { item = place v; rest = cs }
 unfolding numbered
 numbered_named place v cs h =
-    ap (λ (g : Got). record { item = place g.value; rest = drop 1 g.rest }) (number_read v (byte "]" ∷ cs) h refl)
+    ap (λ (g : ReadFrom ℕ). record { item = place (or_too_large g).0; rest = drop 1 (or_too_large g).1 }) (number_read v (byte "]" ∷ cs) h refl)
 
 -- a half word: behind the number of the buffer stand `][`, the word, `]` and the half
 module _ (f w : ℕ) (hf : f ≤ largest) (hw : w ≤ largest) (half : List ℕ) where
   abbrev text : List ℕ
   text = decimal f ++ (byte "]" ∷ byte "[" ∷ (decimal w ++ (byte "]" ∷ byte " " ∷ half)))
 
-  buffer_named : number_in text ≡ record { value = f; rest = byte "]" ∷ byte "[" ∷ (decimal w ++ (byte "]" ∷ byte " " ∷ half)) }
-  buffer_named = number_read f (byte "]" ∷ byte "[" ∷ (decimal w ++ (byte "]" ∷ byte " " ∷ half))) hf refl
+  buffer_named : number_at text ≡ (f, byte "]" ∷ byte "[" ∷ (decimal w ++ (byte "]" ∷ byte " " ∷ half)))
+  buffer_named = ap or_too_large (number_read f (byte "]" ∷ byte "[" ∷ (decimal w ++ (byte "]" ∷ byte " " ∷ half))) hf refl)
 
-  word_named_is : word_in text ≡ record { value = w; rest = byte "]" ∷ byte " " ∷ half }
-  word_named_is = ap (λ (g : Got). number_in (drop 2 g.rest)) buffer_named ∙ number_read w (byte "]" ∷ byte " " ∷ half) hw refl
+  word_named_is : word_in text ≡ (w, byte "]" ∷ byte " " ∷ half)
+  word_named_is = ap (λ (g : ℕ × List ℕ). number_at (drop 2 g.1)) buffer_named ∙ ap or_too_large (number_read w (byte "]" ∷ byte " " ∷ half) hw refl)
 
   abbrev high : Bool
   high = eqb (first half) (byte "h")
@@ -59,10 +63,10 @@ module _ (f w : ℕ) (hf : f ≤ largest) (hw : w ≤ largest) (half : List ℕ)
   half_named : half_in text ≡ record { item = name.Half high f w; rest = drop (cond high 4 3) half }
   unfolding half_in
   half_named =
-      ap₂ (λ (g v : Got).
-      let here : List ℕ = drop 2 v.rest in
+      ap₂ (λ (g v : ℕ × List ℕ).
+      let here : List ℕ = drop 2 v.1 in
       let is_high : Bool = eqb (first here) (byte "h") in
-      record { item = name.Half is_high g.value v.value; rest = drop (cond is_high 4 3) here })
+      record { item = name.Half is_high g.0 v.0; rest = drop (cond is_high 4 3) here })
       buffer_named word_named_is
 
 -- the brackets and the half, one after the other
@@ -97,21 +101,21 @@ item_named (Half f k) cs h l =
 abbrev Begins : List ℕ → Act → Type 0
 Begins bs act = (cs : List ℕ) → (first (bs ++ cs) ≡ space) × (looks_in (bs ++ cs) ≡ only_looks act)
 
-act_named : (act : Act) (i : Item) (v u : ℕ) → Begins (act_text act i v u) act
+act_named : (act : Act) → Begins (act_text act) act
 unfolding act_text looks_in
-act_named Read i v u cs = (refl, refl)
-act_named Write i v u cs = (refl, refl)
-act_named Ll i v u cs = (refl, refl)
-act_named (Sc t) i v u cs = (refl, refl)
-act_named (Vl t) i v u cs = (refl, refl)
+act_named (Read v) cs = (refl, refl)
+act_named (Write v) cs = (refl, refl)
+act_named (Ll v) cs = (refl, refl)
+act_named (Sc t v) cs = (refl, refl)
+act_named (Vl t i) cs = (refl, refl)
 
-act_spaced : (act : Act) (i : Item) (v u : ℕ) (cs : List ℕ) → act_text act i v u ++ cs ≡ space ∷ drop 1 (act_text act i v u ++ cs)
+act_spaced : (act : Act) (cs : List ℕ) → act_text act ++ cs ≡ space ∷ drop 1 (act_text act ++ cs)
 unfolding act_text
-act_spaced Read i v u cs = refl
-act_spaced Write i v u cs = refl
-act_spaced Ll i v u cs = refl
-act_spaced (Sc t) i v u cs = refl
-act_spaced (Vl t) i v u cs = refl
+act_spaced (Read v) cs = refl
+act_spaced (Write v) cs = refl
+act_spaced (Ll v) cs = refl
+act_spaced (Sc t v) cs = refl
+act_spaced (Vl t i) cs = refl
 
 -- an item begins with a space, which ends the number before it
 item_stop : (i : Item) (cs : List ℕ) → is_digit (first (item_text i ++ cs)) ≡ false
@@ -122,14 +126,13 @@ item_stop (Help i) cs = refl
 item_stop (Half f k) cs = refl
 
 -- a number begins with a digit, so with no letter
-no_digit : (bs : List ℕ) → is_digit (first bs) ≡ false → (number_in bs).value ≡ 4294967296
+no_digit : (bs : List ℕ) → is_digit (first bs) ≡ false → is_ok (number_in bs) ≡ false
 unfolding number_in
 no_digit bs e = simp e
 
 begins : (v : ℕ) (cs : List ℕ) → v ≤ largest → is_digit (first cs) ≡ false → is_digit (first (decimal v ++ cs)) ≡ true
-begins v cs h e = is_true (is_digit (first (decimal v ++ cs))) (λ z.
-    let x : 4294967296 ≡ v = sym (no_digit (decimal v ++ cs) z) ∙ ap (λ (g : Got). g.value) (number_read v cs h e) in
-    omega arith)
+begins v cs h e =
+    is_true (is_digit (first (decimal v ++ cs))) (λ z. contra (ap is_ok (number_read v cs h e)) (no_digit (decimal v ++ cs) z))
 
 not_s : (bs : List ℕ) → is_digit (first bs) ≡ true → eqb (first bs) (byte "s") ≡ false
 not_s bs e = ne_eqb (first bs) (byte "s") (λ x. contra e (ap is_digit x))
@@ -139,50 +142,60 @@ module _ (k p : ℕ) (hk : k ≤ largest) (hp : p ≤ largest) (rest : List ℕ)
   abbrev whole : List ℕ
   whole = decimal k ++ (space ∷ (decimal p ++ (space ∷ rest)))
 
-  entry_named : number_in whole ≡ record { value = k; rest = space ∷ (decimal p ++ (space ∷ rest)) }
+  entry_named : number_in whole ≡ Ok (k, space ∷ (decimal p ++ (space ∷ rest)))
   entry_named = number_read k (space ∷ (decimal p ++ (space ∷ rest))) hk refl
 
-  process_named : process_in whole ≡ record { value = p; rest = space ∷ rest }
-  process_named = ap (λ (g : Got). spaced_number g.rest) entry_named ∙ spaced_read p (space ∷ rest) hp refl
+  process_named : process_in whole ≡ (p, space ∷ rest)
+  process_named = ap (λ (g : ReadFrom ℕ). spaced_at (or_too_large g).1) entry_named ∙ ap or_too_large (spaced_read p (space ∷ rest) hp refl)
 
   abbrev third : Bool → Line
-  third s = cond s (started_line p) (stepped_in p (spaced_number (space ∷ rest)).rest)
+  third s = cond s (started_line p) (stepped_in p (spaced_at (space ∷ rest)).1)
 
   line_named : line_in whole ≡ Some (third (eqb (first rest) (byte "s")))
   unfolding line_in
   line_named =
-      ap₂ (λ (g q : Got). cond (is_number g)
-      (Some (cond (eqb (first (drop 1 q.rest)) (byte "s")) (started_line q.value) (stepped_in q.value (spaced_number q.rest).rest)))
+      ap₂ (λ (g : ReadFrom ℕ) (q : ℕ × List ℕ). cond (is_ok g)
+      (Some (cond (eqb (first (drop 1 q.1)) (byte "s")) (started_line q.0) (stepped_in q.0 (spaced_at q.1).1)))
       no_line)
       entry_named process_named
-      ∙ ap (λ (t : Bool). cond t (Some (third (eqb (first rest) (byte "s")))) no_line) (le-leb k largest hk)
 
 -- "for a start, `start L`, .."
-pub start_line_read : (k p letter v : ℕ) (more : List ℕ) → k ≤ largest → p ≤ largest → line_in (start_line k p letter v ++ more) ≡ Some (started_line p)
+pub start_line_read : (k p : ℕ) (start : Start) (more : List ℕ) → k ≤ largest → p ≤ largest → line_in (start_line k p start ++ more) ≡ Some (started_line p)
 unfolding start_line head_text spaced
-start_line_read k p letter v more hk hp =
-    let behind = quoted "start " ++ ((letter ∷ []) ++ (brought_text letter v ++ (quoted "\n" ++ more))) in
-    let text : start_line k p letter v ++ more ≡ decimal k ++ (space ∷ (decimal p ++ (space ∷ behind))) = simp append_assoc in
+start_line_read k p start more hk hp =
+    let behind = quoted "start " ++ (start_text start ++ (quoted "\n" ++ more)) in
+    let text : start_line k p start ++ more ≡ decimal k ++ (space ∷ (decimal p ++ (space ∷ behind))) = simp append_assoc in
     ap line_in text ∙ line_named k p hk hp behind
+
+-- what is shown of a step, and what follows
+access_then : (a : Access) (tail : List ℕ) → access_text a ++ tail ≡ space ∷ (decimal a.line ++ (item_text (item_of a.act) ++ (act_text a.act ++ tail)))
+unfolding access_text spaced
+access_then a tail = simp append_assoc
 
 -- the step's line
 pub step_line_read : (k p : ℕ) (a : Access) (answered : Bool) (more : List ℕ) → k ≤ largest → p ≤ largest → SmallAccess a
     → line_in (step_line k p a answered ++ more) ≡ Some (shown_line p a)
-unfolding step_line head_text spaced
+unfolding Parts.step_line head_text spaced
 step_line_read k p a answered more hk hp small =
-    let i = a.item in
-    let tail = act_text a.act i a.first a.second ++ (end_text answered ++ more) in
+    let i = item_of a.act in
+    let end = end_text answered ++ more in
+    let tail = act_text a.act ++ end in
     let number = decimal a.line ++ (item_text i ++ tail) in
     let low : a.line ≤ largest = omega (arith, small.line) in
-    let text : step_line k p a answered ++ more ≡ decimal k ++ (space ∷ (decimal p ++ (space ∷ number))) = simp append_assoc in
+    let shown = access_text a in
+    let text : step_line k p a answered ++ more ≡ decimal k ++ (space ∷ (decimal p ++ (space ∷ number))) =
+    append_assoc (head_text k p) (shown ++ end_text answered) more
+    ∙ ap (λ (x : List ℕ). head_text k p ++ x) (append_assoc shown (end_text answered) more ∙ access_then a end)
+    ∙ append_assoc (decimal k) (space ∷ decimal p) (space ∷ number) in
     let line = spaced_read a.line (item_text i ++ tail) low (item_stop i tail) in
-    let here = act_spaced a.act i a.first a.second (end_text answered ++ more) in
+    let here = act_spaced a.act end in
+    let few = small_item a.act small.act in
     let read : item_in (item_text i ++ tail) ≡ as_named i tail =
-    ap (λ (bs : List ℕ). item_in (item_text i ++ bs)) here ∙ item_named i (drop 1 tail) small.index small.word ∙ ap (as_named i) (sym here) in
-    let look = (act_named a.act i a.first a.second (end_text answered ++ more)).1 in
+    ap (λ (bs : List ℕ). item_in (item_text i ++ bs)) here ∙ item_named i (drop 1 tail) few.0 few.1 ∙ ap (as_named i) (sym here) in
+    let look = (act_named a.act end).1 in
     ap line_in text ∙ line_named k p hk hp number
-    ∙ ap (λ (t : Bool). Some (cond t (started_line p) (stepped_in p (spaced_number (space ∷ number)).rest))) (not_s number (begins a.line (item_text i ++ tail) low (item_stop i tail)))
-    ∙ ap (λ (g : Got). Some (stepped_in p g.rest)) line
+    ∙ ap (λ (t : Bool). Some (cond t (started_line p) (stepped_in p (spaced_at (space ∷ number)).1))) (not_s number (begins a.line (item_text i ++ tail) low (item_stop i tail)))
+    ∙ ap (λ (g : ReadFrom ℕ). Some (stepped_in p (or_too_large g).1)) line
     ∙ ap (λ (x : ItemRead). Some (record { process = p; touched = Some (record { item = x.item; looks = looks_in x.rest }) })) read
     ∙ ap (λ (t : Bool). Some (record { process = p; touched = Some (record { item = named i; looks = t }) })) look
 

@@ -18,7 +18,7 @@ use Rattle.doings.specs.Doings.{looks, Touching, nothing, one, Apart}
 use Rattle.access.specs.declared.Act.{Act}
 use Rattle.access.specs.declared.Act.TheVariants.{Read, Write, Ll, Sc, Vl}
 use Rattle.access.specs.declared.Access.{Access}
-use Rattle.access.specs.Accesses.{access_of}
+use Rattle.access.specs.Accesses.{item_of, access_of}
 use Rattle.commuting.specs.OnTheBench.{Admitted, bench_does, BenchSwapped}
 use Rattle.marking.specs.declared.NamedItem.{NamedItem}
 use Rattle.marking.specs.declared.NamedItem.TheVariants as name
@@ -37,14 +37,14 @@ abbrev pub started_line : ℕ → Line
 started_line p = record { process = p; touched = None }
 
 abbrev pub only_looks : Act → Bool
-only_looks Read = true
-only_looks Write = false
-only_looks Ll = true
-only_looks (Sc t) = false
-only_looks (Vl t) = true
+only_looks (Read v) = true
+only_looks (Write v) = false
+only_looks (Ll v) = true
+only_looks (Sc t v) = false
+only_looks (Vl t i) = true
 
 abbrev pub shown_line : ℕ → Access → Line
-shown_line p a = record { process = p; touched = Some (record { item = named a.item; looks = only_looks a.act }) }
+shown_line p a = record { process = p; touched = Some (record { item = named (item_of a.act); looks = only_looks a.act }) }
 
 -- one item
 abbrev pub same_item : NamedItem → NamedItem → Bool

@@ -1,7 +1,9 @@
 -- A line of a trace (docs/TRACE.md), read from its first byte on: what it says of its command is this (proofs/TracedLines).
-use Rattle.std.specs.Prelude.{◌≡◌, ℕ, List, Bool, ◌||◌, cond, eqb, drop, Option, Some, None, Result}
+use Rattle.std.specs.Prelude.{◌≡◌, ℕ, ◌+◌, List, Bool, ◌||◌, cond, eqb, drop, Option, Some, None, Result, Ok, Err}
+use Rattle.std.specs.Result.{is_ok}
 use Rattle.listing.specs.Quoted.{byte}
-use Rattle.answers.specs.Readers.{first, Got, is_number, number_in, spaced_number, Text, GivesNumber}
+use Rattle.answers.specs.Shape.{largest}
+use Rattle.answers.specs.Readers.{first, Read, number_in, spaced_number, Text, GivesNumber}
 use Rattle.marking.specs.declared.NamedItem.{NamedItem}
 use Rattle.marking.specs.declared.NamedItem.TheVariants.{X, Bank, Help, Half}
 use Rattle.marking.specs.declared.Line.{Line}
@@ -12,22 +14,33 @@ pub record ItemRead : Type 0 where
   pub item : NamedItem
   pub rest : List ℕ
 
+-- a number and the bytes after it; where none stands, as in no line of a trace, one more than the largest
+abbrev pub or_too_large : Read ℕ → ℕ × List ℕ
+or_too_large (Ok p) = p
+or_too_large (Err rest) = (largest + 1, rest)
+
+abbrev pub number_at : List ℕ → ℕ × List ℕ
+number_at bs = or_too_large (number_in bs)
+
+abbrev pub spaced_at : List ℕ → ℕ × List ℕ
+spaced_at bs = or_too_large (spaced_number bs)
+
 -- a place of Bank or Help: a number, and the bracket behind it
 unfoldable pub numbered : (ℕ → NamedItem) → List ℕ → ItemRead
-numbered place bs = record { item = place (number_in bs).value; rest = drop 1 (number_in bs).rest }
+numbered place bs = record { item = place (number_at bs).0; rest = drop 1 (number_at bs).1 }
 
 -- behind a number and `][`, a number; behind that and `] `, `low` or `high`
-abbrev pub word_in : List ℕ → Got
-word_in bs = number_in (drop 2 (number_in bs).rest)
+abbrev pub word_in : List ℕ → ℕ × List ℕ
+word_in bs = number_at (drop 2 (number_at bs).1)
 
 abbrev pub which_half : List ℕ → List ℕ
-which_half bs = drop 2 (word_in bs).rest
+which_half bs = drop 2 (word_in bs).1
 
 unfoldable pub half_in : List ℕ → ItemRead
 half_in bs =
     let high : Bool = eqb (first (which_half bs)) (byte "h") in
     record {
-      item = Half high (number_in bs).value (word_in bs).value;
+      item = Half high (number_at bs).0 (word_in bs).0;
       rest = drop (cond high 4 3) (which_half bs);
     }
 
@@ -56,18 +69,18 @@ stepped_in p bs = record {
 }
 
 -- the entry number, the process, and `start` or the number of the line
-abbrev pub process_in : List ℕ → Got
-process_in bs = spaced_number (number_in bs).rest
+abbrev pub process_in : List ℕ → ℕ × List ℕ
+process_in bs = spaced_at (number_at bs).1
 
 unfoldable pub line_in : List ℕ → Option Line
-line_in bs = cond (is_number (number_in bs))
-    (Some (cond (eqb (first (drop 1 (process_in bs).rest)) (byte "s")) (started_line (process_in bs).value)
-    (stepped_in (process_in bs).value (spaced_number (process_in bs).rest).rest)))
+line_in bs = cond (is_ok (number_in bs))
+    (Some (cond (eqb (first (drop 1 (process_in bs).1)) (byte "s")) (started_line (process_in bs).0)
+    (stepped_in (process_in bs).0 (spaced_at (process_in bs).1).1)))
     no_line
 
--- a value and the bytes behind it, as the code returns them: of a number that is not there one more than the largest
-abbrev pub GivesGot : Result (ℕ × Text) Text → ℕ × Text → Type 0
-GivesGot r p = (g : Got) → GivesNumber r g → g ≡ record { value = p.0; rest = p.1.now }
+-- the same of what the code returns
+abbrev pub GivesTooLarge : Result (ℕ × Text) Text → ℕ × Text → Type 0
+GivesTooLarge r p = (g : Read ℕ) → GivesNumber r g → or_too_large g ≡ (p.0, p.1.now)
 
 abbrev pub GivesItem : NamedItem × Text → ItemRead → Type 0
 GivesItem p i = i ≡ record { item = p.0; rest = p.1.now }

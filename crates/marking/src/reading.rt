@@ -1,15 +1,15 @@
 // A line of a trace, read for what it tells of its command. The lines are those that a trace writes.
 ghost use Rattle.std.specs.Prelude.{◌≡◌, drop};
 ghost use Rattle.answers.specs.Readers.{first, number_in, spaced_number, GivesNumber};
-ghost use Rattle.marking.specs.Reading.{half_in, item_in, looks_in, line_in, GivesGot, GivesItem};
+ghost use Rattle.marking.specs.Reading.{half_in, item_in, looks_in, line_in, GivesTooLarge, GivesItem};
 
 use crate::{Line, NamedItem, Touch};
 use answers::{Read, numbers};
 
 // A number and the text behind it. Where none stands, as in no line of a trace, it is one more than the largest.
-// Kept: `number_in` and `line_in` give such a text that number, too; an Option would stand in Line and each item.
+// Kept: `line_in` gives such a text that number, too; an Option would stand in `Line` and in each item.
 fn or_too_large(read: Read<'_, u64>) -> (u64, &[u8])
-    ensures { GivesGot read.entry result }
+    ensures { GivesTooLarge read.entry result }
 {
     match read {
         Ok(read) => read,

@@ -3,7 +3,7 @@ use mathlib.Core.Path.{◌≡◌, refl}
 use mathlib.Core.List.{[], ◌∷◌, map}
 use Rattle.std.specs.Prelude.{None, Some}
 use Rattle.model.specs.Points.{Point, idle, line_number, busy_points}
-use Rattle.messages.specs.declared.calls.Kind.TheVariants.{Ll, Sc, Vl}
+use Rattle.llsc.specs.declared.calls.CallKind.TheVariants.{Ll, Sc, Vl}
 use Rattle.messages.specs.declared.calls.Moves.TheVariants.{Halves}
 use Rattle.messages.specs.OpenCalls.{kind_of, figure_line, moves_of}
 

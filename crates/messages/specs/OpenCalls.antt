@@ -5,13 +5,13 @@ use Rattle.std.specs.Option.{option_map}
 use Rattle.model.specs.declared.Process.{Process}
 use Rattle.model.specs.Records.{no_process}
 use Rattle.messages.specs.declared.calls.Call.{Call}
-use Rattle.messages.specs.declared.calls.Kind.{Kind}
-use Rattle.messages.specs.declared.calls.Kind.TheVariants.{Ll, Sc, Vl}
+use Rattle.llsc.specs.declared.calls.CallKind.{CallKind}
+use Rattle.llsc.specs.declared.calls.CallKind.TheVariants.{Ll, Sc, Vl}
 use Rattle.messages.specs.declared.calls.Moves.{Moves}
 use Rattle.messages.specs.declared.calls.Moves.TheVariants.{Halves}
 
 -- none where the process is idle
-abbrev pub kind_of : ℕ → Option Kind
+abbrev pub kind_of : ℕ → Option CallKind
 kind_of k = cond (eqb k 0) None (cond (leb k 11) (Some Ll) (cond (eqb k 24) (Some Ll) (cond (eqb k 23) (Some Vl) (Some Sc))))
 
 -- the line of Figure 2 to which a point belongs: 24 is the copy of line 7, 25 and 26 the VL(X) of lines 12 and 14

@@ -1,11 +1,10 @@
 -- The words that tell an open call.
 use Rattle.std.specs.Prelude.{ℕ, ◌/◌, ◌%◌, ◌+◌, ◌++◌, min, take, List, [], ◌∷◌, cond, eqb, codes, Option, None, Some}
 use Rattle.std.specs.Fmt.{decimal}
+use Rattle.llsc.specs.CallKinds.{kind_text}
 use Rattle.messages.specs.declared.calls.Call.{Call}
 use Rattle.messages.specs.declared.calls.Figure.{Figure}
 use Rattle.messages.specs.declared.calls.Figure.TheVariants.{Two, Six}
-use Rattle.messages.specs.declared.calls.Kind.{Kind}
-use Rattle.messages.specs.declared.calls.Kind.TheVariants.{Ll, Sc, Vl}
 use Rattle.messages.specs.declared.calls.Method.{Method}
 use Rattle.messages.specs.declared.calls.Moves.{Moves}
 use Rattle.messages.specs.declared.calls.Moves.TheVariants.{Whole, Halves}
@@ -15,11 +14,6 @@ use Rattle.messages.specs.declared.Left.{Left}
 use Rattle.positions.specs.declared.Sizes.{Sizes}
 use Rattle.positions.specs.declared.StopReport.{StopReport}
 use Rattle.positions.specs.declared.StopReport.TheVariants.{NotRead, AtFault, AtNoItem, AtItem}
-
-abbrev pub kind_text : Kind → List ℕ
-kind_text Ll = codes "LL"
-kind_text Sc = codes "SC"
-kind_text Vl = codes "VL"
 
 abbrev pub figure_text : Figure → List ℕ
 figure_text Two = codes "Figure 2"

@@ -1,28 +1,10 @@
 // The open call of a process: its kind, the line that comes next, the word place where that line moves words, and the
 // own steps so far. The same words for every method.
 ghost use Rattle.std.specs.Prelude.{◌≡◌, Some};
-ghost use Rattle.messages.specs.OpenLines.{kind_text, figure_text, word_text, steps_text, told_text};
+ghost use Rattle.messages.specs.OpenLines.{figure_text, word_text, steps_text, told_text};
 
+pub use llsc::CallKind as Kind;
 use std::fmt;
-
-#[derive(Clone, Copy, PartialEq, Eq)]
-pub enum Kind {
-    Ll,
-    Sc,
-    Vl,
-}
-
-impl fmt::Display for Kind {
-    ghost output = { λ k. Some (kind_text k) };
-
-    fn fmt<W: fmt::Write>(&self, f: &mut fmt::Formatter<W>) -> fmt::Result {
-        match self {
-            Kind::Ll => write!(f, "LL"),
-            Kind::Sc => write!(f, "SC"),
-            Kind::Vl => write!(f, "VL"),
-        }
-    }
-}
 
 // How a line moves words: a whole word to a step, or a half.
 #[derive(Clone, Copy, PartialEq, Eq)]

@@ -19,7 +19,7 @@ pub(crate) fn at(
     text: &[u8],
     place: usize,
 ) -> io::Result<()> {
-    saying::position(to, text, place)?;
+    saying::position(to, Place::of(text, place))?;
     if refusal == Refusal::TooDeep {
         return write!(
             to,

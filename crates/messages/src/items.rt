@@ -8,9 +8,9 @@ use std::io;
 use std::io::Write;
 
 // The entry, and its item, which stands at the place.
-pub(crate) fn entry(to: &mut impl Write, run: Ended, place: usize) -> io::Result<()> {
-    let (before, rest) = run.text.split_at(saying::within(place, run.text));
-    let entry = run.entries.saturating_add(1);
+pub(crate) fn entry(to: &mut impl Write, ended: Ended, place: usize) -> io::Result<()> {
+    let (before, rest) = ended.text.split_at(saying::within(place, ended.text));
+    let entry = ended.run.entries.saturating_add(1);
     write!(to, "entry {entry}, item ")?;
     to.write_all(&rest[..saying::within(shown::item(rest), rest)])?;
     write!(to, " at {}: ", Place::after(positions::look(before)))

@@ -19,18 +19,15 @@ mod refusals;
 mod shown;
 
 use crate::calls::{Call, Figure};
-use llsc::refusals::Refusal;
-use positions::StopReport;
 use std::io;
 use std::io::{ErrorKind, Write};
 use std::process::ExitCode;
+use text_runs::runs::Finished;
 
-// A run of a text that has ended: whether it was refused, the entries done, and where in the text it stopped.
+// A run that has ended, with the calls that it leaves, and its text.
 #[derive(Clone, Copy)]
 pub struct Ended<'a> {
-    pub outcome: Result<(), Refusal>,
-    pub entries: usize,
-    pub report: StopReport,
+    pub run: Finished<Left>,
     pub text: &'a [u8],
 }
 
@@ -64,14 +61,14 @@ pub fn output(to: &mut impl Write, errors: &mut impl Write, made: Option<&[u8]>)
 }
 
 // The message of a run. Nothing where it was not refused and no call is open.
-pub fn explain<W: Write>(to: &mut W, run: Ended, left: Left) -> io::Result<()>
-    ensures { IfOk run.entry.outcome (λ end. OnOk result (Appends (W.contents to.old) (W.contents to.new)
-        (still_open left run.entry.report))) }
+pub fn explain<W: Write>(to: &mut W, ended: Ended) -> io::Result<()>
+    ensures { IfOk ended.entry.run.outcome (λ end. OnOk result (Appends (W.contents to.old) (W.contents to.new)
+        (still_open ended.entry.run.held ended.entry.run.report))) }
 {
-    if let Err(refusal) = run.outcome {
-        refusals::tell(to, refusal, run, &left)?;
+    if let Err(refusal) = ended.run.outcome {
+        refusals::tell(to, refusal, ended)?;
     }
-    open_calls::still_open(to, run.report, &left)
+    open_calls::still_open(to, ended.run.report, &ended.run.held)
 }
 
 // The end of a program that ran a text: the run's output, its message, and the status.
@@ -79,11 +76,10 @@ pub fn conclude(
     to: &mut impl Write,
     errors: &mut impl Write,
     made: Option<&[u8]>,
-    run: Ended,
-    left: Left,
+    ended: Ended,
 ) -> ExitCode
     ensures { (exit_status result ≡ 0) ⊎ (exit_status result ≡ 141) }
 {
-    let told = output(to, errors, made).and_then(|()| explain(errors, run, left));
+    let told = output(to, errors, made).and_then(|()| explain(errors, ended));
     console::status(told)
 }

@@ -4,6 +4,7 @@
 
 ghost use Rattle.std.specs.Prelude.{◌≡◌};
 ghost use Rattle.model.specs.SetUp.{x_at_set_up, bank_at_set_up, help_at_set_up, process_at_set_up, empty_bench};
+ghost use Rattle.model.specs.Replies.{number_of};
 ghost use Rattle.model.specs.declared.Reply.TheVariants.{Accepted};
 
 pub mod sizes;
@@ -112,7 +113,7 @@ pub struct WordStep {
 }
 
 // What an accepted command leaves of the bench and of its process, with its reply.
-// Kept: no `LineStep<Bench>`, as a bench is no place.
+// Kept: no `LineStep<Bench>`, as a bench is no place; one with Moir's would have a type parameter for each field.
 #[derive(Clone, Copy)]
 pub struct Moved {
     pub bench: Bench,
@@ -164,5 +165,16 @@ pub fn process_at_set_up(mybuf: u8) -> Process
     Process {
         mybuf: BufferNumber(mybuf),
         ..Process::default()
+    }
+}
+
+// The number of a refusal, 0 for none.
+// Kept: 01's table says that the number is what is returned, and users compare it.
+pub fn number_of(reply: Reply) -> u8
+    ensures { result ≡ number_of reply }
+{
+    match reply {
+        Reply::Refused(number) => number,
+        _ => 0,
     }
 }

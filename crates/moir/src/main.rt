@@ -11,10 +11,9 @@ fn main(rt: HostRuntime) -> ExitCode {
     let given = &text[..got];
     let mut list = console::large_buffer();
     let out = moir_run::texts::run_text(given, false, &mut list);
+    let left = moir_messages::left(out.held);
     let ended = messages::Ended {
-        outcome: out.outcome,
-        entries: out.entries,
-        report: out.report,
+        run: out.holding(left),
         text: given,
     };
     messages::conclude(
@@ -22,6 +21,5 @@ fn main(rt: HostRuntime) -> ExitCode {
         &mut rt.stderr(),
         list.get(..out.written),
         ended,
-        moir_messages::left(out.held),
     )
 }

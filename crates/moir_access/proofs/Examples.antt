@@ -17,7 +17,7 @@ use Rattle.listing.specs.Quoted.{quoted}
 use Rattle.listing.specs.Decimal.{digits, decimal}
 use Rattle.moir_access.specs.Accesses.{access_of}
 use Rattle.trace_parts.specs.TraceParts.{spaced, bracketed, truth_text}
-use Rattle.moir_access.specs.TraceParts.{item_text, values_text, act_text, shown}
+use Rattle.moir_access.specs.TraceParts.{item_text, values_text, act_text, access_text}
 
 -- of a step of p: p and the access, on a line of its own
 line_of : ℕ → Order → Memory → List ℕ
@@ -26,7 +26,7 @@ line_of p StartSc m = []
 line_of p StartVl m = []
 line_of p Step m =
     let q = record_at m.records (record { 0 = p }) in
-    decimal p ++ shown (access_of (point_of q.line) (record { 0 = p }) m.bench q m.words) ++ quoted "\n"
+    decimal p ++ access_text (access_of (point_of q.line) (record { 0 = p }) m.bench q m.words) ++ quoted "\n"
 
 traced : Memory → List Command → List ℕ
 traced m [] = []
@@ -52,7 +52,7 @@ first_steps :
     ++ quoted "1 7 hdr read 1 0\n"
     ++ quoted "0 13 hdr read 1 0\n"
 unfolding traced line_of command refusal in_range obey step_at access_of set_up set_up_refusal spaced bracketed item_text
-    values_text truth_text act_text shown decimal digits
+    values_text truth_text act_text access_text decimal digits
 first_steps = refl
 
 -- `2 1 5`, `0l 0! 0s6 5(0.) 1l 2(1.) 0! 0l 0! 0s7 2(0.) 1! 1s8 1! 0!`: a CAS on the segment and one on the header fail
@@ -92,7 +92,7 @@ second_read :
     ++ quoted "1 7 hdr read 2 1\n"
     ++ quoted "0 19 hdr CAS 1 0 2 0 false\n"
 unfolding traced line_of command refusal in_range obey step_at access_of set_up set_up_refusal spaced bracketed item_text
-    values_text truth_text act_text shown decimal digits
+    values_text truth_text act_text access_text decimal digits
 second_read = refl
 
 -- `2 2 5`, `0l 0! 0s6 12(0.)`: the tags of the two segments differ between the copies of word 0 and of word 1
@@ -116,5 +116,5 @@ two_words :
     ++ quoted "0 4 A[0][1] read 6\n"
     ++ quoted "0 5 data[1] CAS 0 5 1 6 true\n"
 unfolding traced line_of command refusal in_range obey step_at access_of set_up set_up_refusal spaced bracketed item_text
-    values_text truth_text act_text shown decimal digits
+    values_text truth_text act_text access_text decimal digits
 two_words = refl

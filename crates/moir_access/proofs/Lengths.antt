@@ -14,7 +14,7 @@ use Rattle.moir_access.specs.declared.Content.TheVariants.{Tagged, Word}
 use Rattle.moir_access.specs.declared.Access.{Access}
 use Rattle.trace_parts.specs.TraceParts.{spaced, bracketed, truth_text}
 use Rattle.trace_parts.proofs.Lengths.{spaced_length, number_length, bracketed_length, truth_length}
-use Rattle.moir_access.specs.TraceParts.{item_text, values_text, act_text, shown}
+use Rattle.moir_access.specs.TraceParts.{item_text, values_text, act_text, access_text}
 
 -- no number of an access has more than ten digits, nor its line more than three
 abbrev pub SmallItem : Item → Type 0
@@ -57,8 +57,8 @@ act_length (Cas v u t) s =
     omega (arith, joined (values_text v) (values_text u ++ truth_text t) 22 28 (values_length v s.0) b)
 
 -- what is shown, from the space before the line on
-pub shown_length : (a : Access) → SmallAccess a → length (shown a) ≤ 84
-unfolding shown
+pub shown_length : (a : Access) → SmallAccess a → length (access_text a) ≤ 84
+unfolding access_text
 shown_length a s =
     let b = joined (item_text a.item) (act_text a.act) 26 54 (item_length_lem a.item s.item) (act_length a.act s.act) in
     let line = spaced_length a.line 3 (count_digits a.line (omega (arith, s.line))) in

@@ -29,5 +29,5 @@ act_text (Write v) = quoted " write" ++ values_text v
 act_text (Cas v u t) = quoted " CAS" ++ (values_text v ++ (values_text u ++ truth_text t))
 
 -- "The line is Figure 6's", then the item, then the act
-unfoldable pub shown : Access → List ℕ
-shown a = spaced a.line ++ (item_text a.item ++ act_text a.act)
+unfoldable pub access_text : Access → List ℕ
+access_text a = spaced a.line ++ (item_text a.item ++ act_text a.act)

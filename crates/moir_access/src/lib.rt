@@ -11,7 +11,7 @@ mod on_array;
 mod on_header;
 mod on_segment;
 mod texts;
-pub mod write_access;
+mod write_access;
 
 // A shared item: the header `hdr`, segment k, `data[k]`, or word k of process q's row of A, `A[q][k]`.
 #[derive(Clone, Copy)]

@@ -1,16 +1,17 @@
 // What a trace shows of an access, put into lent bytes by a writer.
-ghost use Rattle.listing.specs.Writing.{Fits, Writes};
-ghost use Rattle.moir_access.specs.TraceParts.{shown};
+ghost use Rattle.moir_access.specs.TraceParts.{access_text};
 
 use crate::{Access, texts};
 use listing::Writer;
+use trace_parts::Shown;
 
-#[tactic(auto, unfolding(crate::specs::TraceParts::shown), using(listing::proofs::WritingLaws::writes_then))]
-pub fn write_access(to: &mut Writer<'_>, access: Access)
-    requires { Fits to.old (shown access) }
-    ensures { Writes to.old (shown access) to.new }
-{
-    trace_parts::spaced(to, access.line as u64);
-    texts::item(to, access.item);
-    texts::act(to, access.act);
+impl Shown for Access {
+    ghost shown = { access_text };
+
+    #[tactic(auto, unfolding(crate::specs::TraceParts::access_text), using(listing::proofs::WritingLaws::writes_then))]
+    fn show(self, to: &mut Writer<'_>) {
+        trace_parts::spaced(to, u64::from(self.line));
+        texts::item(to, self.item);
+        texts::act(to, self.act);
+    }
 }

@@ -11,7 +11,7 @@ use Rattle.moir_model.specs.declared.Process.{Process}
 use Rattle.moir_model.specs.SetUp.{process_at_set_up, records_at_set_up}
 use Rattle.moir_machine.specs.SetUpByValue.{prepared, records_set}
 use Rattle.moir_bench.specs.Lent.{memory}
-use Rattle.moir_machine.proofs.RowLaws.{told_some}
+use Rattle.llsc.proofs.RefusalNumbers.{number_some}
 use Rattle.moir_machine.proofs.SetUpLaws.{records_fit, prepared_number, set_up_law}
 
 pub records_lent : (b : Bench) (rs : List Process) (ws : List ℕ) (n w : ℕ) (v : List ℕ) → 0 ≡ (prepared b (length rs) n w v ws).0 → n ≤ length rs
@@ -33,4 +33,4 @@ pub records_kept : (b : Bench) (rs : List Process) (n : ℕ) (ws : List ℕ) (k 
 records_kept b rs n ws k h = simp (ne_eqb k 0 h)
 
 -- what `set_up` rests on
-pub ruleset setting_up = (records_lent, first_taken, first_written, told_some, records_kept, set_up_law)
+pub ruleset setting_up = (records_lent, first_taken, first_written, number_some, records_kept, set_up_law)

@@ -6,6 +6,7 @@ use crate::points::IDLE;
 use moir_model::Process;
 
 // A step that goes on at another line adds 1 to the count.
+// Kept: `to` and `begun` beside `lines`' own: each is one update, which the two `impl`s of a trait would repeat.
 pub fn to(line: u8, process: Process) -> Process
     requires { process.count < 4294967296 }
     ensures { result ≡ to_line line process }

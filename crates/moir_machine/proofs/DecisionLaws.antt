@@ -23,7 +23,8 @@ use Rattle.moir_rows.specs.CommandRows.{decision_number}
 use Rattle.moir_machine.specs.Decision.{Decides, stored_back}
 use Rattle.lent.specs.Gathered.{gathered}
 use Rattle.rows.proofs.RowLaws.{n_in, neither}
-use Rattle.moir_machine.proofs.RowLaws.{told_some, none_holds}
+use Rattle.llsc.proofs.RefusalNumbers.{number_some}
+use Rattle.moir_machine.proofs.RowLaws.{none_holds}
 use Rattle.lent.proofs.GatheredLaws.{gathered_at, gathered_take}
 
 -- two tables with the same first three rows, and then the same number where those do not hold
@@ -80,4 +81,4 @@ module _ (b : Bench) (rs : List Process) (ws : List ℕ) (p : ℕ) (o : Order) (
       simp (eq-eqb (refusal m p o v) 0 (sym same_number ∙ x.0))
   decision_law (Err r) ws' x =
       let e : refusal m p o v ≡ refusal_number r = sym same_number ∙ x.0 in
-      simp (x.1, e, ne_eqb (refusal_number r) 0 (told_some r))
+      simp (x.1, e, ne_eqb (refusal_number r) 0 (number_some r))

@@ -7,9 +7,6 @@ use native.Mathlib.Omega.{arith}
 use lib.Dec.{eqb, ltb, leb}
 use borrow.Author.Tests.{ltb-true, ltb-false, leb-true, leb-false, eqb-true, not-false}
 use Rattle.llsc.specs.declared.Order.{Order}
-use Rattle.llsc.specs.declared.refusals.Refusal.{Refusal}
-use Rattle.llsc.specs.declared.refusals.Refusal.TheVariants.{NOutOfRange}
-use Rattle.llsc.specs.Refusals.{refusal_number}
 use Rattle.llsc.specs.Rows.{row1, row2, row4, row8, row9, brings_value}
 use Rattle.moir_model.specs.declared.Header.{Header}
 use Rattle.moir_model.specs.declared.Bench.{Bench}
@@ -20,11 +17,6 @@ use Rattle.moir_model.specs.Refusals.{header_ok, line_ok, count_ok, is_idle, pro
 use Rattle.laws.proofs.AndLaws.{left, right}
 use Rattle.rows.proofs.RowLaws.{cleared, n_in, w_in, neither}
 use Rattle.moir_rows.specs.CommandRows.{ranges_ok, decision_number}
-
--- every refusal has a number
-pub told_some : (r : Refusal) → refusal_number r ≡ 0 → ⊥
-told_some NOutOfRange e = omega (arith, e)
-told_some r e = omega (arith, e)
 
 -- what row 9 leaves of a process
 pub record InRange (n w : ℕ) (q : Process) : Type 0 where

@@ -18,7 +18,7 @@ use Rattle.moir_model.specs.SetUp.{bench_at_set_up, words_at_set_up, set_up, set
 use Rattle.moir_machine.specs.SetUpByValue.{set_up_number, set_up_number_lem, Accepted, prepared, records_set}
 use Rattle.laws.proofs.ListLaws.{sets_append}
 use Rattle.rows.proofs.RowLaws.{cleared, n_in, w_in, neither}
-use Rattle.moir_machine.proofs.RowLaws.{told_some}
+use Rattle.llsc.proofs.RefusalNumbers.{number_some}
 
 -- A[0] and the segments are rows of the lent words
 pub first_row_lem : (n w : ℕ) → 1 ≤ n → w ≤ n * w
@@ -101,7 +101,7 @@ module _ (b : Bench) (len n w : ℕ) (value ws : List ℕ) where
       by (suc k) = rw (ne_eqb (suc k) 0 (λ z. omega (arith, z))) refl
 
 -- what `prepare` rests on
-pub ruleset preparing = (set_up_fits, told_some, prepared_refused, prepared_done)
+pub ruleset preparing = (set_up_fits, number_some, prepared_refused, prepared_done)
 
 -- The by-value set-up is the set-up, once the records are set up too.
 module _ (b : Bench) (rs : List Process) (ws : List ℕ) (n w : ℕ) (value : List ℕ) where

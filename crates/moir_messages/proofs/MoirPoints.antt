@@ -3,7 +3,7 @@ use mathlib.Core.Path.{◌≡◌, refl}
 use mathlib.Core.List.{[], ◌∷◌, map}
 use Rattle.std.specs.Prelude.{None, Some}
 use Rattle.moir_model.specs.Points.{Point, idle, line_number, busy_points}
-use Rattle.messages.specs.declared.calls.Kind.TheVariants.{Ll, Sc, Vl}
+use Rattle.llsc.specs.declared.calls.CallKind.TheVariants.{Ll, Sc, Vl}
 use Rattle.messages.specs.declared.calls.Moves.TheVariants.{Whole}
 use Rattle.moir_messages.specs.MoirCalls.{kind_of, figure_line, moves_of}
 

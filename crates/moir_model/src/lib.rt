@@ -5,20 +5,21 @@
 
 ghost use Rattle.std.specs.Prelude.{◌≡◌};
 ghost use Rattle.moir_model.specs.SetUp.{header_at_set_up, process_at_set_up, empty_bench};
+ghost use Rattle.moir_model.specs.Replies.{number_of};
 
 use llsc::ProcessNumber;
 
 pub mod sizes;
 
 // A header: Figure 6's headertype, a tag and the number of the process that wrote it.
-#[derive(Clone, Copy, PartialEq, Eq)]
+#[derive(Clone, Copy, Default, PartialEq, Eq)]
 pub struct Header {
     pub tag: u16,
     pub pid: ProcessNumber,
 }
 
 // A segment, or a private copy of one: Figure 6's segmenttype, a tag and a word.
-#[derive(Clone, Copy, PartialEq, Eq)]
+#[derive(Clone, Copy, Default, PartialEq, Eq)]
 pub struct Segment {
     pub tag: u16,
     pub val: u64,
@@ -35,7 +36,7 @@ pub struct Bench {
 
 // The private numbers of a process: Figure 6's private variables (`word` is its i) and the tag that it keeps. Its return
 // area (retval) and its offer area (newval) lie in the lent words.
-#[derive(Clone, Copy)]
+#[derive(Clone, Copy, Default)]
 pub struct Process {
     pub line: u8,
     pub word: usize,
@@ -71,6 +72,7 @@ pub struct LineStep {
 }
 
 // What an accepted command leaves of the bench and of its process, with its reply.
+// Kept: beside `model`'s own, as one for both would have a type parameter for each field.
 #[derive(Clone, Copy)]
 pub struct Moved {
     pub bench: Bench,
@@ -82,10 +84,7 @@ pub struct Moved {
 pub fn header_at_set_up() -> Header
     ensures { result ≡ header_at_set_up }
 {
-    Header {
-        tag: 0,
-        pid: ProcessNumber(0),
-    }
+    Header::default()
 }
 
 // A bench record before any set-up, for a program to lend.
@@ -100,22 +99,20 @@ pub fn empty_bench() -> Bench
     }
 }
 
-// A process at the set-up.
+// A process at the set-up: every number is 0.
 pub fn process_at_set_up() -> Process
     ensures { result ≡ process_at_set_up }
 {
-    let header = header_at_set_up();
-    Process {
-        line: 0,
-        word: 0,
-        count: 0,
-        answered: false,
-        keep: 0,
-        x: header,
-        oldhdr: header,
-        newhdr: header,
-        h: header,
-        y: Segment { tag: 0, val: 0 },
-        z: Segment { tag: 0, val: 0 },
+    Process::default()
+}
+
+// The number of a refusal, 0 for none.
+// Kept: 01's table says that the number is what is returned, and users compare it.
+pub fn number_of(reply: Reply) -> u8
+    ensures { result ≡ number_of reply }
+{
+    match reply {
+        Reply::Refused(number) => number,
+        _ => 0,
     }
 }

@@ -1,19 +1,19 @@
 // The sizes that follow from N and W, each said once.
-ghost use Rattle.std.specs.Prelude.{◌≡◌, ◌≤◌};
+ghost use Rattle.std.specs.Prelude.{◌≡◌};
 ghost use Rattle.moir_model.specs.Sizes.{lent_words, busy_most};
 
+use llsc::counts::{Processes, Width};
+
 // The words that a set-up needs.
-pub fn lent_words(n: usize, w: usize) -> usize
-    requires { (n ≤ 16) × (w ≤ 64) }
-    ensures { result ≡ lent_words n w }
+pub fn lent_words(count: Processes, width: Width) -> usize
+    ensures { result ≡ lent_words count.n width.w }
 {
-    (3 * n + 1) * w
+    (3 * count.n + 1) * width.w
 }
 
 // The highest count of a busy process.
-pub fn busy_most(w: usize) -> usize
-    requires { w ≤ 64 }
-    ensures { result ≡ busy_most w }
+pub fn busy_most(width: Width) -> usize
+    ensures { result ≡ busy_most width.w }
 {
-    6 * w + 1
+    6 * width.w + 1
 }

@@ -3,6 +3,7 @@ ghost use Rattle.std.specs.Prelude.{◌≡◌, ◌≤◌, [], take};
 ghost use Rattle.std.specs.List.{list_all};
 ghost use Rattle.moir_model.specs.Refusals.{header_ok, is_idle, line_ok, count_ok, process_ok, in_range};
 
+use llsc::counts::{Processes, Width};
 use moir_lines::points;
 use moir_model::{Bench, Header, Process, sizes};
 
@@ -14,6 +15,7 @@ pub fn header_ok(n: usize, header: Header) -> bool
 }
 
 // Whether a process has no open call.
+// Kept: beside `rows`' own: one comparison, of a field of another record, with that bench's own constant.
 pub fn is_idle(process: Process) -> bool
     ensures { result ≡ is_idle process }
 {
@@ -41,38 +43,37 @@ pub fn line_ok(process: Process) -> bool
 
 // An idle process has count 0, a busy one at most 6W+1.
 // Kept: beside `rows`' own, whose most is 8W+6: one over idle, count and most would leave each its call and its contract.
-pub fn count_ok(w: usize, process: Process) -> bool
-    requires { w ≤ 64 }
-    ensures { result ≡ count_ok w process }
+pub fn count_ok(width: Width, process: Process) -> bool
+    ensures { result ≡ count_ok width.w process }
 {
     let most = if is_idle(process) {
         0
     } else {
-        sizes::busy_most(w)
+        sizes::busy_most(width)
     };
     process.count <= most
 }
 
 // A process record.
-pub fn process_ok(n: usize, w: usize, process: Process) -> bool
-    requires { w ≤ 64 }
-    ensures { result ≡ process_ok n w process }
+pub fn process_ok(n: usize, width: Width, process: Process) -> bool
+    ensures { result ≡ process_ok n width.w process }
 {
     header_ok(n, process.x)
         && header_ok(n, process.oldhdr)
         && header_ok(n, process.newhdr)
         && header_ok(n, process.h)
         && line_ok(process)
-        && process.word < w
-        && count_ok(w, process)
+        && process.word < width.w
+        && count_ok(width, process)
 }
 
 // The first N of sixteen records.
-pub fn records_ok(n: usize, w: usize, all: [Process; 16]) -> bool
-    requires { (n ≤ 16) × (w ≤ 64) }
-    ensures { result ≡ list_all (process_ok n w) (take n all) }
+pub fn records_ok(count: Processes, width: Width, all: [Process; 16]) -> bool
+    ensures { result ≡ list_all (process_ok count.n width.w) (take count.n all) }
 {
-    all.iter().take(n).all(|process| process_ok(n, w, *process))
+    all.iter()
+        .take(count.n)
+        .all(|process| process_ok(count.n, width, *process))
 }
 
 // Row 9, over the bench and the records.
@@ -82,5 +83,7 @@ pub fn in_range(bench: Bench, all: [Process; 16]) -> bool
     requires { (bench.n ≤ 16) × (bench.w ≤ 64) }
     ensures { result ≡ in_range (record { bench = bench; records = all; words = [] }) }
 {
-    header_ok(bench.n, bench.header) && records_ok(bench.n, bench.w, all)
+    let count = Processes { n: bench.n };
+    let width = Width { w: bench.w };
+    header_ok(count.n, bench.header) && records_ok(count, width, all)
 }

@@ -1,20 +1,16 @@
--- What an entry brings, that the list keeps it small, and whether `!` stays.
-use mathlib.Core.Path.{◌≡◌, refl, sym, ap, subst}
-use mathlib.Core.Bool.{Bool, true, false, cond}
-use mathlib.Core.List.{◌∷◌}
+-- What an entry brings, and whether `!` stays.
+use mathlib.Core.Path.{◌≡◌, refl, sym, ap, ◌∙◌}
+use mathlib.Core.List.{[], ◌∷◌}
+use Rattle.std.specs.Prelude.{Option, Some, None}
 use Prim.Native.Nat.{ℕ, zero, suc, ◌≤◌}
 use native.Mathlib.Omega.{arith}
 use native.Mathlib.Nat.{not-suc-le-zero}
-use lib.Dec.{eqb}
 use lib.ListN.{length, take, replicate, length-replicate}
 use borrow.Author.Tests.{eq-eqb}
 use Rattle.notation.specs.declared.Entry.{Entry}
 use Rattle.notation.specs.declared.Entry.TheVariants.{StartLl, StartVl, StartSc, Step, Finish}
-use Rattle.notation.specs.Grammar.{largest}
-use Rattle.notation.specs.EntryWords.{entry_in, entry_of_kind, kind_in, process_in, number_in}
-use Rattle.notation.specs.Stretches.{Small}
 use Rattle.text_runs.specs.TextRun.{value_of}
-use Rattle.text_runs.proofs.MiddleLaws.{gone_on}
+use Rattle.text_runs.specs.Carrying.{gone_on}
 use Rattle.moir_semantics.specs.TextRun.{figure6, Progress}
 use Rattle.moir_run.specs.Turned.{brought_by, words_brought, stays_in}
 
@@ -27,12 +23,30 @@ pub first_words : (w k : ℕ) → w ≤ 64 → take w (replicate 64 k) ≡ repli
 first_words w k h = take_replicate w 64 k h
 
 -- "The value k has k in all W words"
-pub value_same : (e : Entry) (w : ℕ) → w ≤ 64 → take (words_brought e w) (replicate 64 (brought_by e)) ≡ value_of w e
-value_same (StartLl p) w h = refl
-value_same (StartVl p) w h = refl
-value_same (StartSc p k) w h = first_words w k h
-value_same (Step p) w h = refl
-value_same (Finish p) w h = refl
+abbrev number_or : Option ℕ → ℕ
+number_or None = 0
+number_or (Some k) = k
+
+abbrev brings : Option ℕ → ℕ
+brings None = 0
+brings (Some k) = 1
+
+none_some : {k : ℕ} → ◌≡◌ {A = Option ℕ} None (Some k) → ⊥
+none_some q = let w : ◌≡◌ {A = ℕ} 0 1 = ap brings q in omega (arith, w)
+
+pub value_some : (e : Entry) (w : ℕ) {k : ℕ} → w ≤ 64 → brought_by e ≡ Some k → take w (replicate 64 k) ≡ value_of w e
+value_some (StartLl p) w h q = absurd (none_some q)
+value_some (StartVl p) w h q = absurd (none_some q)
+value_some (StartSc p j) w {k} h q = first_words w k h ∙ ap (λ (i : ℕ). replicate w i) (sym (ap number_or q))
+value_some (Step p) w h q = absurd (none_some q)
+value_some (Finish p) w h q = absurd (none_some q)
+
+pub value_none : (e : Entry) (w : ℕ) → brought_by e ≡ None → value_of w e ≡ []
+value_none (StartLl p) w q = refl
+value_none (StartVl p) w q = refl
+value_none (StartSc p j) w q = absurd (none_some (sym q))
+value_none (Step p) w q = refl
+value_none (Finish p) w q = refl
 
 pub value_count : (e : Entry) (w : ℕ) → words_brought e w ≡ length (value_of w e)
 value_count (StartLl p) w = refl
@@ -40,29 +54,6 @@ value_count (StartVl p) w = refl
 value_count (StartSc p k) w = sym (length-replicate w k)
 value_count (Step p) w = refl
 value_count (Finish p) w = refl
-
-pub brought_few : (e : Entry) (w : ℕ) → w ≤ 64 → words_brought e w ≤ 64
-brought_few (StartLl p) w h = omega arith
-brought_few (StartVl p) w h = omega arith
-brought_few (StartSc p k) w h = h
-brought_few (Step p) w h = omega arith
-brought_few (Finish p) w h = omega arith
-
--- the numbers of a kept entry are small
-either_small : (t : Bool) (a b : Entry) → Small a → Small b → Small (cond t a b)
-either_small true a b x y = x
-either_small false a b x y = y
-
-kind_small : (kind p k : ℕ) → p ≤ largest → k ≤ largest → Small (entry_of_kind kind p k)
-kind_small kind p k x y =
-    either_small (eqb kind 0) (StartLl p) _ x (either_small (eqb kind 1) (StartVl p) _ x (either_small (eqb kind 2) (StartSc p k) _ (x, y) (either_small (eqb kind 3) (Step p) (Finish p) x x)))
-
-pub kept_small : (word : ℕ) → Small (entry_in word)
-unfolding entry_in
-kept_small word = kind_small (kind_in word) (process_in word) (number_in word) (omega arith) (omega arith)
-
-pub kept_as : (e : Entry) (word : ℕ) → e ≡ entry_in word → Small e
-kept_as e word q = subst Small (sym q) (kept_small word)
 
 -- whether `!` stays is seen in the records
 pub goes_stays : (e : Entry) (s : Progress) → s.stop ≡ 0 → gone_on figure6 e s ≡ stays_in e s.memory.records

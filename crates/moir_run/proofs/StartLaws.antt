@@ -14,7 +14,7 @@ use Rattle.positions.specs.declared.StopReport.TheVariants.{NotRead}
 use Rattle.text_runs.specs.TextRun.{room_needed, carry_all, begun, ended}
 use Rattle.text_runs.specs.StopPlaces.{at_no_item, item_report}
 use Rattle.text_runs.specs.KeptEntries.{entries_in, refused_with, started_with, report_with}
-use Rattle.text_runs.proofs.MiddleLaws.{Over}
+use Rattle.text_runs.specs.Carrying.{Over}
 use Rattle.text_runs.proofs.TextLaws.{not_begun, is_begun, run_14}
 use Rattle.text_runs.proofs.StopLaws.{stops_14}
 use Rattle.moir_model.specs.declared.Bench.{Bench}
@@ -25,34 +25,36 @@ use Rattle.moir_model.specs.Refusals.{set_up_rows_of}
 use Rattle.moir_model.specs.SetUp.{empty_bench, bench_at_set_up, words_at_set_up, at_set_up, set_up_refusal, set_up}
 use Rattle.std.specs.Prelude.{Err}
 use Rattle.llsc.specs.declared.refusals.Refusal.TheVariants.{NoRoom}
-use Rattle.llsc.specs.Refusals.{number_told}
+use Rattle.llsc.specs.declared.refusals.Refusal.{Refusal}
+use Rattle.llsc.specs.Refusals.{refusal_number, number_told}
 use Rattle.moir_machine.specs.SetUpByValue.{set_up_number, set_up_number_lem, Accepted}
 use Rattle.moir_machine.proofs.SetUpLaws.{set_up_fits}
 use Rattle.moir_semantics.specs.TextRun.{figure6, Progress}
 use Rattle.moir_semantics.proofs.SmallWords.{Small, small_at_set_up}
 use Rattle.listing.specs.declared.Writer.{Writer}
-use Rattle.moir_run.specs.declared.turns.Run.{Run}
+use Rattle.text_runs.specs.declared.runs.Run.{Run}
+use Rattle.moir_run.specs.declared.turns.Held.{Held}
 use Rattle.text_runs.specs.declared.runs.Carried.{Carried}
 use Rattle.text_runs.specs.declared.runs.Finished.{Finished}
-use Rattle.text_runs.specs.Runs.{Outcome, finished_of, closed, Closable}
+use Rattle.text_runs.specs.Runs.{Outcome, finished_of, fresh_run, closed, closed_at, Closable}
 use Rattle.moir_run.specs.RunState.{progress, Sound}
 use Rattle.moir_run.specs.TextRan.{at_start, seen, returned, TextRan}
-use Rattle.moir_run.specs.Finished.{fresh_run, Carries, Roomy}
+use Rattle.moir_run.specs.Finished.{Roomy}
 use Rattle.moir_run.proofs.EntryLaws.{first_words}
 use Rattle.moir_run.proofs.TurnLaws.{first_small}
 
 -- a sound run has room for its last line
-pub sound_closable : {r : Run} {o : Outcome} {ws : List ℕ} {to : Writer} → Sound (progress r (number_told o) ws to) → Closable r.entries o to
+pub sound_closable : {r : Run Held} {o : Outcome} {ws : List ℕ} {to : Writer} → Sound (progress r (number_told o) ws to) → Closable r.entries o to
 sound_closable s = record { few = s.entries; stop = s.stop; room = s.room }
 
 -- with its last line a run is ended
-pub closed_seen : {report : StopReport} {list' : List ℕ} {out : Finished (List Process)} (r : Run) (o : Outcome) (ws : List ℕ) (to : Writer)
-    → ◌≡◌ {A = Finished (List Process) × List ℕ} (out, list') (closed r.all r.entries o report to) → returned out list' ≡ seen (ended figure6 (progress r (number_told o) ws to))
+pub closed_seen : {report : StopReport} {list' : List ℕ} {out : Finished (List Process)} (r : Run Held) (o : Outcome) (ws : List ℕ) (to : Writer)
+    → ◌≡◌ {A = Finished (List Process) × List ℕ} (out, list') (closed r.held.all r.entries o report to) → returned out list' ≡ seen (ended figure6 (progress r (number_told o) ws to))
 closed_seen r o ws to e = ap (λ (x : Finished (List Process) × List ℕ). returned x.0 x.1) e
 
-pub closed_report : {report : StopReport} {l l' : List ℕ} {out : Finished (List Process)} {at : ℕ} (r : Run) (o : Outcome)
-    → ◌≡◌ {A = Finished (List Process) × List ℕ} (out, l') (finished_of r.all r.entries o report at, l) → out.report ≡ report
-closed_report r o e = ap (λ (x : Finished (List Process) × List ℕ). x.0.report) e
+pub closed_report : {report : StopReport} {l l' : List ℕ} {out : Finished (List Process)} {all : List Process} {entries at : ℕ} (o : Outcome)
+    → ◌≡◌ {A = Finished (List Process) × List ℕ} (out, l') (finished_of all entries o report at, l) → out.report ≡ report
+closed_report o e = ap (λ (x : Finished (List Process) × List ℕ). x.0.report) e
 
 pub number_few : (n w : ℕ) {k : ℕ} → k ≡ set_up_number n w 16 3136 w → k ≤ 15
 unfolding set_up_number
@@ -76,12 +78,21 @@ pub room_left : (t : Bool) (list : List ℕ) {k : ℕ} → k ≡ room_needed t �
 room_left t list e l = omega (arith, e, l)
 
 -- "A refusal 14 at the start writes nothing."
-pub no_room : {run : Run} {b : Bench} (t : Bool) (text list : List ℕ) → run ≡ fresh_run b t
-    → length list < room_needed t → TextRan t text list (finished_of run.all 0 (Err NoRoom) NotRead 0) list
-no_room t text list eu l = record {
-  same = ap (λ (x : Run). returned (finished_of x.all 0 (Err NoRoom) NotRead 0) list) eu ∙ ap seen (run_14 figure6 t at_start text list l);
+pub no_room : {all : List Process} (t : Bool) (text list : List ℕ) → all ≡ replicate 16 no_process
+    → length list < room_needed t → TextRan t text list (finished_of all 0 (Err NoRoom) NotRead 0) list
+no_room t text list e l = record {
+  same = ap (λ (x : List Process). returned (finished_of x 0 (Err NoRoom) NotRead 0) list) e ∙ ap seen (run_14 figure6 t at_start text list l);
   stops = stops_14 figure6 l;
 }
+
+-- nor does a run that is refused before its set-up begin
+pub refused_seen : {report : StopReport} {all : List Process} {f : Refusal} {l : List ℕ} (list : List ℕ) {out : Finished (List Process)} → all ≡ replicate 16 no_process
+    → ◌≡◌ {A = Finished (List Process) × List ℕ} (out, l) (closed_at all 0 (Err f) report list 0)
+    → (returned out l ≡ seen (refused_with figure6 (refusal_number f) at_start list)) × (out.report ≡ report)
+refused_seen {report} {f = f} list q e = (
+  ap (λ (x : Finished (List Process) × List ℕ). returned x.0 x.1) (e ∙ ap (λ (x : List Process). closed_at x 0 (Err f) report list 0) q),
+  closed_report (Err f) e,
+)
 
 -- the records are at their set-up from the start
 same_set : (a i : ℕ) (q : Process) → set (replicate a q) i q ≡ replicate a q
@@ -130,18 +141,19 @@ module _ (t : Bool) (n w v : ℕ) (list : List ℕ) where
   pub accepted : set_up_number n w 16 3136 w ≡ 0 → Accepted n w 3136 w
   accepted z = set_up_fits n w 16 3136 w z
 
-  pub first_state_is : {r : Run} {b₀ b : Bench} {ws₀ ws value l : List ℕ} {at : ℕ} → l ≡ list → at ≡ 0 → w ≤ 64 → r ≡ fresh_run b t → b ≡ bench_at_set_up b₀ n w → b₀ ≡ empty_bench
+  pub first_state_is : {r : Run Held} {b₀ b : Bench} {all : List Process} {ws₀ ws value l : List ℕ} {at : ℕ} → l ≡ list → at ≡ 0 → w ≤ 64
+      → r ≡ fresh_run (record { bench = b; all = all }) t → all ≡ replicate 16 no_process → b ≡ bench_at_set_up b₀ n w → b₀ ≡ empty_bench
       → ws ≡ words_at_set_up ws₀ n w (take w value) → ws₀ ≡ replicate 3136 0 → value ≡ replicate 64 v → record {
-        memory = record { bench = r.bench; records = r.all; words = ws };
+        memory = record { bench = r.held.bench; records = r.held.all; words = ws };
         listing = l;
         written = at;
         entries = r.entries;
         stop = 0;
         traced = r.traced;
       } ≡ first_state
-  first_state_is {value = value} el en few er eb e₀ ew ez ev =
+  first_state_is {value = value} el en few er ea eb e₀ ew ez ev =
       let is : take w value ≡ replicate w v = ap (take w) ev ∙ first_words w v few in
-      rw (el, en, er, eb, e₀, ew, ez, is)
+      rw (el, en, er, ea, eb, e₀, ew, ez, is)
 
   -- "then 1, 2, 3, then the set-up, then the entries"
   module _ (es : List Entry) (ps : List ℕ) {k : ℕ} (e : k ≡ set_up_number n w 16 3136 w) where
@@ -179,10 +191,10 @@ module _ (t : Bool) (n w v : ℕ) (list : List ℕ) where
 
 -- the entries carried out, with the last line
 pub carried_closed : (t : Bool) (n w v : ℕ) (list ps : List ℕ) → 0 ≡ set_up_number n w 16 3136 w
-    → {kept ws ws' l l' : List ℕ} {to to' : Writer} {run : Run} {out : Carried Run} {report : StopReport} {fin : Finished (List Process)}
-    → Carries kept run ws to out ws' to' → progress run 0 ws to ≡ first_state t n w v list
-    → ◌≡◌ {A = Finished (List Process) × List ℕ} (fin, l) (closed out.run.all out.run.entries out.outcome report to') → l' ≡ l
+    → (kept ws' : List ℕ) (to' : Writer) {s : Progress} {l l' : List ℕ} {out : Carried Held} {report : StopReport} {fin : Finished (List Process)}
+    → Over figure6 (entries_in kept) s out.at (progress out.run (number_told out.outcome) ws' to') → s ≡ first_state t n w v list
+    → ◌≡◌ {A = Finished (List Process) × List ℕ} (fin, l) (closed out.run.held.all out.run.entries out.outcome report to') → l' ≡ l
     → returned fin l' ≡ seen (started_with figure6 t n w v (entries_in kept) at_start list)
-carried_closed t n w v list ps e {kept = kept} {ws' = ws'} {to' = to'} {out = out} {fin = fin} x q c el =
+carried_closed t n w v list ps e kept ws' to' {out = out} {fin = fin} x q c el =
     ap (returned fin) el ∙ closed_seen out.run out.outcome ws' to' c
-    ∙ carried_start t n w v list (entries_in kept) ps e refl q x.over
+    ∙ carried_start t n w v list (entries_in kept) ps e refl q x

@@ -5,7 +5,7 @@ use mathlib.Core.List.{List, [], ◌∷◌, ◌++◌}
 use Prim.Native.Nat.{ℕ, ◌+◌, ◌-◌, ◌≤◌, ◌<◌}
 use native.Mathlib.Omega.{arith}
 use lib.Dec.{eqb, ltb, leb}
-use lib.ListN.{length, set, take, replicate, length-set}
+use lib.ListN.{length, set, length-set}
 use lib.Seq.{sets, length-sets}
 use borrow.Author.Tests.{eq-eqb, ne_eqb, eqb-true, eqb-false, le-leb, lt-leb, lt-ltb, le-ltb, leb-false, leb-true, ltb-false, ltb-true}
 use Rattle.llsc.specs.declared.ProcessNumber.{ProcessNumber}
@@ -24,6 +24,7 @@ use Rattle.listing.specs.Writing.{Wrote, Fits, Writes}
 use Rattle.listing.proofs.WritingLaws.{wrote, writes_then, fits_first, fits_then}
 use Rattle.text_runs.specs.TextRun.{most_entries, room_needed, process_of, order_of, value_of}
 use Rattle.text_runs.specs.TextRun as T
+use Rattle.text_runs.specs.Parts as P
 use Rattle.text_runs.specs.Parts.{before_entry}
 use Rattle.text_runs.proofs.SingleEntries.{outcome, made_commanded}
 use Rattle.text_runs.proofs.KeptLaws.{either}
@@ -44,13 +45,14 @@ use Rattle.moir_rows.specs.CommandRows.{decision_number}
 use Rattle.moir_steps.specs.Ranges.{Ready, Obeyable}
 use Rattle.moir_machine.proofs.ObeyLaws.{obeyable}
 use Rattle.moir_access.specs.declared.Access.{Access}
-use Rattle.moir_semantics.specs.TextRun.{figure6, Progress, line_of}
+use Rattle.moir_access.specs.TraceParts.{access_text}
+use Rattle.moir_semantics.specs.TextRun.{figure6, Progress, line_of, answers}
 use Rattle.moir_semantics.proofs.AcceptedRows.{unrefused}
 use Rattle.moir_semantics.proofs.SmallWords.{Small, SmallValue, Plain, accepted, wll, named, sc, vl, leaves, small_command}
 use Rattle.moir_semantics.proofs.LineLengths.{value_small, lines_fit}
 use Rattle.moir_run.specs.RunState.{Sound, Free}
-use Rattle.moir_run.specs.Turned.{brought_by, words_brought, Listable, answer_line, access_seen, shown_line}
-use Rattle.moir_run.proofs.EntryLaws.{value_same, value_count, brought_few}
+use Rattle.moir_run.specs.Turned.{words_brought, Listable, answer_line, access_seen, shown_line}
+use Rattle.moir_run.proofs.EntryLaws.{value_count}
 
 -- the number that the code finds is the command's
 pub number_same : (m : Memory) (p : ℕ) (o : Order) (v : List ℕ) {k : ℕ} → length m.records ≡ 16 → k ≡ length v
@@ -403,9 +405,6 @@ module _ {e : Entry} {s : Progress} (f : Free e s) where
   pub process_few : {p : ℕ} → p ≡ process_of e → p < 16
   process_few q = omega (arith, q, process_small)
 
-  pub count_few : {count : ℕ} → count ≡ words_brought e m₁.bench.w → count ≤ 64
-  count_few q = omega (arith, q, brought_few e m₁.bench.w width_small)
-
   module _ {p : ℕ} {q : Process} (ep : p ≡ process_of e) (eq : q ≡ record_at m₁.records (record { 0 = p })) where
     own_record : q ≡ q₁
     own_record = eq ∙ ap (λ (i : ℕ). record_at m₁.records (record { 0 = i })) ep
@@ -413,28 +412,24 @@ module _ {e : Entry} {s : Progress} (f : Free e s) where
     pub ready_as : Ready m₁.bench q (record { 0 = p }) m₁.words
     ready_as = rw (own_record, ep) entry_obeyable.ready
 
-    module _ {k count : ℕ} {o : Order} (ek : k ≡ brought_by e) (ec : count ≡ words_brought e m₁.bench.w) (eo : o ≡ order_of e) where
-      value_is : take count (replicate 64 k) ≡ v₁
-      value_is = ap (λ (i : ℕ). take i (replicate 64 k)) ec ∙ ap (λ (i : ℕ). take (words_brought e m₁.bench.w) (replicate 64 i)) ek ∙ value_same e m₁.bench.w width_small
+    pub obeyable_as : Obeyable (order_of e) (record { 0 = p }) v₁ m₁.bench q m₁.words
+    obeyable_as = rw (own_record, ep) entry_obeyable
 
-      pub obeyable_as : Obeyable o (record { 0 = p }) (take count (replicate 64 k)) m₁.bench q m₁.words
-      obeyable_as = rw (value_is, own_record, ep, eo) entry_obeyable
+    module _ {moved : Moved} {ws : List ℕ} (d : ◌≡◌ {A = Moved × List ℕ} (moved, ws) (obey (order_of e) (record { 0 = p }) v₁ m₁.bench q m₁.words)) where
+      is_made : ◌≡◌ {A = Moved × List ℕ} (moved, ws) made
+      is_made = d ∙ rw (own_record, ep)
 
-      module _ {moved : Moved} {ws : List ℕ}
-          (d : ◌≡◌ {A = Moved × List ℕ} (moved, ws) (obey o (record { 0 = p }) (take count (replicate 64 k)) m₁.bench q m₁.words)) where
-        is_made : ◌≡◌ {A = Moved × List ℕ} (moved, ws) made
-        is_made = d ∙ rw (value_is, own_record, ep, eo)
+      module _ {a : Option Access} (ea : a ≡ access_seen s.traced (record { 0 = p }) m₁.bench q m₁.words) where
+        is_seen : a ≡ seen
+        is_seen = ea ∙ rw (own_record, ep)
 
-        module _ {a : Option Access} (ea : a ≡ access_seen s.traced (record { 0 = p }) m₁.bench q m₁.words) where
-          is_seen : a ≡ seen
-          is_seen = ea ∙ rw (own_record, ep)
+        module _ {answered : Bool} (et : answered ≡ answers moved.reply) where
+          pub shown_room : {to : Writer} → Behind s to → Fits to (P.shown_line access_text (s.entries + 1) a e answered)
+          shown_room g = rw (is_seen, et) (fits_first _ _ (lines_room is_made g))
 
-          pub shown_room : {to : Writer} → Behind s to → Fits to (shown_line (s.entries + 1) a e moved.reply)
-          shown_room g = rw is_seen (fits_first _ _ (lines_room is_made g))
-
-          module _ {to to₁ : Writer} (g : Behind s to) (w : Writes to (shown_line (s.entries + 1) a e moved.reply) to₁) where
+          module _ {to to₁ : Writer} (g : Behind s to) (w : Writes to (P.shown_line access_text (s.entries + 1) a e answered) to₁) where
             shown_seen : Writes to (shown_line (s.entries + 1) seen e moved.reply) to₁
-            shown_seen = subst (λ (y : Option Access). Writes to (shown_line (s.entries + 1) y e moved.reply) to₁) is_seen w
+            shown_seen = rw (is_seen, et) at w
 
             pub listable_as : Listable moved.reply p moved.bench ws to₁
             listable_as = rw ep (listable is_made g shown_seen)

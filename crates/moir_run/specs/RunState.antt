@@ -1,8 +1,6 @@
 -- The run as the code holds it, and what holds of it at every moment.
 -- Inner: `progress` gives `text_runs`' run of it; `TurnLaws` proves that a turn of the loop is `single` and keeps it sound.
-use Rattle.std.specs.Prelude.{◌≡◌, ℕ, ◌+◌, ◌≤◌, ◌<◌, List, Result, Ok, Err, length}
-use Rattle.llsc.specs.declared.refusals.Refusal.{Refusal}
-use Rattle.llsc.specs.Refusals.{refusal_number}
+use Rattle.std.specs.Prelude.{◌≡◌, ℕ, ◌+◌, ◌≤◌, ◌<◌, List, length}
 use Rattle.notation.specs.declared.Entry.{Entry}
 use Rattle.text_runs.specs.TextRun.{most_entries, lines_of}
 use Rattle.text_runs.specs.Runs.{last_room}
@@ -10,23 +8,19 @@ use Rattle.text_runs.proofs.SingleEntries.{outcome}
 use Rattle.moir_semantics.specs.TextRun.{figure6, Progress}
 use Rattle.moir_semantics.proofs.SmallWords.{Small}
 use Rattle.listing.specs.declared.Writer.{Writer}
-use Rattle.moir_run.specs.declared.turns.Run.{Run}
+use Rattle.text_runs.specs.declared.runs.Run.{Run}
+use Rattle.moir_run.specs.declared.turns.Held.{Held}
 
 -- the run, with the number that it stops with, 0 while it goes on, the lent words and where its listing goes
-abbrev pub progress : Run → ℕ → List ℕ → Writer → Progress
+abbrev pub progress : Run Held → ℕ → List ℕ → Writer → Progress
 progress r k words to = record {
-  memory = record { bench = r.bench; records = r.all; words = words };
+  memory = record { bench = r.held.bench; records = r.held.all; words = words };
   listing = to.list.now;
   written = to.written;
   entries = r.entries;
   stop = k;
   traced = r.traced;
 }
-
--- after an entry: the run goes on, or it is refused where it stands
-abbrev pub turned : Run → Result Run Refusal → List ℕ → Writer → Progress
-turned r (Ok next) words to = progress next 0 words to
-turned r (Err f) words to = progress r (refusal_number f) words to
 
 -- what holds of a run at every moment
 pub record Sound (s : Progress) : Type 0 where

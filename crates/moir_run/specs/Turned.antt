@@ -6,7 +6,7 @@ use Rattle.notation.specs.declared.Entry.{Entry}
 use Rattle.notation.specs.declared.Entry.TheVariants.{StartLl, StartVl, StartSc, Step, Finish}
 use Rattle.listing.specs.declared.Writer.{Writer}
 use Rattle.listing.specs.Writing.{Fits}
-use Rattle.text_runs.specs.TextRun as T
+use Rattle.text_runs.specs.Parts as Parts
 use Rattle.moir_model.specs.declared.Bench.{Bench}
 use Rattle.moir_model.specs.declared.Process.{Process}
 use Rattle.moir_model.specs.declared.Reply.{Reply}
@@ -16,15 +16,16 @@ use Rattle.moir_model.specs.Records.{record_at}
 use Rattle.moir_model.specs.Refusals.{is_idle}
 use Rattle.moir_access.specs.declared.Access.{Access}
 use Rattle.moir_access.specs.Accesses.{access_of}
-use Rattle.moir_semantics.specs.TextRun.{figure6, line_of}
+use Rattle.moir_access.specs.TraceParts.{access_text}
+use Rattle.moir_semantics.specs.TextRun.{line_of, answers}
 
 -- "The value k has k in all W words": k, and as many words as an entry brings
-abbrev pub brought_by : Entry → ℕ
-brought_by (StartLl p) = 0
-brought_by (StartVl p) = 0
-brought_by (StartSc p k) = k
-brought_by (Step p) = 0
-brought_by (Finish p) = 0
+abbrev pub brought_by : Entry → Option ℕ
+brought_by (StartLl p) = None
+brought_by (StartVl p) = None
+brought_by (StartSc p k) = Some k
+brought_by (Step p) = None
+brought_by (Finish p) = None
 
 abbrev pub words_brought : Entry → ℕ → ℕ
 words_brought (StartLl p) w = 0
@@ -59,5 +60,4 @@ access_seen t p b q ws = cond t (Some (access_of (point_of q.line) p b q ws)) No
 
 -- the trace's line of an accepted entry, none where no access is shown
 abbrev pub shown_line : ℕ → Option Access → Entry → Reply → List ℕ
-shown_line k (Some a) e r = T.entry_line figure6 k a e r
-shown_line k None e r = []
+shown_line k a e r = Parts.shown_line access_text k a e (answers r)

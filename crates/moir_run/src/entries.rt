@@ -8,13 +8,13 @@ use moir_model::Process;
 use moir_rows::ranges;
 use notation::Entry;
 
-// "The value k has k in all W words": the number of a start of SC.
-pub fn value_of(e: Entry) -> u64
+// "The value k has k in all W words": the number of a start of SC; no other entry brings any words.
+pub fn value_of(e: Entry) -> Option<u64>
     ensures { result ≡ brought_by e }
 {
     match e {
-        Entry::StartSc(_, k) => k,
-        _ => 0,
+        Entry::StartSc(_, k) => Some(k),
+        _ => None,
     }
 }
 

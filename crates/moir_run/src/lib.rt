@@ -4,7 +4,6 @@
 #![tactic(auto)]
 
 mod entries;
-mod entry_loop;
 pub mod texts;
 mod turns;
 mod written_lines;

@@ -5,32 +5,29 @@ ghost use Rattle.llsc.specs.Refusals.{refusal_number};
 ghost use Rattle.notation.specs.Grammar.{largest};
 ghost use Rattle.text_runs.specs.StopPlaces.{StopInText};
 ghost use Rattle.text_runs.specs.KeptEntries.{entries_in, places_in, refused_with, started_with, report_with, says_after};
+ghost use Rattle.moir_model.specs.Records.{no_process};
 ghost use Rattle.moir_semantics.specs.TextRun.{figure6};
 ghost use Rattle.moir_run.specs.TextRan.{at_start, seen, returned, TextRan};
-ghost use Rattle.moir_run.specs.Finished.{fresh_run, Headed, Roomy};
+ghost use Rattle.moir_run.specs.Finished.{Headed, Roomy};
 
-use crate::entry_loop;
-use crate::turns::Run;
+use crate::turns::Held;
 use listing::Writer;
+use llsc::counts::Width;
 use llsc::refusals::Refusal;
 use moir_machine::setting_up;
-use moir_model::{Bench, Process};
+use moir_model::Process;
 use notation::items::Items;
 use notation::{First, items};
 use positions::{Sizes, StopReport};
-use text_runs::runs::Finished;
-use text_runs::{limits, lists, reports, runs};
+use rows::table::Lent;
+use text_runs::runs::{Finished, Run};
+use text_runs::{entry_loop, limits, lists, reports, runs};
 
-// A run before its first entry, or one that a refusal keeps from it.
-fn fresh(bench: Bench, traced: bool) -> Run
-    ensures { result ≡ fresh_run bench traced }
+// Its records, which are at their set-up from the start.
+fn records() -> [Process; 16]
+    ensures { result ≡ replicate 16 no_process }
 {
-    Run {
-        bench,
-        all: [moir_model::process_at_set_up(); 16],
-        entries: 0,
-        traced,
-    }
+    [moir_model::process_at_set_up(); 16]
 }
 
 // A run that is refused before its set-up, in either style.
@@ -40,9 +37,7 @@ fn refused(refusal: Refusal, report: StopReport, list: &mut [u8]) -> Finished<[P
     ensures { (returned result list.new ≡ seen (refused_with figure6 (refusal_number refusal) at_start list.old)) ×
         (result.report ≡ report) }
 {
-    let run = fresh(moir_model::empty_bench(), false);
-    let mut to = Writer { list, written: 0 };
-    runs::ended(run.all, run.entries, Err(refusal), report, &mut to)
+    runs::refused(records(), refusal, report, list)
 }
 
 // The words of the largest N and W.
@@ -52,8 +47,7 @@ fn no_words() -> [u64; 3136]
     [0; 3136]
 }
 
-// "then 1, 2, 3, then the set-up, then the entries": those of the list. The records are at their set-up from the
-// start.
+// "then 1, 2, 3, then the set-up, then the entries": those of the list.
 fn started(traced: bool, first: First, kept: &[u64], list: &mut [u8]) -> Finished<[Process; 16]>
     requires { (Roomy list.old) × (first.initial ≤ largest) }
     ensures { (returned result list.new ≡ seen (started_with figure6 traced first.n first.w first.initial (entries_in kept.now) at_start list.old)) ×
@@ -61,7 +55,13 @@ fn started(traced: bool, first: First, kept: &[u64], list: &mut [u8]) -> Finishe
 {
     let n = first.n as usize;
     let w = first.w as usize;
-    match setting_up::set_up_refusal(n, w, 16, 3136, w) {
+    let lent = Lent {
+        n,
+        w,
+        records: 16,
+        words: 3136,
+    };
+    match setting_up::set_up_refusal(lent, w) {
         Err(refusal) => {
             let sizes = Sizes {
                 n: first.n,
@@ -73,14 +73,15 @@ fn started(traced: bool, first: First, kept: &[u64], list: &mut [u8]) -> Finishe
             let mut words = no_words();
             let value = lists::repeated(first.initial);
             setting_up::words_at_set_up(&mut words, n, w, &value[..w]);
-            let bench = setting_up::bench_at_set_up(moir_model::empty_bench(), n, w);
-            let run = fresh(bench, traced);
+            let bench = setting_up::bench_at_set_up(moir_model::empty_bench(), n, Width { w });
+            let all = records();
+            let run = Run::fresh(Held { bench, all }, traced);
             let mut to = Writer { list, written: 0 };
             let carried = entry_loop::carry_out(run, kept, &mut words, &mut to);
             let outcome = carried.outcome;
             let report = reports::stop_report(first.n, first.w, outcome, kept, carried.at);
             let run = carried.run;
-            runs::ended(run.all, run.entries, outcome, report, &mut to)
+            runs::ended(run.held.all, run.entries, outcome, report, &mut to)
         }
     }
 }
@@ -106,15 +107,7 @@ pub fn run_text(text: &[u8], traced: bool, list: &mut [u8]) -> Finished<[Process
     ensures { TextRan traced text.now list.old result list.new }
 {
     if list.len() < limits::room_needed(traced) {
-        let run = fresh(moir_model::empty_bench(), traced);
-        let held = run.all;
-        return Finished {
-            held,
-            outcome: Err(Refusal::NoRoom),
-            entries: 0,
-            written: 0,
-            report: StopReport::NotRead,
-        };
+        return Finished::unwritten(records());
     }
     if limits::LONGEST_TEXT < text.len() {
         return refused(Refusal::TooMuch, StopReport::NotRead, list);

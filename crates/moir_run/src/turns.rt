@@ -1,71 +1,105 @@
 // One entry of a run: refused, or carried out with its lines.
-ghost use Rattle.std.specs.Prelude.{◌≡◌};
-ghost use Rattle.notation.specs.Stretches.{Small};
-ghost use Rattle.text_runs.specs.TextRun.{single, commanded};
+ghost use Rattle.std.specs.Prelude.{◌≡◌, ◌+◌, refl};
+ghost use Rattle.text_runs.specs.TextRun.{commanded, order_of, value_of};
+ghost use Rattle.text_runs.specs.Carrying.{in_run};
+ghost use Rattle.moir_model.specs.Machine.{obey};
+ghost use Rattle.moir_steps.specs.Ranges.{Obeyable};
 ghost use Rattle.moir_semantics.specs.TextRun.{figure6};
-ghost use Rattle.moir_run.specs.RunState.{progress, turned, Sound, Free};
+ghost use Rattle.moir_run.specs.RunState.{progress, Sound, Free};
 
 use crate::{entries, written_lines};
 use listing::Writer;
 use llsc::ProcessNumber;
 use llsc::refusals::Refusal;
-use moir_model::{Bench, Process};
+use moir_access::access_of;
+use moir_model::{Bench, Moved, Process};
 use moir_rows::table;
 use moir_steps::orders;
 use notation::Entry;
 use text_runs::entries::{order_of, process_of};
-use text_runs::limits;
+use text_runs::entry_loop::Carrier;
+use text_runs::{limits, lists, traces};
 
-// A run in progress: bench and records, the entries done, and whether it is traced. Its lines go to a writer.
+// What a run holds: bench and records.
 #[derive(Clone, Copy)]
-pub struct Run {
+pub struct Held {
     pub bench: Bench,
     pub all: [Process; 16],
-    pub entries: usize,
-    pub traced: bool,
 }
 
-// An entry that nothing refuses. What a trace shows is seen in the memory before the command.
-fn accepted(run: Run, e: Entry, to: &mut Writer<'_>, words: &mut [u64]) -> Run
-    requires { Free e (progress run 0 words.old to.old) }
-    ensures is { progress result 0 words.new to.new ≡ commanded figure6 e (progress run 0 words.old to.old) }
-    ensures same_list { to.new.list.ghost_name ≡ to.old.list.ghost_name }
+// The order of an entry, obeyed with the words that it brings.
+fn obeyed(e: Entry, p: ProcessNumber, bench: Bench, process: Process, words: &mut [u64]) -> Moved
+    requires { Obeyable (order_of e) p (value_of bench.w e) bench process words.old }
+    ensures { (result, words.new) ≡ obey (order_of e) p (value_of bench.w e) bench process words.old }
 {
-    let bench = run.bench;
-    let mut all = run.all;
-    let p = process_of(e);
-    let own = ProcessNumber(p as u8);
-    let place = own.record_place();
-    let process = all[place];
-    let access = written_lines::access_seen(run.traced, bench, own, process, words);
-    let value = [entries::value_of(e); 64];
-    let count = entries::words_of(e, bench.w);
     let order = order_of(e);
-    let moved = orders::obey(order, own, &value[..count], bench, process, words);
-    let k = run.entries + 1;
-    written_lines::trace_line(access, k, e, moved.reply, to);
-    written_lines::answer_line(moved.reply, p, moved.bench, words, to);
-    all[place] = moved.process;
-    Run {
-        bench: moved.bench,
-        all,
-        entries: k,
-        ..run
+    match entries::value_of(e) {
+        Some(k) => {
+            let value = lists::repeated(k);
+            orders::obey(order, p, &value[..bench.w], bench, process, words)
+        }
+        None => orders::obey(order, p, &[], bench, process, words),
     }
 }
 
-// "before each entry 12, then 14", then the rows of its command; or it is carried out. "After a refused entry nothing more
-// runs."
-pub fn turn(run: Run, e: Entry, to: &mut Writer<'_>, words: &mut [u64]) -> Result<Run, Refusal>
-    requires { (Sound (progress run 0 words.old to.old)) × (Small e) }
-    ensures is { turned run result words.new to.new ≡ single figure6 e (progress run 0 words.old to.old) }
+// The next entry after so many, that nothing refuses. What a trace shows is seen in the memory before the command.
+fn accepted(
+    held: &mut Held,
+    traced: bool,
+    done: usize,
+    e: Entry,
+    words: &mut [u64],
+    to: &mut Writer<'_>,
+)
+    requires { Free e (progress (in_run held.old done traced) 0 words.old to.old) }
+    ensures is { progress (in_run held.new (done + 1) traced) 0 words.new to.new ≡
+        commanded figure6 e (progress (in_run held.old done traced) 0 words.old to.old) }
     ensures same_list { to.new.list.ghost_name ≡ to.old.list.ghost_name }
 {
-    let needed = limits::room_needed(run.traced);
-    limits::before_entry(run.entries, to.list.len() - to.written, needed)?;
-    let p = process_of(e) as usize;
-    let order = order_of(e);
-    let count = entries::words_of(e, run.bench.w);
-    table::refusal(run.bench, run.all, 16, p, order, count, words.len())?;
-    Ok(accepted(run, e, to, words))
+    let bench = held.bench;
+    let p = process_of(e);
+    let own = ProcessNumber(p as u8);
+    let place = own.record_place();
+    let process = held.all[place];
+    let access = traced.then(|| access_of::access_of(bench, own, process, words));
+    let moved = obeyed(e, own, bench, process, words);
+    let k = done + 1;
+    traces::trace_line(access, k, e, written_lines::answers(moved.reply), to);
+    written_lines::answer_line(moved.reply, p, moved.bench, words, to);
+    held.bench = moved.bench;
+    held.all[place] = moved.process;
+}
+
+impl Carrier for Held {
+    ghost machine = { figure6 };
+
+    ghost progress = { λ r k ws to. progress r k ws to };
+
+    ghost sound = { λ r k ws to. Sound (progress r k ws to) };
+
+    ghost lent = { λ held. 16 };
+
+    ghost stops = { λ r k ws to. refl };
+
+    ghost counts = { λ r k ws to. refl };
+
+    // "before each entry 12, then 14", then the rows of its command; or it is carried out. "After a refused entry nothing
+    // more runs."
+    fn turn(
+        &mut self,
+        traced: bool,
+        done: usize,
+        e: Entry,
+        words: &mut [u64],
+        to: &mut Writer<'_>,
+    ) -> Result<bool, Refusal> {
+        let needed = limits::room_needed(traced);
+        limits::before_entry(done, to.list.len() - to.written, needed)?;
+        let p = process_of(e) as usize;
+        let order = order_of(e);
+        let count = entries::words_of(e, self.bench.w);
+        table::refusal(self.bench, self.all, 16, p, order, count, words.len())?;
+        accepted(self, traced, done, e, words, to);
+        Ok(entries::stays(e, self.all))
+    }
 }

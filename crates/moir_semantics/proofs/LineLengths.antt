@@ -16,10 +16,11 @@ use Rattle.notation.specs.declared.Entry.{Entry}
 use Rattle.notation.specs.declared.Entry.TheVariants.{StartLl, StartVl, StartSc, Step, Finish}
 use Rattle.notation.specs.Grammar.{largest}
 use Rattle.notation.specs.Stretches as S
-use Rattle.listing.specs.Lines.{line_feed, letter_l, letter_s, letter_v, answer_head}
+use Rattle.listing.specs.Lines.{line_feed, letter_s, letter_v, answer_head}
 use Rattle.listing.proofs.Lengths as listed
-use Rattle.trace_parts.specs.TraceParts.{spaced, head_text, end_text}
-use Rattle.trace_parts.proofs.Lengths.{number_length, head_length, end_length, start_length}
+use Rattle.trace_parts.specs.TraceParts.{spaced}
+use Rattle.trace_parts.proofs.Lengths.{number_length}
+use Rattle.text_runs.proofs.TraceLengths as Traced
 use Rattle.moir_model.specs.declared.Bench.{Bench}
 use Rattle.moir_model.specs.declared.Process.{Process}
 use Rattle.moir_model.specs.declared.Reply.{Reply}
@@ -31,12 +32,12 @@ use Rattle.moir_model.specs.Command.{command, refusal, obeyed}
 use Rattle.moir_model.specs.Replies.{number_of}
 use Rattle.moir_steps.specs.Ranges.{Ready}
 use Rattle.moir_access.specs.declared.Access.{Access}
-use Rattle.moir_access.specs.TraceParts.{shown}
+use Rattle.moir_access.specs.TraceParts.{access_text}
 use Rattle.moir_access.proofs.Lengths.{SmallAccess, shown_length}
 use Rattle.moir_access.proofs.SmallLaws as A
 use Rattle.text_runs.specs.TextRun.{most_entries, room_needed, process_of, order_of, value_of}
 use Rattle.text_runs.specs.TextRun as T
-use Rattle.moir_semantics.specs.TextRun.{Progress, figure6, letter_n, named_line, line_of, answers, access_now, step_line}
+use Rattle.moir_semantics.specs.TextRun.{Progress, figure6, letter_n, named_line, line_of, answers, access_now}
 use Rattle.moir_semantics.proofs.AcceptedRows.{InOrder, unrefused, cleared, in_order}
 use Rattle.moir_semantics.proofs.SmallWords.{Small, SmallValue, small_value, small_none, Plain, accepted, wll, named, sc, vl, leaves, small_command}
 
@@ -78,19 +79,8 @@ module _ (m : Memory) (s : Small m) (p : ℕ) (h : p < m.bench.n) where
   answer_length {k} (sc {t = t}) l u c d = omega (arith, listed.truth_length p letter_s k t l c)
   answer_length {k} (vl {t = t}) l u c d = omega (arith, listed.truth_length p letter_v k t l c)
 
--- a line of the trace, with a small access
-step_length : (entry p : ℕ) (a : Access) (t : Bool) → entry ≤ most_entries → p ≤ largest → SmallAccess a → length (step_line entry p a t) ≤ 128
-unfolding step_line
-step_length entry p a t h k s =
-    let b = listed.joined (shown a) (end_text t) 84 9 (shown_length a s) (end_length t) in
-    omega (arith, listed.joined (head_text entry p) (shown a ++ end_text t) 16 93 (head_length entry p h k) b)
-
 pub entry_length : (k : ℕ) (a : Access) (e : Entry) (r : Reply) → k ≤ most_entries → S.Small e → SmallAccess a → length (T.entry_line figure6 k a e r) ≤ 128
-entry_length k a (StartLl p) r h s x = start_length k p letter_l 0 h s (omega arith)
-entry_length k a (StartVl p) r h s x = start_length k p letter_v 0 h s (omega arith)
-entry_length k a (StartSc p v) r h s x = start_length k p letter_s v h s.0 s.1
-entry_length k a (Step p) r h s x = step_length k p a (answers r) h s x
-entry_length k a (Finish p) r h s x = step_length k p a (answers r) h s x
+entry_length k a e r h s x = Traced.line_length access_text k a e (answers r) h s (omega (arith, shown_length a x))
 
 -- a command that is not refused
 module _ (m : Memory) (p : ℕ) (o : Order) (v : List ℕ) (s : Small m) (z : number_of (command m p o v).0 ≡ 0) where

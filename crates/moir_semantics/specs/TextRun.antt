@@ -3,7 +3,8 @@ use Rattle.std.specs.Prelude.{ℕ, List, [], ◌∷◌, ◌++◌, Bool, true, fa
 use Rattle.notation.proofs.ReadingLaws.{reader}
 use Rattle.listing.specs.Quoted.{byte}
 use Rattle.listing.specs.Lines.{line_feed, letter_s, letter_v, answer_head, ll_line, truth_line}
-use Rattle.trace_parts.specs.TraceParts.{spaced, head_text, end_text}
+use Rattle.trace_parts.specs.TraceParts as Parts
+use Rattle.trace_parts.specs.TraceParts.{spaced}
 use Rattle.moir_model.specs.declared.Reply.{Reply}
 use Rattle.moir_model.specs.declared.Reply.TheVariants.{Refused, Accepted, WllAnswered, WllNamed, ScAnswered, VlAnswered}
 use Rattle.moir_model.specs.Words.{return_area}
@@ -16,7 +17,7 @@ use Rattle.moir_model.specs.Replies.{number_of}
 use Rattle.moir_model.specs.SetUp.{set_up}
 use Rattle.moir_access.specs.declared.Access.{Access}
 use Rattle.moir_access.specs.Accesses.{access_of}
-use Rattle.moir_access.specs.TraceParts.{shown}
+use Rattle.moir_access.specs.TraceParts.{access_text}
 use Rattle.text_runs.specs.Machines.{Machine}
 use Rattle.text_runs.specs.TextRun as T
 
@@ -51,8 +52,8 @@ abbrev pub access_now : Memory → ℕ → Access
 access_now m p = access_of (point_of (record_at m.records (record { 0 = p })).line) (record { 0 = p }) m.bench (record_at m.records (record { 0 = p })) m.words
 
 -- the line of a step
-unfoldable pub step_line : ℕ → ℕ → Access → Bool → List ℕ
-step_line entry p a answered = head_text entry p ++ (shown a ++ end_text answered)
+abbrev pub step_line : ℕ → ℕ → Access → Bool → List ℕ
+step_line entry p a answered = Parts.step_line access_text entry p a answered
 
 -- the machine of Figure 6
 abbrev pub figure6 : Machine

@@ -13,10 +13,9 @@ fn main(rt: HostRuntime) -> Result<ExitCode, AllocError> {
     // room for the trace of 60,000 entries
     let mut list = vec![in rt.alloc(); 0; 3145728]?;
     let out = moir_run::texts::run_text(given, true, &mut list);
+    let left = moir_messages::left(out.held);
     let ended = messages::Ended {
-        outcome: out.outcome,
-        entries: out.entries,
-        report: out.report,
+        run: out.holding(left),
         text: given,
     };
     let status = messages::conclude(
@@ -24,7 +23,6 @@ fn main(rt: HostRuntime) -> Result<ExitCode, AllocError> {
         &mut rt.stderr(),
         list.get(..out.written),
         ended,
-        moir_messages::left(out.held),
     );
     Ok(status)
 }

@@ -14,7 +14,7 @@ use Rattle.notation.specs.declared.Entry.{Entry}
 use Rattle.notation.specs.declared.Entry.TheVariants.{StartSc}
 use Rattle.notation.specs.declared.Start.TheVariants.{Group}
 use Rattle.std.specs.Prelude.{Ok, Err}
-use Rattle.notation.specs.Readers.{Digits, Beginning, Following}
+use Rattle.notation.specs.Readers.{Digits, Beginning}
 use Rattle.notation.specs.Bytes.{space, line_feed, kind_of, entry_of}
 use Rattle.notation.specs.Grammar.{count_ok, times}
 use Rattle.notation.specs.Written as W

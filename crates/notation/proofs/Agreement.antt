@@ -9,7 +9,7 @@ use Rattle.notation.specs.declared.Entry.{Entry}
 use Rattle.notation.specs.declared.Entry.TheVariants.{StartSc}
 use Rattle.notation.specs.Bytes.{space, line_feed, kind_of, entry_of, is_digit}
 use Rattle.notation.specs.Grammar as G
-use Rattle.notation.specs.Grammar.{Byte, Number, Gaps, Item, Items, Lead, Schedule, FirstLine, Text, Said}
+use Rattle.notation.specs.Grammar.{Byte, Number, Gaps, Item, Items, Lead, Schedule, FirstLine, Text}
 use Rattle.notation.specs.Grammar.{count_ok, times, item_bytes, items_bytes, lead_bytes, schedule_bytes, first_bytes}
 use Rattle.notation.specs.Grammar.{bytes, item_says, items_say, lead_says, schedule_says, says}
 use Rattle.notation.specs.Scan.{Mode, between, num, offer, offer_num, done, to, leave, move, said, Frame, end, at_end, go, scan}

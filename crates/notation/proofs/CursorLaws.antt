@@ -15,7 +15,10 @@ use Rattle.notation.specs.Stretches.{Begun}
 use Rattle.notation.specs.Groups.{ItemBroken, ItemsEnded, ItemsClosed}
 use Rattle.notation.specs.Listed.{Keeps, Opened, ItemSays, GroupSays}
 use Rattle.notation.specs.Cursor.{StandAt}
-use Rattle.notation.proofs.GroupLaws.{item_ended}
+use Rattle.notation.proofs.GroupLaws.{item_ended, item_broken, item_wrong, items_stray}
+use Rattle.std.proofs.lemmas.Result.{err_from_is_err_and}
+use Rattle.notation.proofs.ItemsLaws.{items_as, spoilt_by}
+use Rattle.notation.proofs.ItemLaws.{started, begun_as, followed, follows_as}
 
 -- where they stand behind items, where the reply is known
 stand_as : {r : Items} {at count next to : ℕ} → StandAt (Ok r) at count → r ≡ Closed next to → (at ≡ next) × (count ≡ to)
@@ -53,3 +56,12 @@ module _ {s s' : List ℕ} (e : s' ≡ s) where
 
   pub follow_in : {at : ℕ} {r : Following} → Follows s' at r → Follows s at r
   follow_in {at} {r} x = subst (λ (y : List ℕ). Follows y at r) e x
+
+-- what `read_group` rests on
+pub ruleset group_laws = (err_from_is_err_and, item_broken, items_as, spoilt_by, cut_off)
+
+-- what `read_item` rests on
+pub ruleset item_laws = (started, begun_as, item_wrong, group_in)
+
+-- what `read_on` rests on
+pub ruleset on_laws = (followed, follows_as, items_stray, item_in, follow_in)

@@ -4,7 +4,7 @@ use mathlib.Core.Path.{◌≡◌, refl, sym, ap, ◌∙◌}
 use mathlib.Core.List.{List, [], ◌∷◌, ◌++◌, append_assoc, append-nil}
 use mathlib.Core.Bool.{true, false}
 use native.Mathlib.Omega.{arith}
-use lib.ListN.{length, drop, length-drop}
+use lib.ListN.{length, drop}
 use Rattle.notation.specs.declared.Entry.{Entry}
 use Rattle.notation.specs.Bytes.{kind_of}
 use Rattle.notation.specs.Grammar.{count_ok, times, deepest}
@@ -65,9 +65,6 @@ entered_pos k left n stack os (suc r) h = ap (λ (x : ℕ). k (between false) (r
     one : r ≡ suc r - 1
     one = omega arith
 
-entered_zero : (k : Mode → List Frame → List Entry → ℕ → Verdict) (left n : ℕ) (stack : List Frame) (os : List Entry) (d : ℕ) → d ≡ 0 → entered k left n stack os d ≡ fault 11 left
-entered_zero k left n stack os d h = rw h
-
 -- a group in the reading
 grouped : {s : List ℕ} {at n body : ℕ} (d : ℕ) → Begun s at n body → (d ≡ 0 → ⊥) → (stack : List Frame) (os : List Entry)
     → scan (drop at s) (between false) stack os d ≡ under (record { count = n; before = os; room = d }) stack (scan (drop body s) (between false) [] [] (d - 1))
@@ -84,16 +81,6 @@ pub item_wrong : {s : List ℕ} {at k place : ℕ} (d : ℕ) → Faults s at (be
 item_wrong d f = record { within = f.within; same = λ stack os. f.same stack os d }
 
 module _ {s : List ℕ} {at n body : ℕ} (d : ℕ) (b : Begun s at n body) where
-  -- what is left from a group's `(` on
-  left_open : suc (length (drop body s)) ≡ length s - (body - 1)
-  left_open = omega (arith, length-drop body s, b.on, b.within)
-
-  pub item_deep : d ≡ 0 → ItemBroken s at d 11 (body - 1)
-  item_deep h = record {
-    within = omega (arith, b.within);
-    same = λ stack os. b.same stack os d ∙ entered_zero (scan (drop body s)) (suc (length (drop body s))) n stack os d h ∙ ap (fault 11) left_open;
-  }
-
   pub item_ended : {es : List Entry} → (d ≡ 0 → ⊥) → ItemsEnded s body (d - 1) es → ItemBroken s at d 10 (length s)
   unfolding under
   item_ended h i =
@@ -118,9 +105,6 @@ unfolding at_end
 no_items {s} {at} {next} d k l = record { same = (gaps false (omega (arith, k.on, k.within)) k.gaps).same [] [] d ∙ scan_end s next (between false) [] [] d l }
 
 module _ {s : List ℕ} {at d next : ℕ} {es : List Entry} (f : Sofar s at d next es) where
-  pub items_broken : {k place : ℕ} → ItemBroken s next d k place → ItemsBroken s at d k place
-  items_broken i = record { within = i.within; same = f.same ∙ i.same [] es }
-
   module _ {next' : ℕ} {es' : List Entry} (i : ItemRead s next d next' es') where
     one_more : scan (drop at s) (between false) [] [] d ≡ scan (drop next' s) done [] (es ++ es') d
     one_more = f.same ∙ i.same [] es

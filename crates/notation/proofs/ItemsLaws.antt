@@ -4,7 +4,6 @@ use mathlib.Core.Path.{◌≡◌, subst, ◌∙◌}
 use Rattle.std.specs.Prelude.{Ok}
 use mathlib.Core.List.{List, [], ◌∷◌, ◌++◌}
 use mathlib.Core.Bool.{false}
-use native.Mathlib.Omega.{arith}
 use lib.ListN.{length}
 use Rattle.notation.specs.declared.Entry.{Entry}
 use Rattle.notation.specs.declared.items.Items.{Items}
@@ -13,16 +12,12 @@ use Rattle.notation.specs.Scan.{between}
 use Rattle.notation.specs.Places.{fore, tail, Moves, ClosesAfter}
 use Rattle.notation.specs.Stretches.{Once, Begun}
 use Rattle.notation.specs.Groups.{ItemRead, ItemsClosed}
-use Rattle.notation.specs.Listed.{Lists, Repeated, Block, Keeps, Spoilt, ItemsAre, ItemsSay}
+use Rattle.notation.specs.Listed.{Lists, Repeated, Keeps, Spoilt, ItemsAre, ItemsSay}
 use Rattle.notation.specs.Written.{none, more}
 use Rattle.notation.proofs.AgainLaws.{standing_then, standing_turns}
 use Rattle.notation.proofs.PlaceLaws.{places_group}
 use Rattle.notation.proofs.GroupLaws.{item_once, item_closed}
 use Rattle.notation.proofs.ListedLaws.{lists_none, lists_then, lists_turns}
-
--- the place after what is kept
-pub keeps_within : {s list list' : List ℕ} {from to : ℕ} {P : List Entry → Type 0} {Q : List ℕ → Type 0} → Keeps s list list' from to P Q → to ≤ length list'
-keeps_within x = omega (arith, x.lists.entries.to_is, x.lists.entries.lent)
 
 -- nothing
 pub keeps_none : {s list : List ℕ} {from : ℕ} {P : List Entry → Type 0} {Q : List ℕ → Type 0} → from ≤ length list → P [] → Q [] → Keeps s list list from from P Q
@@ -63,9 +58,6 @@ items_as {s} {list} {list'} {at} {d} {from} x e = subst (λ (y : Items). ItemsAr
 -- a group: its first turn is a block, and the block is repeated
 module _ {s list list₁ : List ℕ} {at n body next from to : ℕ} (d : ℕ) (h : from ≤ length list) (b : Begun s at n body)
     (x : Keeps s list list₁ from to (λ es. ItemsClosed s body (d - 1) next es) (λ ps. ClosesAfter s body next ps)) where
-  pub first_turn : Block (length list₁) from to n
-  first_turn = record { on = omega (arith, x.lists.entries.to_is); within = keeps_within x; turns = b.turns }
-
   pub keeps_turns : {list₂ : List ℕ} {end : ℕ} → (d ≡ 0 → ⊥) → Repeated list₁ list₂ from to n end
       → Keeps s list list₂ from end (λ es. ItemRead s at d next es) (λ ps. Moves s at fore next tail ps)
   keeps_turns z r = record {

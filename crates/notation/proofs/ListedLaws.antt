@@ -5,8 +5,8 @@ use mathlib.Core.List.{List, [], ◌∷◌, ◌++◌, map}
 use native.Mathlib.Omega.{arith}
 use native.Mathlib.Nat.{add_comm, zero-mul, suc-mul, mul-le-mul_right, one-mul}
 use native.Mathlib.Decide.{dec_le, dec_lt}
-use lib.ListN.{length, take, get_or, set, length-append, length-take, length-map, length-set, get_or-append, get_or-map}
-use lib.Seq.{get_or-append-add, get_or-set_same, get_or-set_other, get_or-take, ext_get_or}
+use lib.ListN.{length, take, get_or, length-append, length-take, length-map, get_or-append, get_or-map}
+use lib.Seq.{get_or-append-add, get_or-take, ext_get_or}
 use Rattle.notation.specs.declared.Entry.{Entry}
 use Rattle.notation.specs.Grammar.{times}
 use Rattle.notation.specs.EntryWords.{entry_in, kept_entry, place_in}
@@ -41,27 +41,9 @@ module _ {A : Type 0} where
       ∙ sym (ap (λ (x : List A). get_or x i none) (times_snoc n xs) ∙ get_or-append (times n xs) xs none i inside)
 
 module _ {A B : Type 0} {f : ℕ → B} {g : A → B} {none : A} where
-  -- nothing, and one
+  -- nothing
   kept_none : {list : List ℕ} {from : ℕ} → from ≤ length list → Kept f g none list list from from []
   kept_none h = record { to_is = omega arith; lent = refl; before = λ i l. refl; listed = λ i l. absurd (omega arith) }
-
-  kept_full : {list : List ℕ} {from : ℕ} {x : A} → from ≤ length list → length list ≤ from → Kept f g none list list from from (x ∷ [])
-  kept_full h full = record { to_is = omega arith; lent = refl; before = λ i l. refl; listed = λ i l. absurd (omega arith) }
-
-  kept_one : (list : List ℕ) (from word : ℕ) (x : A) → from < length list → f word ≡ g x → Kept f g none list (set list from word) from (from + 1) (x ∷ [])
-  kept_one list from word x h k = record {
-    to_is = omega arith;
-    lent = length-set list from word;
-    before = λ i l. get_or-set_other list from i word 0 (λ y. omega (arith, y));
-    listed = one;
-  }
-    where
-      one : (i : ℕ) → from + i < from + 1 → f (get_or (set list from word) (from + i) 0) ≡ g (get_or (x ∷ []) i none)
-      one zero l = ap f (ap (λ (y : ℕ). get_or (set list from word) y 0) zeroth ∙ get_or-set_same list from word 0 h) ∙ k
-        where
-          zeroth : from + 0 ≡ from
-          zeroth = omega arith
-      one (suc i) l = absurd (omega arith)
 
   -- some after others
   module _ {list list₁ list₂ : List ℕ} {from mid to : ℕ} {xs ys : List A} (fits : from ≤ length list)
@@ -168,13 +150,6 @@ module _ {A B : Type 0} {f : ℕ → B} {g : A → B} {none : A} where
 pub lists_none : {list : List ℕ} {from : ℕ} → from ≤ length list → Lists list list from from [] []
 lists_none h = record { entries = kept_none h; places = kept_none h }
 
-pub lists_full : {list : List ℕ} {from place : ℕ} {e : Entry} → from ≤ length list → length list ≤ from → Lists list list from from (e ∷ []) (place ∷ [])
-lists_full h full = record { entries = kept_full h full; places = kept_full h full }
-
-pub lists_one : (list : List ℕ) (from word : ℕ) (e : Entry) (place : ℕ) → from < length list → entry_in word ≡ kept_entry e → place_in word ≡ place
-    → Lists list (set list from word) from (from + 1) (e ∷ []) (place ∷ [])
-lists_one list from word e place h k p = record { entries = kept_one list from word e h k; places = kept_one list from word place h p }
-
 pub lists_then : {list list₁ list₂ : List ℕ} {from mid to : ℕ} {es fs : List Entry} {ps qs : List ℕ} → from ≤ length list
     → Lists list list₁ from mid es ps → Lists list₁ list₂ mid to fs qs → Lists list list₂ from to (es ++ fs) (ps ++ qs)
 lists_then fits x y = record { entries = kept_then fits x.entries y.entries; places = kept_then fits x.places y.places }
@@ -184,17 +159,8 @@ pub lists_turns : {list list₁ list₂ : List ℕ} {from to n end : ℕ} {es : 
 lists_turns fits t x r = record { entries = kept_turns fits t x.entries r; places = kept_turns fits t x.places r }
 
 module _ {list list' : List ℕ} {to : ℕ} {es : List Entry} {ps : List ℕ} (x : Lists list list' 0 to es ps) where
-  pub kept_within : to ≤ length list'
-  kept_within = whole_within x.entries
-
   pub kept_entries : map entry_in (take to list') ≡ map kept_entry (take (length list) es)
   kept_entries = whole_list x.entries
 
   pub kept_places : map place_in (take to list') ≡ map same_place (take (length list) ps)
   kept_places = whole_list x.places
-
-  -- the place of one word
-  pub kept_place : (i : ℕ) → i < to → place_in (get_or list' i 0) ≡ get_or ps i 0
-  kept_place i h =
-      let at : 0 + i ≡ i = omega arith in
-      ap (λ (a : ℕ). place_in (get_or list' a 0)) (sym at) ∙ x.places.listed i (omega arith)

@@ -19,7 +19,7 @@ use Rattle.notation.specs.EntryWords.{entry_in, kept_entry, place_in}
 use Rattle.notation.specs.Places.{fore, locate, locate_text, EndsAfter}
 use Rattle.notation.specs.Listed.{Keeps}
 use Rattle.notation.proofs.GroupLaws.{text_ended}
-use Rattle.notation.proofs.ListedLaws.{kept_entries, kept_places, kept_place}
+use Rattle.notation.proofs.ListedLaws.{kept_entries, kept_places}
 use Rattle.notation.proofs.PlacedTrees.{digit_no_feed, text_placed}
 use Rattle.notation.proofs.TextTrees.{right_same}
 use Rattle.notation.proofs.Theorems.{right_is_read}
@@ -83,6 +83,3 @@ module _ (t : Text deepest) {s list list' : List ℕ} {n w v items to : ℕ} (is
 
   pub words_stand : map place_in (take to list') ≡ take (length list) (places t)
   words_stand = kept_places x.lists ∙ map_same (take (length list) x.places) ∙ ap (take (length list)) listed_places
-
-  pub word_stands : (i : ℕ) → i < to → place_in (get_or list' i 0) ≡ get_or (places t) i 0
-  word_stands i l = kept_place x.lists i l ∙ ap (λ (ps : List ℕ). get_or ps i 0) listed_places

@@ -1,5 +1,5 @@
 -- Laws of the byte at which a reader stands.
-use Prim.Native.Nat.{ℕ, ◌+◌, ◌≤◌, ◌<◌}
+use Prim.Native.Nat.{ℕ, ◌+◌, ◌*◌, ◌≤◌, ◌<◌}
 use mathlib.Core.Path.{◌≡◌, refl, sym, ap, subst, ◌∙◌}
 use mathlib.Core.List.{List}
 use mathlib.Core.Bool.{Bool, true, false, true≢false}
@@ -9,15 +9,17 @@ use lib.Dec.{leb}
 use lib.ListN.{length, get_or}
 use Rattle.std.specs.Prelude.{None, Ok, Err}
 use Rattle.notation.specs.declared.Kind.{Kind}
-use Rattle.notation.specs.declared.Kind.TheVariants.{Digit, Gap, Close}
+use Rattle.notation.specs.declared.Kind.TheVariants.{Digit, Gap, Close, Marked, Offer, Open}
+use Rattle.notation.specs.declared.Mark.{Mark}
 use Rattle.notation.specs.declared.Follow.TheVariants.{Item, Shut, End}
 use Rattle.notation.specs.Bytes.{kind_of, is_gap}
+use Rattle.notation.specs.Grammar.{digit_ok, count_ok}
 use Rattle.notation.specs.Readers as D
-use Rattle.notation.specs.Readers.{Beginning, Following, NoneAt, ends, other, Whole, Ended, NotEnded, Signed, Begins, BeginSays, Gapped, Skipped, behind_of, Behind, BehindGaps, After, Follows}
+use Rattle.notation.specs.Readers.{Counts, NotHeaded, Beginning, Following, NoneAt, ends, other, Whole, Ended, NotEnded, Signed, Begins, BeginSays, Gapped, Skipped, behind_of, Behind, BehindGaps, After, Follows}
 use Rattle.notation.specs.Cursor.{DigitAt}
-use Rattle.notation.proofs.KindLaws.{stray, gap_stray}
+use Rattle.notation.proofs.KindLaws.{stray, gap_stray, unsigned, digit_small, ok_small}
 use Rattle.notation.proofs.NumberLaws.{below_or}
-use Rattle.notation.proofs.AgainLaws.{begin_again}
+use Rattle.notation.proofs.AgainLaws.{begin_again, first_again}
 
 -- in the same text, and where its kind is known
 pub kind_in : {s s' : List ℕ} {at : ℕ} {k k' : Kind} → s' ≡ s → (at < length s') × (kind_of (get_or s' at 0) ≡ k) → k ≡ k'
@@ -56,10 +58,36 @@ module _ {s s' : List ℕ} {at v place : ℕ} (e : s' ≡ s) (w : Whole s at v p
       let y = kind_in e h q in
       begin_again (D.signed w y.0 y.1 (subst (λ (z : List ℕ). Signed z v place k' r) e x))
 
--- the first of some gaps, and those behind it
-gapped_on : {s : List ℕ} {at next : ℕ} → Gapped s at next → at ≤ next
-gapped_on D.stay = omega arith
-gapped_on (D.gap g l e) = omega (arith, gapped_on g)
+  -- and what is in the way there
+  pub item_unoffered : {p : ℕ} → (place < length s') × (kind_of (get_or s' place 0) ≡ Offer) → NoneAt s' (place + 1) p → BeginSays s at (Err p)
+  item_unoffered {p} h x = item_signed h refl (record { number = Err p; is = x; same = refl })
+
+  pub item_uncounted : (place < length s') × (kind_of (get_or s' place 0) ≡ Open) → count_ok v ≡ false → BeginSays s at (Err place)
+  item_uncounted h many = item_signed h refl (simp many)
+
+  pub item_unsigned : {k : Kind} → (place < length s') × (kind_of (get_or s' place 0) ≡ k) → ((m : Mark) → k ≡ Marked m → ⊥) → (k ≡ Offer → ⊥) → (k ≡ Open → ⊥)
+      → BeginSays s at (Err place)
+  item_unsigned {k} h m o p = item_signed h refl (unsigned _ _ _ k m o p)
+
+pub item_none : (s : List ℕ) (at place : ℕ) → NoneAt s at place → BeginSays s at (Err place)
+item_none s at place n = begin_again (D.none n)
+
+pub field_none : (s : List ℕ) (at stop place : ℕ) → NoneAt s at place → NotEnded s at stop place
+field_none s at stop place n = D.none n
+
+-- the digits and the gaps passed
+pub digits_none : (s : List ℕ) (at v : ℕ) → Counts s at v at v
+digits_none s at v = D.still
+
+pub digits_more : {s s' : List ℕ} {at v next v' d : ℕ} → Counts s at v next v' → s' ≡ s → (next < length s') × (kind_of (get_or s' next 0) ≡ Digit d)
+    → digit_ok v' d ≡ true → Counts s at v (next + 1) (v' * 10 + d)
+digits_more c e h ok = let k = kind_in e h refl in D.digit c k.0 k.1 ok
+
+pub gaps_none : (s : List ℕ) (at : ℕ) → Gapped s at at
+gaps_none s at = D.stay
+
+pub gaps_more : {s s' : List ℕ} {at next : ℕ} → Gapped s at next → s' ≡ s → (next < length s') × (kind_of (get_or s' next 0) ≡ Gap) → Gapped s at (next + 1)
+gaps_more g e h = let k = kind_in e h refl in D.gap g k.0 k.1
 
 record OneGap (s : List ℕ) (at next : ℕ) : Type 0 where
   here : at < length s
@@ -120,3 +148,23 @@ module _ {s s' : List ℕ} {at at' stop : ℕ} (e : s' ≡ s) (p : at' ≡ at) w
 
   pub not_ended_in : {next : ℕ} → NotEnded s' at' stop next → NotEnded s at stop next
   not_ended_in {next} h = subst (λ (x : List ℕ). NotEnded x at stop next) e (subst (λ (x : ℕ). NotEnded s' x stop next) p h)
+
+-- the first line is broken at one of its three numbers
+pub no_first : {s : List ℕ} {at place : ℕ} → at ≡ 0 → NotEnded s at 32 place → NotHeaded s place
+no_first p h = D.no_n (not_ended_in refl p h)
+
+module _ {s s' : List ℕ} {at second n : ℕ} (e : s' ≡ s) (p : at ≡ 0) (first : Ended s at 32 n second) where
+  pub no_second : {place : ℕ} → NotEnded s' second 32 place → NotHeaded s place
+  no_second h = D.no_w (ended_in refl p first) (not_ended_in e refl h)
+
+  pub no_third : {s'' : List ℕ} {w third place : ℕ} → Ended s' second 32 w third → s'' ≡ s' → NotEnded s'' third 10 place → NotHeaded s place
+  no_third x q h = D.no_initial (ended_in refl p first) (ended_in e refl x) (not_ended_in (q ∙ e) refl h)
+
+-- what the functions of a reader rest on
+pub ruleset digits_laws = (digit_small, ok_small, digits_none, digits_more)
+
+pub ruleset begin_laws = (item_none, item_cut, item_unoffered, item_uncounted, item_unsigned)
+
+pub ruleset after_laws = (follow_end, follow_shut, follow_item, follow_by, follow_stray)
+
+pub ruleset header_laws = (first_again, ended_in, no_first, no_second, no_third)

@@ -10,7 +10,7 @@ use Rattle.notation.specs.declared.Kind.{Kind}
 use Rattle.notation.specs.declared.Kind.TheVariants.{Digit, Gap, Marked, Offer, Open, Close, Other}
 use Rattle.notation.specs.Bytes.{space, line_feed, kind_of}
 use Rattle.notation.specs.Grammar as G
-use Rattle.notation.specs.Grammar.{Byte, Number, FirstLine, Said, Text, digit_ok, first_bytes, schedule_bytes, schedule_says, bytes, says}
+use Rattle.notation.specs.Grammar.{Byte, Number, FirstLine, Said, digit_ok, first_bytes, schedule_bytes, bytes, says}
 use Rattle.notation.specs.Scan.{on_digit, between, Verdict, end, shut, fault, scan}
 use Rattle.notation.specs.FirstLine.{Place, before_n, in_n, before_w, in_w, before_initial, in_initial, Next, goes, begins, breaks}
 use Rattle.notation.specs.FirstLine.{starting, inside, step, whole, proceed, read_from, past}

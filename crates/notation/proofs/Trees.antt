@@ -11,7 +11,7 @@ use Rattle.notation.specs.declared.Entry.{Entry}
 use Rattle.notation.specs.declared.Entry.TheVariants.{StartSc}
 use Rattle.notation.specs.Bytes.{kind_of, entry_of}
 use Rattle.notation.specs.Grammar as G
-use Rattle.notation.specs.Grammar.{Byte, Number, Gaps, Item, Items, Lead, Schedule, digit_ok, count_ok, times}
+use Rattle.notation.specs.Grammar.{Byte, Number, Gaps, Items, Lead, Schedule, digit_ok, count_ok, times}
 use Rattle.notation.specs.Grammar.{item_bytes, items_bytes, lead_bytes, schedule_bytes, item_says, items_say, lead_says}
 use Rattle.notation.specs.Grammar.{schedule_says}
 use Rattle.notation.specs.Scan.{on_digit, Mode, between, num, offer, offer_num, done, Move, to, enter, leave, bad, more, move, said, Frame, end, shut, fault, at_end, entered, go, scan}

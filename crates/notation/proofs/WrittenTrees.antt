@@ -10,7 +10,7 @@ use Rattle.notation.specs.declared.Entry.{Entry}
 use Rattle.notation.specs.declared.Entry.TheVariants.{StartSc}
 use Rattle.notation.specs.Bytes.{entry_of}
 use Rattle.notation.specs.Grammar as G
-use Rattle.notation.specs.Grammar.{Item, Items, Lead, Schedule, FirstLine, Text, times}
+use Rattle.notation.specs.Grammar.{Item, Items, Lead, Schedule, FirstLine, Text}
 use Rattle.notation.specs.Grammar.{item_bytes, items_bytes, lead_bytes, schedule_bytes, first_bytes, bytes}
 use Rattle.notation.specs.Grammar.{item_says, items_say, lead_says, schedule_says, says}
 use Rattle.notation.specs.Grammar.{item_places, items_places, lead_places, schedule_places, places}

@@ -26,6 +26,7 @@ fn kept_process(p: u64) -> u64
 }
 
 // A kind, a process and a number in one.
+#[tactic(auto, using(crate::proofs::WordLaws::kept_small, crate::proofs::WordLaws::packed_reads, crate::proofs::WordLaws::packed_below))]
 fn packed(kind: u64, p: u64, k: u64) -> u64
     requires { (kind ≤ 4) × (k ≤ largest) }
     ensures { (entry_in result ≡ entry_of_kind kind (kept_process p) k) × (result < place_unit) }
@@ -50,6 +51,7 @@ pub fn word_of(e: Entry) -> u64
 }
 
 // The place of an entry's item beside the entry.
+#[tactic(auto, using(crate::proofs::WordLaws::entry_beside, crate::proofs::WordLaws::place_beside))]
 pub fn with_place(word: u64, place: usize) -> u64
     requires { (word < place_unit) × (place ≤ largest_place) }
     ensures { (entry_in result ≡ entry_in word) × (place_in result ≡ place) }

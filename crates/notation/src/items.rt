@@ -42,6 +42,7 @@ fn broken(place: usize) -> Fault
 
 // A group with `n` turns, read from its `(` on, where groups may stand `depth` deep.
 #[cycle(read_group_read_item_read_items)]
+#[tactic(auto, using(crate::proofs::CursorLaws::group_laws))]
 fn read_group(
     reader: &mut Reader,
     n: u64,
@@ -70,6 +71,7 @@ fn read_group(
 
 // An item.
 #[cycle(read_group_read_item_read_items)]
+#[tactic(auto, using(crate::proofs::CursorLaws::item_laws))]
 fn read_item(reader: &mut Reader, depth: usize, entries: &mut EntryList) -> Result<(), Fault>
     requires { (AtItem reader.old.text.now reader.old.at) × (Placeable reader.old.text.now) }
     ensures { ReadsItem depth reader.old reader.new entries.old entries.new result }
@@ -87,6 +89,7 @@ fn read_item(reader: &mut Reader, depth: usize, entries: &mut EntryList) -> Resu
 
 // Items up to a `)` or the end of the text.
 #[cycle(read_group_read_item_read_items)]
+#[tactic(auto, using(crate::proofs::CursorLaws::on_laws))]
 fn read_on(reader: &mut Reader, depth: usize, entries: &mut EntryList) -> Result<Items, Fault>
     requires { Placeable reader.old.text.now }
     ensures { ReadsItems depth reader.old reader.new entries.old entries.new result }

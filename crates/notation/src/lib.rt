@@ -103,6 +103,7 @@ pub fn entry_of(m: Mark, p: u64) -> Entry
 }
 
 // N, W and the initial number, and where the items begin.
+#[tactic(auto, using(crate::proofs::ReaderLaws::header_laws))]
 fn header(reader: &mut Reader) -> Option<First>
     requires { reader.old.at ≡ 0 }
     ensures { ReadsAs HeadSays reader.old reader.new result }

@@ -53,6 +53,7 @@ impl<'a> Reader<'a> {
     }
 
     // The digits from here on, after digits that make v.
+    #[tactic(auto, using(crate::proofs::ReaderLaws::digits_laws))]
     fn digits(&mut self, v: u64) -> Option<u64>
         requires { v ≤ largest }
         ensures { ReadsAs (λ s at o. NumberSays s at v o) self.old self.new result }
@@ -69,6 +70,7 @@ impl<'a> Reader<'a> {
     }
 
     // The number that begins here.
+    #[tactic(auto, using(crate::proofs::KindLaws::digit_small, crate::proofs::HeaderLaws::number_whole, crate::proofs::ReaderLaws::no_number))]
     fn number(&mut self) -> Option<u64>
         ensures { ReadsAs NumberAtSays self.old self.new result }
     {
@@ -78,6 +80,7 @@ impl<'a> Reader<'a> {
     }
 
     // A number and the one byte that ends it.
+    #[tactic(auto, using(crate::proofs::ReaderLaws::field_none, crate::proofs::ReaderLaws::field_cut, crate::proofs::ReaderLaws::field_other))]
     pub fn field(&mut self, stop: u8) -> Option<u64>
         ensures { ReadsAs (λ s at o. FieldSays s at stop o) self.old self.new result }
     {
@@ -90,6 +93,7 @@ impl<'a> Reader<'a> {
     }
 
     // Goes on to the first byte that is no gap.
+    #[tactic(auto, using(crate::proofs::ReaderLaws::gaps_none, crate::proofs::ReaderLaws::gaps_more))]
     pub fn skip(&mut self)
         ensures { Passes self.old self.new }
     {
@@ -99,6 +103,7 @@ impl<'a> Reader<'a> {
     }
 
     // An item up to its end, or to the `(` of a group.
+    #[tactic(auto, using(crate::proofs::ReaderLaws::begin_laws))]
     pub fn begin(&mut self) -> Option<Start>
         ensures { ReadsAs BeginSays self.old self.new result }
     {
@@ -126,6 +131,7 @@ impl<'a> Reader<'a> {
     }
 
     // What follows an item. Only behind a gap may another begin.
+    #[tactic(auto, using(crate::proofs::ReaderLaws::after_laws))]
     pub fn after(&mut self) -> Option<Follow>
         ensures { ReadsAs Follows self.old self.new result }
     {

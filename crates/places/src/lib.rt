@@ -19,6 +19,7 @@ pub fn is_linked(links: u16, p: ProcessNumber) -> bool
 }
 
 // The links with p's set.
+#[tactic(auto, using(model::proofs::LinkLaws::added_below, model::proofs::LinkLaws::one_shifted))]
 pub fn with_link(links: u16, p: ProcessNumber) -> u16
     requires { p.0 < 16 }
     ensures { result ≡ link links p }

@@ -39,3 +39,6 @@ one_more b closed = pick (eqb b 41) (eqb b 40)
     pick true t = omega arith
     pick false true = omega arith
     pick false false = omega arith
+
+-- what `unclosed` rests on
+pub ruleset unclosed_laws = (found, passed, none_left, one_more)

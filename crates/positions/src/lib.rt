@@ -8,7 +8,7 @@ ghost use Rattle.positions.specs.Positions.{counted as Positions·counted};
 ghost use Rattle.positions.specs.Brackets.{opens_here, closed_with, unclosed_in};
 
 // Line feeds passed, and the bytes since the last of them: one less than line and column.
-#[derive(Clone, Copy)]
+#[derive(Clone, Copy, Default)]
 pub struct Seen {
     pub feeds: usize,
     pub since: usize,
@@ -50,18 +50,11 @@ pub enum StopReport {
 }
 
 // The bytes before the place, one after another.
+#[tactic(auto, using(crate::proofs::PositionLaws::all_seen))]
 pub fn look(before: &[u8]) -> Seen
     ensures { result ≡ seen_in before.now }
 {
-    let mut s = Seen {
-        feeds: 0,
-        since: 0,
-        spaces: 0,
-        last: None,
-        earlier: None,
-        mark: None,
-        solid: None,
-    };
+    let mut s = Seen::default();
     for b in before {
         s = on_byte(s, *b);
     }
@@ -105,6 +98,7 @@ fn counted(n: usize, more: bool) -> usize
 }
 
 // The place of the last `(` that no `)` closes, if there is one.
+#[tactic(auto, using(crate::proofs::BracketLaws::unclosed_laws))]
 pub fn unclosed(text: &[u8]) -> Option<usize>
     ensures { result ≡ unclosed_in text.now }
 {

@@ -3,6 +3,5 @@
 #![tactic(auto)]
 
 pub mod causes;
-pub mod counts;
 pub mod ranges;
 pub mod table;

@@ -5,27 +5,29 @@ ghost use Rattle.model.specs.Sizes.{sequence_numbers, halves};
 ghost use Rattle.std.specs.List.{list_all};
 ghost use Rattle.model.specs.Refusals.{buffer_ok, sequence_ok, x_ok, links_ok, x_place_ok, bank_place_ok, help_place_ok, is_idle, line_ok, count_ok, process_ok, bench_ok};
 
-use crate::counts::{Processes, Width};
 use lines::points;
+use llsc::counts::{Processes, Width};
 use model::{
     BankPlace, Bench, BufferNumber, HelpPlace, Process, SequenceNumber, XContent, XPlace, sizes,
 };
 
 // A buffer number is below 3N.
+// Kept: beside `sequence_ok`: one comparison each, of numbers of two kinds, and the bound of each is a function.
 pub fn buffer_ok(count: Processes, b: BufferNumber) -> bool
     ensures { result ≡ buffer_ok count.n b }
 {
-    (b.0 as usize) < sizes::buffers(count.n)
+    (b.0 as usize) < sizes::buffers(count)
 }
 
 // A sequence number is below 2N.
 pub fn sequence_ok(count: Processes, s: SequenceNumber) -> bool
     ensures { result ≡ sequence_ok count.n s }
 {
-    (s.0 as usize) < sizes::sequence_numbers(count.n)
+    (s.0 as usize) < sizes::sequence_numbers(count)
 }
 
 // What X holds.
+// Kept: beside `x_place_ok` and `bank_place_ok`: each is two parts that 01 names; one of all three would be its `&&`.
 pub fn x_ok(count: Processes, x: XContent) -> bool
     ensures { result ≡ x_ok count.n x }
 {
@@ -61,6 +63,7 @@ pub fn help_place_ok(count: Processes, help: HelpPlace) -> bool
 }
 
 // Whether a process has no open call.
+// Kept: beside `moir_rows`' own: one comparison, of a field of another record, with that bench's own constant.
 pub fn is_idle(process: Process) -> bool
     ensures { result ≡ is_idle process }
 {
@@ -87,7 +90,7 @@ pub fn count_ok(width: Width, process: Process) -> bool
     let most = if is_idle(process) {
         0
     } else {
-        sizes::busy_most(width.w)
+        sizes::busy_most(width)
     };
     process.count <= most
 }
@@ -103,7 +106,7 @@ pub fn process_ok(count: Processes, width: Width, process: Process) -> bool
         && buffer_ok(count, process.d)
         && buffer_ok(count, process.e)
         && line_ok(process)
-        && process.word < sizes::halves(width.w)
+        && process.word < sizes::halves(width)
         && count_ok(width, process)
 }
 
@@ -111,7 +114,7 @@ pub fn process_ok(count: Processes, width: Width, process: Process) -> bool
 fn banks_ok(count: Processes, bench: Bench) -> bool
     ensures { result ≡ list_all (bank_place_ok count.n) (take (sequence_numbers count.n) bench.bank) }
 {
-    let places = sizes::sequence_numbers(count.n);
+    let places = sizes::sequence_numbers(count);
     bench
         .bank
         .iter()

@@ -7,18 +7,34 @@ ghost use Rattle.rows.specs.CommandRows.{lent_number};
 
 use crate::causes;
 use llsc::Order;
+use llsc::counts::{Processes, Width};
 use llsc::refusals::Refusal;
 use model::sizes;
+
+// What is lent, in numbers, for N and W: so many process records and words.
+#[derive(Clone, Copy)]
+pub struct Lent {
+    pub n: usize,
+    pub w: usize,
+    pub records: usize,
+    pub words: usize,
+}
 
 // Rows 1, 2, 3, with which a set-up begins: the first that holds.
 // Kept: beside `moir_rows`' own, as row 3 counts the words of its own bench, and the causes are shared already.
 #[tactic(auto, unfolding(crate::specs::CommandRows::lent_number))]
-pub fn lent_refusal(n: usize, w: usize, records: usize, words: usize) -> Result<(), Refusal>
-    ensures { number_told result ≡ lent_number n w records words }
+pub fn lent_refusal(lent: Lent) -> Result<(), Refusal>
+    ensures { number_told result ≡ lent_number lent.n lent.w lent.records lent.words }
 {
+    let Lent {
+        n,
+        w,
+        records,
+        words,
+    } = lent;
     Refusal::NOutOfRange.if_holds(causes::n_out_of_range(n))?;
     Refusal::WOutOfRange.if_holds(causes::w_out_of_range(w))?;
-    let needed = sizes::lent_words(n, w);
+    let needed = sizes::lent_words(Processes { n }, Width { w });
     Refusal::TooLittleLent.if_holds(causes::too_little_lent(n, needed, records, words))
 }
 

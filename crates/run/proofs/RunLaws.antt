@@ -1,11 +1,10 @@
 -- The parts of a whole text run put together.
-use mathlib.Core.Path.{◌≡◌, sym, ap, subst, ◌∙◌}
+use mathlib.Core.Path.{◌≡◌, refl, sym, ap, subst, ◌∙◌}
 use mathlib.Core.Bool.{Bool, true, false}
 use mathlib.Core.List.{List}
-use Prim.Native.Nat.{ℕ, ◌+◌, ◌≤◌}
+use Prim.Native.Nat.{ℕ, ◌≤◌}
 use native.Mathlib.Omega.{arith}
 use lib.ListN.{length, take, replicate}
-use lib.Seq.{sets}
 use Rattle.model.specs.declared.Process.{Process}
 use Rattle.model.specs.Records.{no_process}
 use Rattle.model.specs.Machine.{Memory}
@@ -17,18 +16,21 @@ use Rattle.notation.specs.Grammar.{largest, deepest}
 use Rattle.notation.specs.Groups.{ItemsEnded}
 use Rattle.notation.specs.Listed.{Keeps}
 use Rattle.entry.specs.declared.state.Held.{Held}
-use Rattle.entry.specs.declared.state.Run.{Run}
+use Rattle.text_runs.specs.declared.runs.Run.{Run}
 use Rattle.text_runs.specs.declared.runs.Finished.{Finished}
 use Rattle.notation.specs.declared.First.{First}
 use Rattle.text_runs.specs.TextRun.{room_needed}
 use Rattle.semantics.specs.TextRun.{figure2, Ended, ended, begun, carry_all, run_with}
 use Rattle.positions.specs.declared.StopReport.{StopReport}
 use Rattle.semantics.specs.StopPlaces.{StopsAt}
-use Rattle.entry.specs.RunState.{RunState, state_of, progress, Filled, Sound, Kept, Becomes}
+use Rattle.entry.specs.RunState.{RunState, state_of, state_with, progress, Filled, Sound}
 use Rattle.text_runs.specs.KeptEntries.{entries_in}
 use Rattle.listing.specs.declared.Writer.{Writer}
-use Rattle.text_runs.specs.Runs.{Outcome, Closable, finished_of, last_of}
-use Rattle.llsc.specs.Refusals.{number_told}
+use Rattle.text_runs.specs.Runs.{Outcome, Closable, closed_at, fresh_run}
+use Rattle.std.specs.Prelude.{Err}
+use Rattle.llsc.specs.declared.refusals.Refusal.{Refusal}
+use Rattle.llsc.specs.Refusals.{refusal_number, number_told}
+use Rattle.text_runs.specs.Carrying.{Over}
 use Rattle.run.specs.Finished.{memory_of, at_most_sixteen, end_of, Answers, Lending, TextRan, refused_with, started_with, says_after}
 use Rattle.entry.proofs.FilledLaws.{gathered_filled, filled_gathered}
 use Rattle.run.proofs.RecordLaws.{sixteen_most, take_sixteen, filled_sixteen, sixteen_filled}
@@ -38,27 +40,30 @@ use Rattle.semantics.proofs.FarLaws.{far_refused}
 use Rattle.run.proofs.StartLaws.{set_up_same, first, begun_same}
 
 -- a sound run has room for its last line
-pub sound_closable : {len : ℕ} {r : Run} {o : Outcome} {ws : List ℕ} {to : Writer} → to.written ≡ r.written → Sound len (state_of r (number_told o) ws to.list.now) → Closable r.entries o to
-sound_closable e s = record { few = s.entries; stop = s.stop; room = omega (arith, e, s.room) }
-
--- what a run comes to with its last line
-abbrev closed_run : Run → Outcome → StopReport → List ℕ → Finished Held × List ℕ
-closed_run r o report list = (finished_of r.held r.entries o report (r.written + length (last_of r.entries o)), sets list r.written (last_of r.entries o))
+pub sound_closable : {len : ℕ} {r : Run Held} {o : Outcome} {ws : List ℕ} {to : Writer} → Sound len (state_of r (number_told o) ws to) → Closable r.entries o to
+sound_closable s = record { few = s.entries; stop = s.stop; room = s.room }
 
 -- with its last line a run is ended
-pub closed_answers : {len : ℕ} {report : StopReport} {l l' : List ℕ} {out : Finished Held} (r : Run) (o : Outcome) (ws list : List ℕ) → Filled len r.held.all
-    → ◌≡◌ {A = Finished Held × List ℕ} (out, l) (closed_run r o report list) → l' ≡ l → Answers len out ws l' (ended (progress len (state_of r (number_told o) ws list)))
-closed_answers {len} {report} {out = out} r o ws list f e q = record {
+pub closed_answers : {len : ℕ} {report : StopReport} {l l' : List ℕ} {out : Finished Held} (r : Run Held) (o : Outcome) (ws list : List ℕ) (written : ℕ) → Filled len r.held.all
+    → ◌≡◌ {A = Finished Held × List ℕ} (out, l) (closed_at r.held r.entries o report list written) → l' ≡ l → Answers len out ws l' (ended (progress len (state_with r (number_told o) ws list written)))
+closed_answers {len} {report} {out = out} r o ws list written f e q = record {
   same = ap (λ (y : List ℕ). end_of len out ws y) q ∙ ap (λ (x : Finished Held × List ℕ). end_of len x.0 ws x.1) e;
   filled = subst (λ (x : Finished Held). Filled len x.held.all) (sym same) f;
 }
   where
-    same : out ≡ (closed_run r o report list).0
+    same : out ≡ (closed_at r.held r.entries o report list written).0
     same = ap (λ (x : Finished Held × List ℕ). x.0) e
 
-pub closed_report : {report : StopReport} {l : List ℕ} {out : Finished Held} (r : Run) (o : Outcome) (list : List ℕ)
-    → ◌≡◌ {A = Finished Held × List ℕ} (out, l) (closed_run r o report list) → out.report ≡ report
-closed_report r o list e = ap (λ (x : Finished Held × List ℕ). x.0.report) e
+pub closed_report : {report : StopReport} {l : List ℕ} {out : Finished Held} {held : Held} {entries : ℕ} (o : Outcome) (list : List ℕ) (written : ℕ)
+    → ◌≡◌ {A = Finished Held × List ℕ} (out, l) (closed_at held entries o report list written) → out.report ≡ report
+closed_report o list written e = ap (λ (x : Finished Held × List ℕ). x.0.report) e
+
+-- a run that is refused before its set-up
+pub refused_answers : {len : ℕ} {report : StopReport} {l list : List ℕ} {out : Finished Held} {held : Held} {f : Refusal} (ws : List ℕ) → Lending len held.all list
+    → ◌≡◌ {A = Finished Held × List ℕ} (out, l) (closed_at held 0 (Err f) report list 0)
+    → Answers len out ws l (refused_with (refusal_number f) (memory_of held len ws) list) × (out.report ≡ report)
+refused_answers {list = list} {held = held} {f = f} ws x e =
+    (closed_answers (fresh_run held false) (Err f) ws list 0 x.filled e refl, closed_report (Err f) list 0 e)
 
 pub answers_as : {len : ℕ} {out : Finished Held} {ws list : List ℕ} {a b : Ended} → Answers len out ws list a → a ≡ b → Answers len out ws list b
 answers_as x e = record { same = x.same ∙ e; filled = x.filled }
@@ -70,10 +75,10 @@ module _ (t : Bool) (s : List ℕ) (f : First) (m : Memory) (list : List ℕ) wh
       → started_with t f (entries_in (take to entries)) m list ≡ says_after t s f m list
   kept_says l k = T.kept_says figure2 t s f.n f.w f.initial f.items m list far_refused l k
 
--- what the entries leave
-pub record Carried (len : ℕ) (h h' : RunState) (e : Ended) : Type 0 where
-  pub kept : Kept len h h'
-  pub same : ended (progress len h') ≡ e
+-- what the loop leaves, over the records that are lent
+pub lent_over : {a b len at : ℕ} {es : List Entry} (h h' : RunState) → a ≡ len → b ≡ len
+    → Over figure2 es (progress a h) at (progress b h') → Over figure2 es (progress len h) at (progress len h')
+lent_over h h' e f o = rw (e, f) at o
 
 -- "then 1, 2, 3, then the set-up, then the entries"
 module _ {len : ℕ} {list : List ℕ} (t : Bool) (f : First) (es : List Entry) (held : Held)
@@ -96,17 +101,15 @@ module _ {len : ℕ} {list : List ℕ} (t : Bool) (f : First) (es : List Entry) 
         (at_set_up lent f.n f.w value) lent (refused_with (set_up_refusal lent f.n f.w value) lent list)
         (λ z. n (same_number ∙ z)))
 
-    pub carried_start : {h h' : RunState} (small : f.initial ≤ largest) (z : k ≡ 0)
-        → h ≡ first t held ws x f.n f.w f.initial small (sym e ∙ z) → Becomes len (carry_all es) h h'
-        → Carried len h h' (started_with t f es lent list)
+    pub carried_start : {at : ℕ} {h : RunState} (h' : RunState) (small : f.initial ≤ largest) (z : k ≡ 0)
+        → h ≡ first t held ws x f.n f.w f.initial small (sym e ∙ z) → Over figure2 es (progress len h) at (progress len h')
+        → ended (progress len h') ≡ started_with t f es lent list
     unfolding set_up
-    carried_start {h} {h'} small z q i = record {
-      kept = i.kept;
-      same = ap ended (i.same ∙ ap (λ (g : RunState). carry_all es (progress len g)) q ∙ ap (carry_all es) (begun_same t held ws x f.n f.w f.initial small (sym e ∙ z)))
-          ∙ sym (is_begun (set_up_refusal lent f.n f.w value) (λ m. ended (carry_all es (begun t m list 0)))
-          (at_set_up lent f.n f.w value) lent (refused_with (set_up_refusal lent f.n f.w value) lent list)
-          (sym same_number ∙ z));
-    }
+    carried_start h' small z q i =
+        ap ended (i.same ∙ ap (λ (g : RunState). carry_all es (progress len g)) q ∙ ap (carry_all es) (begun_same t held ws x f.n f.w f.initial small (sym e ∙ z)))
+        ∙ sym (is_begun (set_up_refusal lent f.n f.w value) (λ m. ended (carry_all es (begun t m list 0)))
+        (at_set_up lent f.n f.w value) lent (refused_with (set_up_refusal lent f.n f.w value) lent list)
+        (sym same_number ∙ z))
 
 -- in both styles there is room for a listing
 room_most : (t : Bool) {k : ℕ} → room_needed t ≤ k → room_needed false ≤ k

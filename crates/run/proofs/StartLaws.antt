@@ -17,13 +17,13 @@ use Rattle.setup.specs.SetUpByValue.{set_up_number, set_up_number_lem, Accepted}
 use Rattle.rows.proofs.RowLaws.{begins_in_order}
 use Rattle.setup.proofs.SetUpLaws.{first_row_lem, set_up_fits, mapped_length}
 use Rattle.notation.specs.Grammar.{largest}
-use Rattle.entry.specs.RunState.{RunState, state_of, progress, Filled, Sound}
+use Rattle.entry.specs.RunState.{RunState, state_with, progress, Filled, Sound}
 use Rattle.semantics.specs.Reached.{Reached}
 use Rattle.semantics.specs.TextRun.{Progress, begun}
-use Rattle.entry.specs.RunState.{fresh_run}
+use Rattle.text_runs.specs.Runs.{fresh_run}
 use Rattle.run.specs.Finished.{memory_of, Lending}
 use Rattle.entry.specs.declared.state.Held.{Held}
-use Rattle.entry.specs.declared.state.Run.{Run}
+use Rattle.text_runs.specs.declared.runs.Run.{Run}
 use Rattle.entry.proofs.WordLaws.{Every, every_replicate, take_replicate}
 use Rattle.entry.proofs.FilledLaws.{filled_set, lent_length}
 use Rattle.semantics.proofs.ReachedLaws.{reached_set_up}
@@ -85,7 +85,7 @@ module _ {len : ℕ} {list : List ℕ} (t : Bool) (held : Held) (ws : List ℕ) 
     in_lent = omega (arith, mapped_length process_at_set_up (2 * n) n, records_lent n w len (length ws) w z)
 
     abbrev pub first : RunState
-    first = state_of (fresh_run (record { bench = bench_at_set_up held.bench n w; all = records_at_set_up held.all n }) t) 0 (words_at_set_up ws n w (replicate w k)) list
+    first = state_with (fresh_run (record { bench = bench_at_set_up held.bench n w; all = records_at_set_up held.all n }) t) 0 (words_at_set_up ws n w (replicate w k)) list 0
 
     pub begun_same : progress len first ≡ begun t (at_set_up (memory_of held len ws) n w (replicate w k)) list 0
     begun_same =
@@ -115,8 +115,8 @@ module _ {len : ℕ} {list : List ℕ} (t : Bool) (held : Held) (ws : List ℕ) 
     }
 
     -- what the code holds after its set-up
-    pub first_state_is : {r : Run} {b' : Bench} {all' : List Process} {ws' value : List ℕ} → r ≡ fresh_run (record { bench = b'; all = all' }) t → b' ≡ bench_at_set_up held.bench n w → all' ≡ records_at_set_up held.all n
-        → ws' ≡ words_at_set_up ws n w (take w value) → value ≡ replicate 64 k → state_of r 0 ws' list ≡ first
+    pub first_state_is : {r : Run Held} {b' : Bench} {all' : List Process} {ws' value : List ℕ} → r ≡ fresh_run (record { bench = b'; all = all' }) t → b' ≡ bench_at_set_up held.bench n w → all' ≡ records_at_set_up held.all n
+        → ws' ≡ words_at_set_up ws n w (take w value) → value ≡ replicate 64 k → state_with r 0 ws' list 0 ≡ first
     first_state_is {value = value} er eb ea ew ev =
         let v : take w value ≡ replicate w k = ap (take w) ev ∙ take_replicate w 64 k accepted.w_most in
         rw (er, eb, ea, ew, v)

@@ -1,10 +1,9 @@
 -- Where in its text a run stopped, over what the code holds: the entries, the set-up before them, all lent records.
 use mathlib.Core.Path.{◌≡◌, sym, ap, subst, ◌∙◌}
-use mathlib.Core.Bool.{Bool, cond}
+use mathlib.Core.Bool.{Bool}
 use mathlib.Core.List.{List}
-use Prim.Native.Nat.{ℕ, ◌≤◌, ◌<◌}
-use lib.Dec.{eqb}
-use lib.ListN.{length, get_or, take, replicate}
+use Prim.Native.Nat.{ℕ, ◌≤◌}
+use lib.ListN.{length, take, replicate}
 use Rattle.entry.specs.declared.state.Held.{Held}
 use Rattle.model.specs.declared.Process.{Process}
 use Rattle.model.specs.Records.{no_process}
@@ -16,31 +15,15 @@ use Rattle.notation.specs.declared.Entry.{Entry}
 use Rattle.notation.specs.Grammar.{largest}
 use Rattle.notation.specs.declared.First.{First}
 use Rattle.positions.specs.declared.StopReport.{StopReport}
-use Rattle.semantics.specs.TextRun.{figure2, Progress, begun}
+use Rattle.semantics.specs.TextRun.{Progress, begun}
 use Rattle.text_runs.specs.StopPlaces.{at_no_item}
 use Rattle.semantics.specs.StopPlaces.{item_report, StopInText}
 use Rattle.entry.specs.RunState.{RunState, progress}
-use Rattle.text_runs.specs.KeptEntries.{entries_in, places_in, word_report}
-use Rattle.carrying.specs.Carried.{Carries}
 use Rattle.run.specs.Finished.{memory_of, at_most_sixteen, Lending, report_with}
 use Rattle.entry.proofs.FilledLaws.{gathered_filled}
 use Rattle.run.proofs.RecordLaws.{take_sixteen}
-use Rattle.text_runs.proofs.MiddleLaws.{Over}
-use Rattle.text_runs.proofs.StopLaws as S
 use Rattle.run.proofs.StartLaws.{set_up_same, first, begun_same}
 use Rattle.text_runs.proofs.TextLaws.{not_begun, is_begun}
-
--- what the loop leaves
-module _ {len at : ℕ} (entries : List ℕ) {h h' : RunState} (x : Carries len (entries_in entries) h h' at) where
-  abbrev over : Over figure2 (entries_in entries) (progress len h) at (progress len h')
-  over = record { same = x.becomes.same; index = x.index }
-
-  pub stop_within : h.stop ≡ 0 → (h'.stop ≡ 0 → ⊥) → at < length entries
-  stop_within z n = S.stop_within figure2 entries over z n
-
-  pub item_read : (n w : ℕ) → cond (eqb h'.stop 0) (at_no_item n w) (word_report n w (get_or entries at 0))
-      ≡ item_report n w (entries_in entries) (places_in entries) (progress len h)
-  item_read n w = S.item_read figure2 entries over n w
 
 -- "then 1, 2, 3, then the set-up, then the entries"
 module _ {len : ℕ} {list : List ℕ} (t : Bool) (f : First) (es : List Entry) (ps : List ℕ) (held : Held) (ws : List ℕ) (x : Lending len held.all list)

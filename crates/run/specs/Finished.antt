@@ -1,8 +1,6 @@
 -- The whole text run as the code holds it: what its parts are given and what they answer.
 -- Inner: `RunLaws` and `StopLaws` prove that the parts make `TextRun`'s run and `StopPlaces`' report.
-use Rattle.std.specs.Prelude.{◌≡◌, Bool, false, cond, ℕ, ◌+◌, ◌≤◌, List, eqb, ltb, length, take}
-use Rattle.std.proofs.lemmas.List.Edits.{sets}
-use Rattle.model.specs.declared.Bench.{Bench}
+use Rattle.std.specs.Prelude.{◌≡◌, Bool, false, cond, ℕ, ◌≤◌, List, ltb, length, take}
 use Rattle.model.specs.Records.{no_process}
 use Rattle.model.specs.Machine.{Memory}
 use Rattle.model.specs.declared.Process.{Process}
@@ -11,12 +9,11 @@ use Rattle.llsc.specs.Refusals.{number_told}
 use Rattle.notation.specs.declared.Entry.{Entry}
 use Rattle.notation.specs.EntryWords.{largest_place}
 use Rattle.notation.specs.Readers as R
-use Rattle.listing.specs.Lines.{end_line, refused_line}
 use Rattle.entry.specs.declared.state.Held.{Held}
 use Rattle.text_runs.specs.declared.runs.Finished.{Finished}
 use Rattle.notation.specs.declared.First.{First}
 use Rattle.positions.specs.declared.StopReport.{StopReport}
-use Rattle.text_runs.specs.TextRun.{most_entries, room_needed}
+use Rattle.text_runs.specs.TextRun.{room_needed}
 use Rattle.text_runs.specs.KeptEntries as K
 use Rattle.semantics.specs.TextRun.{figure2, Ended, run_with}
 use Rattle.semantics.specs.StopPlaces.{StopsAt}

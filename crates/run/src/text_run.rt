@@ -1,41 +1,25 @@
 // A whole text run (01, "When the bench says no"): "A text run takes 14 at its start, then 12 for length, then 10 and
 // 11 over the whole text, then 1, 2, 3, then the set-up, then the entries".
-ghost use Rattle.std.specs.Prelude.{◌≡◌, true, false, ◌≤◌, take};
-ghost use Rattle.llsc.specs.Refusals.{refusal_number};
+ghost use Rattle.std.specs.Prelude.{◌≡◌, ◌≤◌, take};
 ghost use Rattle.model.specs.Records.{no_process};
 ghost use Rattle.lent.specs.Gathered.{gathered};
 ghost use Rattle.notation.specs.Grammar.{largest};
 ghost use Rattle.semantics.specs.StopPlaces.{StopInText};
 ghost use Rattle.text_runs.specs.KeptEntries.{entries_in, places_in};
-ghost use Rattle.run.specs.Finished.{memory_of, at_most_sixteen, Answers, Lending, Headed, TextRan, started_with, report_with, says_after, refused_with};
+ghost use Rattle.run.specs.Finished.{memory_of, at_most_sixteen, Answers, Lending, Headed, TextRan, started_with, report_with, says_after};
 
 use crate::set_up;
-use entry::state::{Held, Run};
+use carrying::LentHeld;
+use entry::state::Held;
 use listing::Writer;
+use llsc::counts::Processes;
 use llsc::refusals::Refusal;
 use notation::items::Items;
 use notation::{First, items};
 use positions::{Sizes, StopReport};
-use text_runs::runs::Finished;
-use text_runs::{limits, lists, reports, runs};
-
-// A run that is refused before its set-up, in either style.
-// Kept: what is lent stays three: the run takes `held` on, `len` is for row 3 and the contracts, the list is written.
-fn refused(
-    held: Held,
-    len: usize,
-    cause: Refusal,
-    report: StopReport,
-    words: &mut [u64],
-    list: &mut [u8],
-) -> Finished<Held>
-    requires { (Lending len held.all list.old) × (refusal_number cause ≤ 15) }
-    ensures { Answers len result words.new list.new (refused_with (refusal_number cause) (memory_of held len words.old) list.old) ×
-        (result.report ≡ report) }
-{
-    let mut to = Writer { list, written: 0 };
-    runs::ended(held, 0, Err(cause), report, &mut to)
-}
+use rows::table::Lent;
+use text_runs::runs::{Finished, Run};
+use text_runs::{entry_loop, limits, lists, reports, runs};
 
 // "then 1, 2, 3, then the set-up, then the entries": those of the list. The value is looked at only where
 // W is in its range.
@@ -57,27 +41,32 @@ fn started(
 {
     let n = first.n as usize;
     let w = first.w as usize;
-    if let Err(cause) = setup::set_up_refusal(n, w, len, words.len(), w) {
+    let lent = Lent {
+        n,
+        w,
+        records: len,
+        words: words.len(),
+    };
+    if let Err(cause) = setup::set_up_refusal(lent, w) {
         let sizes = Sizes {
             n: first.n,
             w: first.w,
         };
-        return refused(held, len, cause, StopReport::AtNoItem(sizes), words, list);
+        return runs::refused(held, cause, StopReport::AtNoItem(sizes), list);
     }
     let value = lists::repeated(first.initial);
     setup::words_at_set_up(words, n, w, &value[..w]);
-    let bench = setup::bench_at_set_up(held.bench, n, w);
-    let all = set_up::records_at_set_up(held.all, n);
-    let run = Run::fresh(Held { bench, all }, traced);
-    let carried = carrying::carry_out(run, len, entries, words, list);
+    let count = Processes { n };
+    let bench = setup::bench_at_set_up(held.bench, count, w);
+    let all = set_up::records_at_set_up(held.all, count);
+    let held = Held { bench, all };
+    let run = Run::fresh(LentHeld { held, len }, traced);
+    let mut to = Writer { list, written: 0 };
+    let carried = entry_loop::carry_out(run, entries, words, &mut to);
     let outcome = carried.outcome;
     let report = reports::stop_report(first.n, first.w, outcome, entries, carried.at);
     let run = carried.run;
-    let mut to = Writer {
-        list,
-        written: run.written,
-    };
-    runs::ended(run.held, run.entries, outcome, report, &mut to)
+    runs::ended(run.held.held, run.entries, outcome, report, &mut to)
 }
 
 // "then 10 and 11 over the whole text": its items are read once, into the list of its entries.
@@ -101,14 +90,14 @@ fn checked(
         Ok(read) => read,
         Err(fault) => {
             let report = StopReport::AtFault(fault.place);
-            return refused(held, len, fault.cause, report, words, list);
+            return runs::refused(held, fault.cause, report, list);
         }
     };
     match read {
         Items::Ended(count) => started(held, len, traced, first, &kept[..count], words, list),
         Items::Closed(next, _) => {
             let report = StopReport::AtFault(next - 1);
-            refused(held, len, Refusal::TextBroken, report, words, list)
+            runs::refused(held, Refusal::TextBroken, report, list)
         }
     }
 }
@@ -137,23 +126,17 @@ pub fn run_by_value(
 {
     let lent = records_seen(len);
     if list.len() < limits::room_needed(traced) {
-        return Finished {
-            held,
-            outcome: Err(Refusal::NoRoom),
-            entries: 0,
-            written: 0,
-            report: StopReport::NotRead,
-        };
+        return Finished::unwritten(held);
     }
     if limits::LONGEST_TEXT < text.len() {
         let report = StopReport::NotRead;
-        return refused(held, lent, Refusal::TooMuch, report, words, list);
+        return runs::refused(held, Refusal::TooMuch, report, list);
     }
     let header = notation::first_line(text);
     match header {
         Err(place) => {
             let report = StopReport::AtFault(place);
-            refused(held, lent, Refusal::TextBroken, report, words, list)
+            runs::refused(held, Refusal::TextBroken, report, list)
         }
         Ok(first) => checked(held, lent, traced, first, words, text, list),
     }

@@ -33,7 +33,7 @@ impl Place {
     }
 
     // The place that has so many of the text's bytes before it, or the text's end.
-    // Kept: a place beside its text, in `line` and `position` too: what a run tells is a number, and may be past the end.
+    // Kept: a place beside its text: what a run tells is a number, and may be past the end.
     pub fn of(text: &[u8], at: usize) -> Place
         ensures { result ≡ place_in text.now at }
     {
@@ -68,21 +68,20 @@ impl fmt::Display for Named {
     }
 }
 
-// The line of a place of the text.
-pub fn line<W: Write>(to: &mut W, text: &[u8], place: usize) -> io::Result<()>
+// The line of a place.
+pub fn line<W: Write>(to: &mut W, place: Place) -> io::Result<()>
     ensures { OnOk result (Appends (W.contents to.old) (W.contents to.new)
-        (codes "line " ++ Fmt·decimal (place_in text.now place).line)) }
+        (codes "line " ++ Fmt·decimal place.line)) }
 {
-    write!(to, "line {}", Place::of(text, place).line)
+    write!(to, "line {}", place.line)
 }
 
 // Its line and column.
-pub fn position<W: Write>(to: &mut W, text: &[u8], place: usize) -> io::Result<()>
-    ensures { OnOk result (Appends (W.contents to.old) (W.contents to.new)
-        (position_text (place_in text.now place))) }
+pub fn position<W: Write>(to: &mut W, place: Place) -> io::Result<()>
+    ensures { OnOk result (Appends (W.contents to.old) (W.contents to.new) (position_text place)) }
 {
-    let at = Place::of(text, place);
-    write!(to, "line {}, column {}", at.line, at.column)
+    line(to, place)?;
+    write!(to, ", column {}", place.column)
 }
 
 // A place of the text, at most its end: what may be lent as its beginning.

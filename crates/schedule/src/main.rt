@@ -14,10 +14,9 @@ fn main(rt: HostRuntime) -> ExitCode {
     let mut words = [0; 5120];
     let held = Held::empty();
     let out = run::text_run::run_by_value(held, 16, false, &mut words, given, &mut list);
+    let left = messages::figure2::left(out.held.all);
     let ended = messages::Ended {
-        outcome: out.outcome,
-        entries: out.entries,
-        report: out.report,
+        run: out.holding(left),
         text: given,
     };
     messages::conclude(
@@ -25,6 +24,5 @@ fn main(rt: HostRuntime) -> ExitCode {
         &mut rt.stderr(),
         list.get(..out.written),
         ended,
-        messages::figure2::left(out.held.all),
     )
 }

@@ -25,6 +25,7 @@ use Rattle.entry.proofs.WordLaws.{Below, Every, every_replicate}
 use Rattle.run.proofs.StartLaws.{number_small}
 use Rattle.answers.specs.Shape.{largest, longest_listing, Right}
 use Rattle.answers.proofs.ChoiceLaws.{either}
+use Rattle.std.specs.Result.{IsOk}
 use Rattle.sums.specs.declared.Sums.{Sums}
 use Rattle.sums.specs.Season.{most_listings, sums_refusal, added}
 use Rattle.sums.proofs.Theorems.{right_taken}
@@ -122,6 +123,6 @@ run_writes_nothing m text listing h = simp (lt-ltb (length listing) (room_needed
 -- So a season of that N and W takes every listing that a text run writes.
 pub season_takes : (s : Sums) (m : Memory) (text listing : List ℕ) → sums_refusal s ≡ 0 → s.taken < most_listings
     → 744 ≤ length listing → length listing ≤ longest_listing
-    → ((a : Said) → read text ≡ right a → (a.n ≡ s.n) × (a.w ≡ s.w)) → (added s (written_by (run_text m text listing))).number ≡ 0
+    → ((a : Said) → read text ≡ right a → (a.n ≡ s.n) × (a.w ≡ s.w)) → IsOk (added s (written_by (run_text m text listing)))
 season_takes s m text listing e h room lent names =
     right_taken s (written_by (run_text m text listing)) e h (run_writes_right s.n s.w m text listing room lent names)

@@ -20,10 +20,10 @@ use Rattle.listing.specs.Lines.{line_feed, answer_head, words_of, ll_line, truth
 use Rattle.doings.specs.Doings.{doing_at}
 use Rattle.access.specs.Accesses.{access_of}
 use Rattle.listing.specs.Quoted.{quoted}
-use Rattle.access.specs.TraceLines.{half_text, half_place_text, item_text, values_text, stored_text, written_text, act_text, step_line}
-use Rattle.trace_parts.specs.TraceParts.{spaced, bracketed, head_text, truth_text, end_text, brought_text, start_line}
+use Rattle.access.specs.TraceLines.{half_text, half_place_text, item_text, values_text, stored_text, written_text, act_text, access_text}
+use Rattle.trace_parts.specs.TraceParts.{spaced, bracketed, head_text, truth_text, end_text, start_text, start_line, step_line}
 use Rattle.text_runs.specs.TextRun as TR
-use Rattle.semantics.specs.TextRun.{single, steps, carry, carry_all, run_with}
+use Rattle.semantics.specs.TextRun.{run_with}
 
 -- a text, and what a run of it writes
 pub record Run : Type 0 where
@@ -172,5 +172,5 @@ unfolding dirty_x dirty_bank dirty_help dirty_process lent dirty_bytes runs_to l
     proceed step starting inside whole scan go move said more on_digit at_end kind_of times TR.carry_all TR.carry TR.steps TR.single
     command refusal obey step_at in_range set_up set_up_refusal ll_line truth_line end_line refused_line answer_head words_of
     decimal digits access_of doing_at spaced bracketed head_text half_text half_place_text item_text values_text truth_text
-    stored_text written_text act_text end_text step_line brought_text start_line
+    stored_text written_text act_text access_text end_text step_line start_text start_line
 traces_line_by_line = refl

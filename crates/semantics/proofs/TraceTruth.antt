@@ -24,6 +24,7 @@ use Rattle.notation.specs.Grammar.{Said}
 use Rattle.doings.specs.declared.Item.{Item}
 use Rattle.doings.specs.declared.Item.TheVariants.{X, Bank, Help, Half}
 use Rattle.doings.specs.Items.{InBench, half_holding, item_at}
+use Rattle.access.specs.Accesses.{item_of}
 use Rattle.access.specs.Truth.{TellsTruth, DependsOn}
 use Rattle.access.proofs.Theorems.{trace_is_true, step_depends}
 use Rattle.semantics.specs.Reached.{Reached}
@@ -39,7 +40,7 @@ use Rattle.semantics.proofs.AcceptedSteps.{unrefused, left_by, stepped, at_work}
 pub record StepTrue (p : ℕ) (m m' : Memory) : Type 0 where
   pub tells : TellsTruth (record { 0 = p }) (figure2.shows m p) m.bench m.words m'.bench m'.words
   pub depends : let q = record_at m.records (record { 0 = p }) in
-      DependsOn (point_of q.line) (record { 0 = p }) m.bench q m.words (figure2.shows m p).item
+      DependsOn (point_of q.line) (record { 0 = p }) m.bench q m.words (item_of (figure2.shows m p).act)
 
 -- Of a start: docs/TRACE.md, "a start touches nothing shared".
 abbrev pub StartTrue : Memory → Memory → Type 0

@@ -7,10 +7,10 @@ ghost use Rattle.station.specs.Station.{no_holding};
 ghost use Rattle.station.specs.Projection.{at_rest};
 ghost use Rattle.station.specs.StationSetUp.{empty_tables, empty_station, empty_process};
 
-use model::{BankPlace, BufferNumber, HelpPlace, SequenceNumber, XContent, XPlace};
+use model::{BankPlace, BufferNumber, HelpPlace, XContent, XPlace};
 
 // A record's number, below R.
-#[derive(Clone, Copy, PartialEq, Eq)]
+#[derive(Clone, Copy, Default, PartialEq, Eq)]
 pub struct RecordNumber(pub u8);
 
 // A record's X, Bank and Help, with their links.
@@ -22,7 +22,7 @@ pub struct Tables {
 }
 
 // What a process holds of one record.
-#[derive(Clone, Copy)]
+#[derive(Clone, Copy, Default)]
 pub struct Holding {
     pub mybuf: BufferNumber,
     pub x: XContent,
@@ -31,7 +31,7 @@ pub struct Holding {
 
 // A process: what it holds of each record, and its one open call, with that call's record number, 0 when idle.
 // Its return area and its offer area lie in the lent words.
-#[derive(Clone, Copy)]
+#[derive(Clone, Copy, Default)]
 pub struct StationProcess {
     pub holdings: [Holding; 8],
     pub called: RecordNumber,
@@ -89,29 +89,12 @@ pub fn empty_station() -> Station
 pub fn empty_holding() -> Holding
     ensures { result ≡ no_holding }
 {
-    Holding {
-        mybuf: BufferNumber(0),
-        x: XContent {
-            buf: BufferNumber(0),
-            seq: SequenceNumber(0),
-        },
-        answered: false,
-    }
+    Holding::default()
 }
 
 // A process record before any set-up, for a program to lend.
 pub fn empty_process() -> StationProcess
     ensures { result ≡ empty_process }
 {
-    StationProcess {
-        holdings: [empty_holding(); 8],
-        called: RecordNumber(0),
-        line: 0,
-        word: 0,
-        count: 0,
-        b: BufferNumber(0),
-        c: BufferNumber(0),
-        d: BufferNumber(0),
-        e: BufferNumber(0),
-    }
+    StationProcess::default()
 }

@@ -1,2 +1,3 @@
 pub mod StationObeyLaws
 pub mod StationDecisionLaws
+pub mod OrderLaws

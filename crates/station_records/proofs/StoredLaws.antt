@@ -4,12 +4,16 @@ use mathlib.Core.List.{List}
 use Prim.Native.Nat.{ℕ, zero, suc, ◌+◌, ◌≤◌, ◌<◌}
 use native.Mathlib.Omega.{arith}
 use lib.ListN.{length, get_or, set}
+use Rattle.std.specs.Prelude.{Option, None, Some}
+use Rattle.station.specs.declared.Station.{Station}
 use Rattle.station.specs.declared.StationProcess.{StationProcess}
+use Rattle.station.specs.Station.{station_memory}
 use Rattle.station.specs.StationSetUp.{firsts, empty_process}
 use Rattle.station_facts.proofs.Firsts.{firsts_at, firsts_next}
 use Rattle.lent.specs.Gathered.{gathered, stored}
 use Rattle.lent.proofs.GatheredLaws.{gathered_length, gathered_at}
-use Rattle.station_records.specs.Gathered.{processes_stored}
+use Rattle.station_records.specs.declared.left.Left.{Left}
+use Rattle.station_records.specs.Gathered.{processes_stored, left_stored}
 
 module _ (f : ℕ → StationProcess → StationProcess) (ps : List StationProcess) (n : ℕ) (hn : n ≤ 16) (hl : n ≤ length ps) where
   abbrev all : List StationProcess
@@ -31,3 +35,11 @@ module _ (f : ℕ → StationProcess → StationProcess) (ps : List StationProce
 
   pub stored_firsts : processes_stored ps (firsts f 0 n (gathered ps empty_process 16)) n ≡ firsts f 0 n ps
   stored_firsts = stored_so_far n (omega arith)
+
+-- what a run left, stored back, or nothing
+module _ (s : Station) (ps : List StationProcess) (ws : List ℕ) {left : Option Left} {s' : Station} {ps' : List StationProcess} where
+  pub left_is : (x : Left) → left ≡ Some x → s' ≡ x.station → ps' ≡ processes_stored ps x.all x.station.n → station_memory s' ps' ws ≡ left_stored s ps ws left
+  left_is x is e f = rw (is, e, f) refl
+
+  pub none_left : left ≡ None → s' ≡ s → ps' ≡ ps → station_memory s' ps' ws ≡ left_stored s ps ws left
+  none_left is e f = rw (is, e, f) refl

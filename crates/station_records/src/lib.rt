@@ -4,6 +4,7 @@
 #![tactic(auto)]
 
 pub mod gathered;
+pub mod left;
 
 ghost use Rattle.std.specs.Prelude.{◌≡◌, ◌<◌, cond, eqb, get_or};
 ghost use Rattle.station.specs.Station.{no_tables, holding_at};

@@ -10,7 +10,7 @@ ghost use Rattle.station.specs.StationRefusals.{called_ok, station_process_ok, s
 ghost use Rattle.station_records.specs.TakenOut.{bench_in};
 
 use crate::sizes::Sizes;
-use rows::counts::{Processes, Width};
+use llsc::counts::{Processes, Width};
 use station::{RecordNumber, Station, StationProcess};
 
 // The open call's record is below R, and 0 when idle.
@@ -25,13 +25,12 @@ pub fn seen_ok(sizes: Sizes, q: StationProcess) -> bool
     ensures { result ≡ every (λ j. process_ok sizes.n sizes.w (process_of (record { 0 = j }) q)) (numbers 0 sizes.r) }
 {
     let Sizes { n, w, r } = sizes;
-    for j in 0..r {
+    let count = Processes { n };
+    let width = Width { w };
+    (0..r).all(|j| {
         let process = station_records::process_of(RecordNumber(j as u8), q);
-        if !rows::ranges::process_ok(Processes { n }, Width { w }, process) {
-            return false;
-        }
-    }
-    true
+        rows::ranges::process_ok(count, width, process)
+    })
 }
 
 // A process record.
@@ -53,13 +52,10 @@ pub fn benches_ok(station: Station) -> bool
     requires { (station.n ≤ 16) × (station.r ≤ 8) }
     ensures { result ≡ every (λ j. bench_ok (bench_in station (record { 0 = j }))) (numbers 0 station.r) }
 {
-    for j in 0..station.r {
+    (0..station.r).all(|j| {
         let bench = station_records::bench_of(station, RecordNumber(j as u8));
-        if !rows::ranges::bench_ok(bench) {
-            return false;
-        }
-    }
-    true
+        rows::ranges::bench_ok(bench)
+    })
 }
 
 // Row 9, over the station record and the process records.

@@ -1,6 +1,7 @@
 // The refusal table of a station in row order: 1, 2, 23, 3, 9, 4, 24, 8, 5, 6, 7.
 ghost use Rattle.std.specs.Prelude.{◌≡◌, ◌≤◌};
 ghost use Rattle.llsc.specs.Refusals.{number_told};
+ghost use Rattle.station_rows.specs.Ordered.{order_in, number_in};
 ghost use Rattle.station_rows.specs.StationCommandRows.{station_lent_number, station_memory_number, station_number, station_late_number};
 
 use crate::commands::Command;
@@ -42,7 +43,7 @@ pub fn memory_refusal(lent: Gathered, words: usize) -> Result<(), Refusal>
 // The first row that holds, for a value of so many words.
 pub fn refusal(lent: Gathered, command: Command, value: usize, words: usize) -> Result<(), Refusal>
     ensures { number_told result
-        ≡ station_number lent.station lent.all lent.len command.process command.order command.named value words }
+        ≡ station_number lent.station lent.all lent.len command.process (order_in command.order) (number_in command.order) value words }
 {
     memory_refusal(lent, words)?;
     late_refusal(lent, command, value)
@@ -53,17 +54,13 @@ pub fn refusal(lent: Gathered, command: Command, value: usize, words: usize) -> 
 pub fn late_refusal(lent: Gathered, command: Command, value: usize) -> Result<(), Refusal>
     requires { (lent.station.n ≤ 16) × (lent.station.r ≤ 8) }
     ensures { number_told result
-        ≡ station_late_number lent.station lent.all command.process command.order command.named value }
+        ≡ station_late_number lent.station lent.all command.process (order_in command.order) (number_in command.order) value }
 {
-    let Command {
-        process,
-        order,
-        named,
-    } = command;
+    let Command { process, order } = command;
     let Gathered { station, all, .. } = lent;
     Refusal::NoSuchProcess.if_holds(plain::no_such_process(station.n, process))?;
-    Refusal::NoSuchRecord.if_holds(causes::no_such_record(order, station.r, named))?;
+    Refusal::NoSuchRecord.if_holds(causes::no_such_record(order, station.r))?;
     let q = all[ProcessNumber(process as u8).record_place()];
-    let answered = causes::answered_for(order, named, q);
-    rows::table::call_refusal(order, station.w, value, q.is_at_rest(), answered)
+    let answered = causes::answered_for(order, q);
+    rows::table::call_refusal(order.order(), station.w, value, q.is_at_rest(), answered)
 }

@@ -1,6 +1,7 @@
 -- What the run by value leaves, put back and stored, is the text run on the station.
 use mathlib.Core.Path.{◌≡◌, refl, sym, ap, ap₂, subst, ◌∙◌}
 use mathlib.Core.Bool.{Bool, true, false, cond}
+use Rattle.std.specs.Prelude.{Option}
 use mathlib.Core.List.{List, ◌++◌, map}
 use Prim.Native.Nat.{ℕ, zero, suc, ◌+◌, ◌≤◌, ◌<◌}
 use native.Mathlib.Omega.{arith}
@@ -16,6 +17,7 @@ use Rattle.lent.proofs.GatheredLaws.{gathered_length}
 use Rattle.llsc.specs.Refusals.{number_told}
 use Rattle.entry.specs.declared.state.Held.{Held}
 use Rattle.text_runs.specs.declared.runs.Finished.{Finished}
+use Rattle.text_runs.specs.Returned.{holding}
 use Rattle.run.specs.Finished.{at_most_sixteen, memory_of, end_of, TextRan}
 use Rattle.semantics.specs.TextRun.{Ended, run_text}
 use Rattle.semantics.proofs.TextFrame.{ended_longer, first_sixteen}
@@ -25,12 +27,12 @@ use Rattle.station.specs.Station.{StationMemory, station_memory}
 use Rattle.station.specs.Projection.{process_of, put_process}
 use Rattle.station.specs.StationSetUp.{empty_process, firsts}
 use Rattle.station_facts.proofs.Firsts.{firsts_same}
-use Rattle.lent.specs.Gathered.{gathered, stored as stored_from}
+use Rattle.lent.specs.Gathered.{gathered}
 use Rattle.station_records.specs.Gathered.{LentProcesses, processes_stored}
 use Rattle.station_records.proofs.StoredLaws.{stored_firsts}
-use Rattle.station_run.specs.declared.RunLeft.{RunLeft}
+use Rattle.station_records.specs.declared.left.Left.{Left}
 use Rattle.station_run.specs.StationText.{record0, before_run, put_record, after_run, left_by, on_station, StationEnded, station_run_text}
-use Rattle.station_run.specs.TextByValue.{bench_before, records_before, station_ran, put_at, processes_ran, left_with, put_back, ended_with, StationRan}
+use Rattle.station_run.specs.TextByValue.{bench_before, records_before, station_ran, put_at, put_back, ended_with, StationRan}
 use Rattle.station_run.proofs.RunSizes.{Sized, sized_run}
 use Rattle.station_run.proofs.SeenLaws.{gathered_few, gathered_again, seen_gathered}
 
@@ -90,15 +92,15 @@ module _ (s : Station) (ps : List StationProcess) (ws text list : List ℕ) (out
         ∙ firsts_same (put_at out.held.all) (put_record ran) 0 n ps
         (λ i q h. ap (put_process record0 q) (record_at_is (0 + i) (omega arith)))
 
-    abbrev stored : RunLeft → StationEnded
-    stored x = ended_with x (processes_stored ps x.all x.stored) ws' list'
+    abbrev stored : Finished (Option Left) → StationEnded
+    stored x = ended_with s ps x ws' list'
 
     -- refused before the set-up: nothing is stored, and the words are as they were
     words_stay : n ≡ 0 → ws' ≡ ws
     words_stay e = ap (λ (m : Memory). m.words) (sizes.before e)
 
-    back : (t : Bool) → eqb n 0 ≡ t → stored (put_back s (gathered ps empty_process 16) out) ≡ answer ran
-    unfolding put_back stored_from
+    back : (t : Bool) → eqb n 0 ≡ t → stored (holding out (put_back s (gathered ps empty_process 16) out.held)) ≡ answer ran
+    unfolding put_back
     back true e =
         simp e
         (ap (λ (l : List ℕ). record { number = number_told out.outcome; entries = out.entries; written = out.written; memory = station_memory s ps l; listing = list' })
@@ -114,27 +116,27 @@ module _ (s : Station) (ps : List StationProcess) (ws text list : List ℕ) (out
           listing = list';
         }) processes_stored_is)
 
-    pub stored_run_is : stored (put_back s (gathered ps empty_process 16) out) ≡ station_run_text (station_memory s ps ws) text list
+    pub stored_run_is : stored (holding out (put_back s (gathered ps empty_process 16) out.held)) ≡ station_run_text (station_memory s ps ws) text list
     stored_run_is = back (eqb n 0) refl ∙ sym said
 
 -- so for whatever process records were lent, with what the code took out for the run, and what it put back
 module _ (s : Station) (all : List StationProcess) (len : ℕ) (ws text list : List ℕ) (out : Finished Held) (ws' list' : List ℕ) where
-  of_lent : TextRan false (record { bench = bench_before s; all = records_before all }) len ws text list out ws' list' → StationRan s all len ws text list (put_back s all out) ws' list'
+  of_lent : TextRan false (record { bench = bench_before s; all = records_before all }) len ws text list out ws' list' → StationRan s all len ws text list (holding out (put_back s all out.held)) ws' list'
   of_lent r = record { stored = of }
     where
       of : (ps : List StationProcess) → all ≡ gathered ps empty_process 16 → len ≡ length ps
-          → ended_with (put_back s all out) (processes_stored ps (put_back s all out).all (put_back s all out).stored) ws' list' ≡ station_run_text (station_memory s ps ws) text list
+          → ended_with s ps (holding out (put_back s all out.held)) ws' list' ≡ station_run_text (station_memory s ps ws) text list
       of ps e h =
-          ap (λ (a : List StationProcess). ended_with (put_back s a out) (processes_stored ps (put_back s a out).all (put_back s a out).stored) ws' list') e
+          ap (λ (a : List StationProcess). ended_with s ps (holding out (put_back s a out.held)) ws' list') e
           ∙ stored_run_is s ps ws text list out ws' list'
           (subst (λ (k : ℕ). TextRan false (record { bench = bench_before s; all = gathered (map (process_of record0) ps) no_process 16 }) k ws text list out ws' list')
           (h ∙ sym (length-map ps (process_of record0)))
           (subst (λ (a : List Process). TextRan false (record { bench = bench_before s; all = a }) len ws text list out ws' list') (ap records_before e ∙ seen_gathered ps) r))
 
-  pub run_put_back : {b : Bench} {rs : List Process} {r : RunLeft} → b ≡ bench_before s → rs ≡ records_before all → r ≡ put_back s all out
+  pub run_put_back : {b : Bench} {rs : List Process} {r : Finished (Option Left)} → b ≡ bench_before s → rs ≡ records_before all → r ≡ holding out (put_back s all out.held)
       → TextRan false (record { bench = b; all = rs }) len ws text list out ws' list' → StationRan s all len ws text list r ws' list'
   run_put_back {b} {rs} {r} eb ers er x =
-      subst (λ (y : RunLeft). StationRan s all len ws text list y ws' list') (sym er)
+      subst (λ (y : Finished (Option Left)). StationRan s all len ws text list y ws' list') (sym er)
       (of_lent (subst (λ (a : List Process). TextRan false (record { bench = bench_before s; all = a }) len ws text list out ws' list') ers
       (subst (λ (a : Bench). TextRan false (record { bench = a; all = rs }) len ws text list out ws' list') eb x)))
 

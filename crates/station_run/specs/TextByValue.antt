@@ -1,6 +1,6 @@
 -- The text run on gathered process records: what is taken out for the run by value, and what is put back.
 -- Inner: `StoredRun` proves that this, stored back, is `station_run_text`.
-use Rattle.std.specs.Prelude.{◌≡◌, ℕ, List, map, cond, eqb, length, get_or, set}
+use Rattle.std.specs.Prelude.{◌≡◌, ℕ, List, Option, None, Some, map, cond, eqb, length, get_or, set}
 use Rattle.model.specs.declared.Bench.{Bench}
 use Rattle.model.specs.Records.{no_process}
 use Rattle.model.specs.declared.Process.{Process}
@@ -14,8 +14,8 @@ use Rattle.station.specs.Station.{station_memory, no_tables}
 use Rattle.station.specs.Projection.{process_of, put_tables, put_process}
 use Rattle.station.specs.StationSetUp.{empty_process, firsts}
 use Rattle.lent.specs.Gathered.{gathered}
-use Rattle.station_records.specs.Gathered.{processes_stored}
-use Rattle.station_run.specs.declared.RunLeft.{RunLeft}
+use Rattle.station_records.specs.Gathered.{left_stored}
+use Rattle.station_records.specs.declared.left.Left.{Left}
 use Rattle.station_run.specs.StationText.{record0, unsized, StationEnded, station_run_text}
 
 abbrev pub bench_before : Station → Bench
@@ -36,21 +36,19 @@ put_at rs p q = put_process record0 q (get_or rs p no_process)
 abbrev pub processes_ran : List StationProcess → List Process → ℕ → List StationProcess
 processes_ran all rs k = firsts (put_at rs) 0 k all
 
-abbrev pub left_with : Station → List StationProcess → ℕ → Finished Held → RunLeft
-left_with s all k out = record { station = s; all = all; stored = k; outcome = out.outcome; entries = out.entries; written = out.written }
+-- none where the run was refused before its set-up
+unfoldable pub put_back : Station → List StationProcess → Held → Option Left
+put_back s all h =
+    cond (eqb h.bench.n 0) None
+    (Some (record { station = station_ran s h.bench; all = processes_ran all h.all (at_most_sixteen h.bench.n) }))
 
-unfoldable pub put_back : Station → List StationProcess → Finished Held → RunLeft
-put_back s all out =
-    cond (eqb out.held.bench.n 0) (left_with s all 0 out)
-    (left_with (station_ran s out.held.bench) (processes_ran all out.held.all (at_most_sixteen out.held.bench.n)) (at_most_sixteen out.held.bench.n) out)
-
--- what a run returns and leaves, with the process records, the words and the listing after it
-abbrev pub ended_with : RunLeft → List StationProcess → List ℕ → List ℕ → StationEnded
-ended_with r ps ws list =
-    record { number = number_told r.outcome; entries = r.entries; written = r.written; memory = station_memory r.station ps ws; listing = list }
+-- what a run returns and leaves, with the words and the listing after it
+abbrev pub ended_with : Station → List StationProcess → Finished (Option Left) → List ℕ → List ℕ → StationEnded
+ended_with s ps r ws list =
+    record { number = number_told r.outcome; entries = r.entries; written = r.written; memory = left_stored s ps ws r.held; listing = list }
 
 -- what a text run answers where `all` holds the first sixteen of `len` lent process records: stored back, the run of
 -- `station_run_text`
-pub record StationRan (s : Station) (all : List StationProcess) (len : ℕ) (ws text list : List ℕ) (r : RunLeft) (ws' list' : List ℕ) : Type 0 where
+pub record StationRan (s : Station) (all : List StationProcess) (len : ℕ) (ws text list : List ℕ) (r : Finished (Option Left)) (ws' list' : List ℕ) : Type 0 where
   pub stored : (ps : List StationProcess) → all ≡ gathered ps empty_process 16 → len ≡ length ps
-      → ended_with r (processes_stored ps r.all r.stored) ws' list' ≡ station_run_text (station_memory s ps ws) text list
+      → ended_with s ps r ws' list' ≡ station_run_text (station_memory s ps ws) text list

@@ -10,24 +10,11 @@ ghost use Rattle.station_run.specs.StationText.{record0};
 ghost use Rattle.station_run.specs.TextByValue.{bench_before, records_before, station_ran, processes_ran, put_back, StationRan};
 
 use entry::state::Held;
-use llsc::refusals::Refusal;
 use model::{Bench, Process};
 use run::text_run;
 use station::{RecordNumber, Station, StationProcess, Tables};
+use station_records::left::Left;
 use text_runs::runs::Finished;
-
-// What a text run leaves of the station and the process records, how many of these to store back, none where it was
-// refused before its set-up, and what it returns: why it was refused, if it was, the entries done and the listing bytes
-// written.
-#[derive(Clone, Copy)]
-pub struct RunLeft {
-    pub station: Station,
-    pub all: [StationProcess; 16],
-    pub stored: usize,
-    pub outcome: Result<(), Refusal>,
-    pub entries: usize,
-    pub written: usize,
-}
 
 // Record 0 as a bench that is not set up.
 fn bench_before(station: Station) -> Bench
@@ -82,41 +69,27 @@ fn processes_ran(
     all
 }
 
-// Where N is still 0, the run was refused before its set-up, and nothing is to be stored.
+// Nothing is left to store where the run was refused before its set-up: its bench is then not set up, and has N = 0.
 #[tactic(auto, unfolding(crate::specs::TextByValue::put_back))]
-fn put_back(station: Station, all: [StationProcess; 16], out: Finished<Held>) -> RunLeft
-    ensures { result ≡ put_back station all out }
+fn put_back(station: Station, all: [StationProcess; 16], held: Held) -> Option<Left>
+    ensures { result ≡ put_back station all held }
 {
     let Held {
         bench,
         all: records,
-    } = out.held;
-    let outcome = out.outcome;
-    let entries = out.entries;
-    let written = out.written;
+    } = held;
     if bench.n == 0 {
-        return RunLeft {
-            station,
-            all,
-            stored: 0,
-            outcome,
-            entries,
-            written,
-        };
+        return None;
     }
-    let stored = text_run::records_seen(bench.n);
-    let all = processes_ran(all, records, stored);
-    RunLeft {
+    let count = text_run::records_seen(bench.n);
+    Some(Left {
         station: station_ran(station, bench),
-        all,
-        stored,
-        outcome,
-        entries,
-        written,
-    }
+        all: processes_ran(all, records, count),
+    })
 }
 
 // `all` holds the first sixteen of `len` lent process records, with a filler where there are fewer.
+#[tactic(auto, using(crate::proofs::StoredRun::run_put_back))]
 pub fn run_by_value(
     station: Station,
     all: [StationProcess; 16],
@@ -124,7 +97,7 @@ pub fn run_by_value(
     words: &mut [u64],
     text: &[u8],
     listing: &mut [u8],
-) -> RunLeft
+) -> Finished<Option<Left>>
     requires { LentProcesses all len }
     ensures { StationRan station all len words.old text.now listing.old
         result words.new listing.new }
@@ -134,5 +107,5 @@ pub fn run_by_value(
         all: records_before(all),
     };
     let out = text_run::run_by_value(held, len, false, words, text, listing);
-    put_back(station, all, out)
+    out.holding(put_back(station, all, out.held))
 }

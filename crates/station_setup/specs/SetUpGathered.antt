@@ -8,8 +8,8 @@ use Rattle.station.specs.declared.StationProcess.{StationProcess}
 use Rattle.station.specs.Station.{StationMemory, station_memory}
 use Rattle.station.specs.StationSetUp.{firsts}
 use Rattle.station_records.specs.Gathered.{processes_stored}
+use Rattle.station_records.specs.declared.left.Left.{Left}
 use Rattle.station_setup.specs.StationSetUpByValue.{process_for, station_prepared}
-use Rattle.station_setup.specs.declared.gathered.NewSetUp.{NewSetUp}
 
 -- a set-up by value, with its process records: a refused one changes none
 abbrev pub with_processes : List StationProcess → ℕ → ℕ → (ℕ × Station) × List ℕ → ((ℕ × Station) × List StationProcess) × List ℕ
@@ -20,7 +20,7 @@ abbrev pub set_up_gathered :
 set_up_gathered s all len n w r v ws = with_processes all n r (station_prepared s len n w r v ws)
 
 -- its outcome as the number of its refusal, 0 for none, the station record and the process records
-abbrev pub told_all : Station → List StationProcess → Result NewSetUp Refusal → (ℕ × Station) × List StationProcess
+abbrev pub told_all : Station → List StationProcess → Result Left Refusal → (ℕ × Station) × List StationProcess
 told_all s all (Ok set) = ((0, set.station), set.all)
 told_all s all (Err refusal) = ((refusal_number refusal, s), all)
 

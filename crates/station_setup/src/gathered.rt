@@ -3,15 +3,8 @@ ghost use Rattle.std.specs.Prelude.{◌≡◌};
 ghost use Rattle.station_setup.specs.SetUpGathered.{told_all, set_up_gathered};
 
 use llsc::refusals::Refusal;
-use station::{Station, StationProcess};
 use station_records::gathered::Gathered;
-
-// The station record and the process records after a set-up; the first N of these are to be stored back.
-#[derive(Clone, Copy)]
-pub struct NewSetUp {
-    pub station: Station,
-    pub all: [StationProcess; 16],
-}
+use station_records::left::Left;
 
 // The set-up by value, but for the lent words, which it writes.
 pub fn set_up_gathered(
@@ -21,11 +14,11 @@ pub fn set_up_gathered(
     r: usize,
     value: &[u64],
     words: &mut [u64],
-) -> Result<NewSetUp, Refusal>
+) -> Result<Left, Refusal>
     ensures { (told_all lent.station lent.all result, words.new)
         ≡ set_up_gathered lent.station lent.all lent.len n w r value.now words.old }
 {
     let station = crate::prepare(lent.station, lent.len, n, w, r, value, words)?;
     let all = crate::processes_at_set_up(lent.all, n, r, n);
-    Ok(NewSetUp { station, all })
+    Ok(Left { station, all })
 }

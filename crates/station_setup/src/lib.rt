@@ -11,6 +11,7 @@ ghost use Rattle.station.specs.Station.{no_holding};
 ghost use Rattle.station.specs.StationSetUp.{holding_at_set_up, station_process_at_set_up, blocks, firsts};
 ghost use Rattle.station_setup.specs.StationSetUpByValue.{process_for, station_set_up_number, tables_set, sized, Admitted, block, told, station_prepared};
 
+use llsc::counts::Processes;
 use llsc::refusals::Refusal;
 use model::{BufferNumber, sizes};
 use station::{Holding, RecordNumber, Station, StationProcess};
@@ -43,7 +44,7 @@ pub fn with_tables(mut station: Station, n: usize, w: usize, r: usize) -> Statio
 {
     for j in 0..r {
         let bench = station_records::bench_of(station, RecordNumber(j as u8));
-        let set = setup::bench_at_set_up(bench, n, w);
+        let set = setup::bench_at_set_up(bench, Processes { n }, w);
         station = station_records::put_bench(station, RecordNumber(j as u8), set);
     }
     station
@@ -76,7 +77,7 @@ pub fn words_at_set_up(words: &mut [u64], n: usize, w: usize, r: usize, value: &
     requires { Admitted n w r (length words.old) (length value.now) }
     ensures { words.new ≡ sets words.old 0 (blocks r n w value.now) }
 {
-    let each = sizes::buffers(n) * w;
+    let each = sizes::buffers(Processes { n }) * w;
     for j in 0..r {
         block_at_set_up(words, j * each, each, value);
     }
@@ -98,11 +99,9 @@ pub fn process_at_set_up(n: usize, r: usize, p: usize, q: StationProcess) -> Sta
     requires { (n ≤ 16) × ((r ≤ 8) × (p ≤ 16)) }
     ensures { result ≡ station_process_at_set_up n r p q }
 {
-    let h = holding_at_set_up((sizes::sequence_numbers(n) + p) as u8);
+    let h = holding_at_set_up((sizes::sequence_numbers(Processes { n }) + p) as u8);
     let mut holdings = q.holdings;
-    for j in 0..r {
-        holdings[j] = h;
-    }
+    holdings[..r].fill(h);
     StationProcess {
         holdings,
         ..station::empty_process()

@@ -10,6 +10,7 @@ ghost use Rattle.steps.specs.Steps.{read_word, written_word};
 
 use lines::{on_words, points};
 use llsc::ProcessNumber;
+use llsc::counts::Width;
 use model::{BufferNumber, Process, WordStep, sizes};
 use words::layouts::FirstRows;
 use words::word_places;
@@ -30,7 +31,7 @@ pub fn read_word(
     let source = rows.buffer_in(from, k / 2);
     let target = rows.return_in(p, k / 2);
     word_places::copy_half(words, k, source, target);
-    on_words::do_word(sizes::halves(rows.w), line, process)
+    on_words::do_word(sizes::halves(Width { w: rows.w }), line, process)
 }
 
 // Line 11: a half word of the return area into BUF[mybuf].
@@ -42,7 +43,7 @@ pub fn step_11(rows: FirstRows, p: ProcessNumber, process: Process, words: &mut 
     let source = rows.return_in(p, k / 2);
     let target = rows.buffer_in(process.mybuf, k / 2);
     word_places::copy_half(words, k, source, target);
-    on_words::do_line_11(sizes::halves(rows.w), process)
+    on_words::do_line_11(sizes::halves(Width { w: rows.w }), process)
 }
 
 // Line 17: a half word of the offer area into BUF[mybuf].
@@ -54,5 +55,5 @@ pub fn step_17(rows: FirstRows, p: ProcessNumber, process: Process, words: &mut 
     let source = rows.offer_in(p, k / 2);
     let target = rows.buffer_in(process.mybuf, k / 2);
     word_places::copy_half(words, k, source, target);
-    on_words::do_word(sizes::halves(rows.w), points::LINE_18, process)
+    on_words::do_word(sizes::halves(Width { w: rows.w }), points::LINE_18, process)
 }

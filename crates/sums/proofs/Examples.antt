@@ -3,13 +3,14 @@ use Prim.Native.Nat.{ℕ}
 use mathlib.Core.Path.{◌≡◌, refl}
 use mathlib.Core.List.{List, [], ◌∷◌}
 use lib.ListN.{take, replicate}
+use Rattle.std.specs.Result.{result_unwrap_or}
 use Rattle.listing.specs.Quoted.{quoted}
 use Rattle.answers.specs.declared.Sum.{Sum}
 use Rattle.answers.specs.Gains.{no_sum, tally}
 use Rattle.answers.specs.Readers.{digits_after, number_in, spaced_number, expected, words_in, ll_tail, truth_tail, by_letter, answer_in, finished, end_in, refused_in, last_in, lines_in, listing_in}
 use Rattle.sums.specs.declared.Sums.{Sums}
 use Rattle.sums.specs.declared.Row.{Row}
-use Rattle.sums.specs.Season.{empty_sums, all_small, sums_refusal, is_right, add_refusal, taking, break_in, added, add_all}
+use Rattle.sums.specs.Season.{empty_sums, all_small, sums_refusal, is_right, add_refusal, taking, break_in, added, added_number, sums_after, add_all}
 use Rattle.sums.specs.Fractions.{euclid, gcd, lowest, row_of, rows_of, table}
 
 abbrev row : ℕ → ℕ → ℕ → ℕ → Row
@@ -24,13 +25,13 @@ season =
     ∷ []
 
 -- process 0 has 2 of 3 SCs, and 24 steps in 2 LLs, which is 12 over 1; process 1 has no SC
-both : take 2 (table (add_all (empty_sums 2 1) season)).rows ≡ row 2 3 12 1 ∷ row 0 0 10 1 ∷ []
-unfolding season empty_sums all_small sums_refusal is_right add_refusal taking break_in added add_all euclid gcd lowest row_of rows_of table tally digits_after number_in spaced_number expected words_in ll_tail truth_tail by_letter answer_in finished end_in refused_in last_in lines_in listing_in
+both : take 2 (result_unwrap_or (table (add_all (empty_sums 2 1) season)) []) ≡ row 2 3 12 1 ∷ row 0 0 10 1 ∷ []
+unfolding season empty_sums all_small sums_refusal is_right add_refusal taking break_in added sums_after add_all euclid gcd lowest row_of rows_of table tally digits_after number_in spaced_number expected words_in ll_tail truth_tail by_letter answer_in finished end_in refused_in last_in lines_in listing_in
 both = refl
 
 -- two are taken, and the sums stay at the bad one
 two_taken : (add_all (empty_sums 2 1) season).taken ≡ 2
-unfolding season empty_sums all_small sums_refusal is_right add_refusal taking break_in added add_all tally digits_after number_in spaced_number expected words_in ll_tail truth_tail by_letter answer_in finished end_in refused_in last_in lines_in listing_in
+unfolding season empty_sums all_small sums_refusal is_right add_refusal taking break_in added sums_after add_all tally digits_after number_in spaced_number expected words_in ll_tail truth_tail by_letter answer_in finished end_in refused_in last_in lines_in listing_in
 two_taken = refl
 
 -- sums of two processes, the third of which is never looked at
@@ -41,7 +42,7 @@ handed n w taken steps past =
     record { n = n; w = w; taken = taken; each = first ∷ no_sum ∷ third ∷ replicate 13 no_sum }
 
 unfoldable number : Sums → List ℕ → ℕ
-number s bs = (added s bs).number
+number s bs = added_number (added s bs)
 
 -- the order 1, 2, 9, 19, 18, each before all that follow it; the last takes the listing
 rows_in_order : number (handed 0 0 4096 72057594037927936 0) [] ∷ number (handed 17 0 4096 72057594037927936 0) [] ∷ number (handed 2 0 4096 72057594037927936 0) []

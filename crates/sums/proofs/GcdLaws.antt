@@ -109,3 +109,7 @@ lowest_terms a b h =
 pub no_calls : (a : ℕ) → lowest a 0 ≡ none
 unfolding lowest
 no_calls a = refl
+
+pub ruleset dividing = (gcd_turn, gcd_zero)
+
+pub ruleset lowering = (lowest_is, gcd_positive, no_calls)

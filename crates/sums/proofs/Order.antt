@@ -10,19 +10,21 @@ use lib.ListN.{length, get_or-replicate}
 use Rattle.answers.specs.declared.Sum.{Sum}
 use Rattle.answers.specs.Shape.{longest_listing, Answer, Right}
 use Rattle.answers.specs.Gains.{no_sum, gained}
-use Rattle.answers.specs.Readers.{Read, listing_in}
+use Rattle.std.specs.Prelude.{Result}
+use Rattle.std.specs.Result.{is_ok, result_unwrap_or}
+use Rattle.answers.specs.Readers.{listing_in}
 use Rattle.answers.specs.Ranges.{Below, AllBelow}
 use Rattle.answers.proofs.SumLaws.{gained_comm, weaker}
 use Rattle.answers.proofs.Theorems.{reads_shaped, shaped_read}
 use Rattle.sums.specs.declared.Sums.{Sums}
-use Rattle.sums.specs.Season.{empty_sums, most_listings, sums_refusal, is_right, add_refusal, taking, added, add_all}
+use Rattle.sums.specs.Season.{empty_sums, most_listings, sums_refusal, is_right, add_refusal, taking, added, sums_after, add_all}
 use Rattle.sums.proofs.RefusalLaws.{below_small}
 use Rattle.sums.proofs.Bytes.{most, listing_adds}
 
 -- `is_right` decides `Right`
 right_pick : (n w : ℕ) (bs : List ℕ) → n ≤ 16 → (t : Bool) → leb (length bs) longest_listing ≡ t
-    → cond t (listing_in n w [] bs).right false ≡ true → Right n w bs
-right_pick n w bs few true e h = record { short = leb-true (length bs) longest_listing e; shaped = shaped_read n w [] bs few h }
+    → cond t (is_ok (listing_in n w [] bs)) false ≡ true → Right n w bs
+right_pick n w bs few true e h = record { short = leb-true (length bs) longest_listing e; shaped = shaped_read n w [] bs h }
 right_pick n w bs few false e h = absurd (true≢false (sym h))
 
 pub right_of : (n w : ℕ) (bs : List ℕ) → n ≤ 16 → is_right n w bs ≡ true → Right n w bs
@@ -32,7 +34,7 @@ right_of n w bs few h = right_pick n w bs few (leb (length bs) longest_listing) 
 pub of_right : (n w : ℕ) (bs : List ℕ) → n ≤ 16 → Right n w bs → is_right n w bs ≡ true
 unfolding is_right
 of_right n w bs few r =
-    simp (le-leb (length bs) longest_listing r.short) (ap (λ (x : Read). x.right) (reads_shaped n w [] few r.shaped))
+    simp (le-leb (length bs) longest_listing r.short) (ap is_ok (reads_shaped n w [] few r.shaped))
 
 -- sums that began empty
 pub record Fine (s : Sums) : Type 0 where
@@ -69,20 +71,21 @@ fine_right s f =
 
 module _ (s : Sums) (f : Fine s) (bs : List ℕ) where
   -- what adding does, by whether there is room and the listing is right
-  full : most_listings ≤ s.taken → (added s bs).sums ≡ s
-  unfolding added add_refusal
+  full : most_listings ≤ s.taken → sums_after s bs ≡ s
+  unfolding sums_after added add_refusal
   full h = simp (fine_right s f, le-ltb s.taken most_listings h)
 
-  wrong : is_right s.n s.w bs ≡ false → s.taken < most_listings → (added s bs).sums ≡ s
-  unfolding added add_refusal
+  wrong : is_right s.n s.w bs ≡ false → s.taken < most_listings → sums_after s bs ≡ s
+  unfolding sums_after added add_refusal
   wrong e h = simp (fine_right s f, lt-ltb s.taken most_listings h, e)
 
-  pub takes : is_right s.n s.w bs ≡ true → s.taken < most_listings → (added s bs).sums ≡ taking s bs
-  unfolding added add_refusal
+  pub takes : is_right s.n s.w bs ≡ true → s.taken < most_listings → (sums_after s bs) ≡ taking s bs
+  unfolding sums_after added add_refusal
   takes e h = simp (fine_right s f, lt-ltb s.taken most_listings h, e)
 
-  pub gains : (r : Right s.n s.w bs) → (listing_in s.n s.w s.each bs).each ≡ gained s.each r.shaped.answers
-  gains r = ap (λ (x : Read). x.each) (reads_shaped s.n s.w s.each f.few_n r.shaped)
+  pub gains : (r : Right s.n s.w bs) → (taking s bs).each ≡ gained s.each r.shaped.answers
+  unfolding taking
+  gains r = ap (λ (x : Result (List Sum) (List ℕ)). result_unwrap_or x s.each) (reads_shaped s.n s.w s.each f.few_n r.shaped)
 
   pub taking_fine : is_right s.n s.w bs ≡ true → s.taken < most_listings → Fine (taking s bs)
   unfolding taking
@@ -112,18 +115,18 @@ module _ (s : Sums) (f : Fine s) (bs : List ℕ) where
   unfolding taking
   grows h k e = subst After (sym e) (record { fine = taking_fine h k; more = omega arith })
 
-  after_pick : (t u : Bool) → ltb s.taken most_listings ≡ t → is_right s.n s.w bs ≡ u → After (added s bs).sums
+  after_pick : (t u : Bool) → ltb s.taken most_listings ≡ t → is_right s.n s.w bs ≡ u → After (sums_after s bs)
   after_pick false u e h = stays (full (ltb-false s.taken most_listings e))
   after_pick true false e h = stays (wrong h (ltb-true s.taken most_listings e))
   after_pick true true e h = let k = ltb-true s.taken most_listings e in grows h k (takes h k)
 
-  after : After (added s bs).sums
+  after : After (sums_after s bs)
   after = after_pick (ltb s.taken most_listings) (is_right s.n s.w bs) refl refl
 
 pub all_fine : (xs : List (List ℕ)) (s : Sums) → Fine s → Fine (add_all s xs)
 unfolding add_all
 all_fine [] s f = f
-all_fine (x ∷ xs) s f = all_fine xs (added s x).sums (after s f x).fine
+all_fine (x ∷ xs) s f = all_fine xs (sums_after s x) (after s f x).fine
 
 -- two listings in either order
 module _ (s : Sums) (f : Fine s) (x y : List ℕ) (room : s.taken + 2 ≤ most_listings) where
@@ -135,7 +138,7 @@ module _ (s : Sums) (f : Fine s) (x y : List ℕ) (room : s.taken + 2 ≤ most_l
 
   -- both taken
   gains_both : (u v : List ℕ) (a : IsRight u ≡ true) (b : IsRight v ≡ true)
-      → (listing_in s.n s.w (listing_in s.n s.w s.each u).each v).each ≡ gained (gained s.each (answers_of u a)) (answers_of v b)
+      → (taking (taking s u) v).each ≡ gained (gained s.each (answers_of u a)) (answers_of v b)
   unfolding taking answers_of
   gains_both u v a b =
       let p = right_of s.n s.w u f.few_n a in
@@ -148,27 +151,27 @@ module _ (s : Sums) (f : Fine s) (x y : List ℕ) (room : s.taken + 2 ≤ most_l
       ap (λ (l : List Sum). record { n = s.n; w = s.w; taken = s.taken + 1 + 1; each = l })
       (gains_both x y a b ∙ gained_comm s.each (answers_of x a) (answers_of y b) ∙ sym (gains_both y x b a))
 
-  then_takes : (u v : List ℕ) → IsRight u ≡ true → IsRight v ≡ true → (added (added s u).sums v).sums ≡ taking (taking s u) v
+  then_takes : (u v : List ℕ) → IsRight u ≡ true → IsRight v ≡ true → sums_after (sums_after s u) v ≡ taking (taking s u) v
   unfolding taking
   then_takes u v a b =
-      ap (λ (z : Sums). (added z v).sums) (takes s f u a (omega arith)) ∙ takes (taking s u) (taking_fine s f u a (omega arith)) v b (omega arith)
+      ap (λ (z : Sums). sums_after z v) (takes s f u a (omega arith)) ∙ takes (taking s u) (taking_fine s f u a (omega arith)) v b (omega arith)
 
-  then_stays : (u v : List ℕ) → IsRight u ≡ true → IsRight v ≡ false → (added (added s u).sums v).sums ≡ (added s u).sums
+  then_stays : (u v : List ℕ) → IsRight u ≡ true → IsRight v ≡ false → sums_after (sums_after s u) v ≡ sums_after s u
   unfolding taking
   then_stays u v a b =
       let e = takes s f u a (omega arith) in
-      ap (λ (z : Sums). (added z v).sums) e ∙ wrong (taking s u) (taking_fine s f u a (omega arith)) v b (omega arith) ∙ sym e
+      ap (λ (z : Sums). sums_after z v) e ∙ wrong (taking s u) (taking_fine s f u a (omega arith)) v b (omega arith) ∙ sym e
 
-  skips : (u v : List ℕ) → IsRight u ≡ false → (added (added s u).sums v).sums ≡ (added s v).sums
-  skips u v a = ap (λ (z : Sums). (added z v).sums) (wrong s f u a (omega arith))
+  skips : (u v : List ℕ) → IsRight u ≡ false → sums_after (sums_after s u) v ≡ sums_after s v
+  skips u v a = ap (λ (z : Sums). sums_after z v) (wrong s f u a (omega arith))
 
-  swap_pick : (t u : Bool) → IsRight x ≡ t → IsRight y ≡ u → (added (added s x).sums y).sums ≡ (added (added s y).sums x).sums
+  swap_pick : (t u : Bool) → IsRight x ≡ t → IsRight y ≡ u → sums_after (sums_after s x) y ≡ sums_after (sums_after s y) x
   swap_pick true true a b = then_takes x y a b ∙ both a b ∙ sym (then_takes y x b a)
   swap_pick true false a b = then_stays x y a b ∙ sym (skips y x b)
   swap_pick false true a b = skips x y a ∙ sym (then_stays y x b a)
   swap_pick false false a b = skips x y a ∙ wrong s f y b (omega arith) ∙ sym (skips y x b ∙ wrong s f x a (omega arith))
 
-  swaps : (added (added s x).sums y).sums ≡ (added (added s y).sums x).sums
+  swaps : sums_after (sums_after s x) y ≡ sums_after (sums_after s y) x
   swaps = swap_pick (IsRight x) (IsRight y) refl refl
 
 perm_length : {xs ys : List (List ℕ)} → Permᴰ xs ys → length xs ≡ length ys
@@ -182,9 +185,9 @@ unfolding add_all
 same_sums Permᴰ.nil s f h = refl
 same_sums (Permᴰ.cons {a = a} {b = b} {l₁ = l₁} {l₂ = l₂} e p) s f h =
     let k = after s f a in
-    same_sums p (added s a).sums k.fine (omega (arith, k.more)) ∙ ap (λ (z : List ℕ). add_all (added s z).sums l₂) e
+    same_sums p (sums_after s a) k.fine (omega (arith, k.more)) ∙ ap (λ (z : List ℕ). add_all (sums_after s z) l₂) e
 same_sums (Permᴰ.swap {a = a} {b = b} {a' = a'} {b' = b'} {l = l} e g) s f h =
     ap (λ (z : Sums). add_all z l) (swaps s f a b (omega arith))
-    ∙ ap (λ (z : List ℕ). add_all (added (added s z).sums a).sums l) g
-    ∙ ap (λ (z : List ℕ). add_all (added (added s a').sums z).sums l) e
+    ∙ ap (λ (z : List ℕ). add_all (sums_after (sums_after s z) a) l) g
+    ∙ ap (λ (z : List ℕ). add_all (sums_after (sums_after s a') z) l) e
 same_sums (Permᴰ.trans p q) s f h = same_sums p s f h ∙ same_sums q s f (omega (arith, perm_length p))

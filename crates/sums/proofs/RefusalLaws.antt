@@ -7,13 +7,12 @@ use native.Mathlib.Omega.{arith}
 use borrow.Author.Tests.{leb-true, ltb-true, ltb-false, lt-ltb}
 use lib.Dec.{eqb, leb, ltb}
 use lib.ListN.{length, take, get_or}
-use Rattle.std.specs.Prelude.{◌↔◌, Result, Ok, Err}
-use Rattle.std.specs.Result.{is_ok}
+use Rattle.std.specs.Prelude.{◌↔◌}
 use Rattle.std.specs.List.{AllPass}
 use Rattle.std.proofs.lemmas.List.{get_or-take, length-take-le, get_or_default}
 use Rattle.llsc.specs.declared.refusals.Refusal.{Refusal}
 use Rattle.llsc.specs.declared.refusals.Refusal.TheVariants as refusal
-use Rattle.llsc.specs.Refusals.{refusal_number, number_told, refused_if}
+use Rattle.llsc.specs.Refusals.{refusal_number}
 use Rattle.answers.specs.declared.Sum.{Sum}
 use Rattle.answers.specs.Gains.{no_sum}
 use Rattle.answers.specs.Ranges.{Below, AllBelow}
@@ -23,39 +22,6 @@ use Rattle.sums.specs.Season.{sum_limit, small_sum, all_small, sums_refusal}
 pub and_true : (a b : Bool) → (a && b) ≡ true → (a ≡ true) × (b ≡ true)
 and_true true b e = (refl, e)
 and_true false b e = absurd (true≢false (sym e))
-
--- a row that holds refuses, one that does not leaves the rows behind it
-error_of : Refusal → Result (Unit {0}) Refusal → Refusal
-error_of r (Ok u) = r
-error_of r (Err e) = e
-
-pub held : (t : Bool) (r : Refusal) {e : Refusal} → refused_if t r ≡ Err e → (t ≡ true) × (e ≡ r)
-unfolding error_of
-held true r h = (refl, ap (error_of r) (sym h))
-held false r h = absurd (true≢false (ap is_ok h))
-
-pub not_held : (t : Bool) (r : Refusal) {u : Unit {0}} → refused_if t r ≡ Ok u → t ≡ false
-not_held true r h = absurd (true≢false (sym (ap is_ok h)))
-not_held false r h = refl
-
-pub refuses : (t : Bool) (r : Refusal) {e : Refusal} (x : ℕ) → refused_if (not t) r ≡ Err e → refusal_number e ≡ cond t x (refusal_number r)
-refuses true r x h = absurd (true≢false (ap is_ok h))
-refuses false r x h = ap number_told (sym h)
-
-pub lets_pass : (t : Bool) (r : Refusal) (x : ℕ) {u : Unit {0}} → refused_if (not t) r ≡ Ok u → x ≡ cond t x (refusal_number r)
-lets_pass true r x h = refl
-lets_pass false r x h = absurd (true≢false (sym (ap is_ok h)))
-
-pub last_told : (t : Bool) (r : Refusal) → number_told (refused_if (not t) r) ≡ cond t 0 (refusal_number r)
-last_told true r = refl
-last_told false r = refl
-
-pub in_range : (x most : ℕ) (r : Refusal) {u : Unit {0}} → refused_if (not (leb 1 x && leb x most)) r ≡ Ok u → x ≤ most
-in_range x most r h = leb-true x most (and_true (leb 1 x) (leb x most) (pick (leb 1 x && leb x most) h)).1
-  where
-    pick : (t : Bool) {u : Unit {0}} → refused_if (not t) r ≡ Ok u → t ≡ true
-    pick true h = refl
-    pick false h = absurd (true≢false (sym (ap is_ok h)))
 
 -- every refusal has a number
 pub some_number : (r : Refusal) → eqb (refusal_number r) 0 ≡ false
@@ -121,9 +87,9 @@ small_decided false k l h e = pick (all_small k l) refl
         ap small_sum (get_or-take k l i d s ∙ get_or_default l i d no_sum (omega (arith, s))) ∙ each_small k l q i s)
 
 -- what these rows leave
-cond_zero : (t : Bool) (x k : ℕ) → (k ≡ 0 → ⊥) → cond t x k ≡ 0 → (t ≡ true) × (x ≡ 0)
-cond_zero true x k h e = (refl, e)
-cond_zero false x k h e = absurd (h e)
+cond_zero : (t : Bool) (k x : ℕ) → (k ≡ 0 → ⊥) → cond (not t) k x ≡ 0 → (t ≡ true) × (x ≡ 0)
+cond_zero true k x h e = (refl, e)
+cond_zero false k x h e = absurd (h e)
 
 pub record Passes (s : Sums) : Type 0 where
   pub few : s.n ≤ 16
@@ -132,12 +98,15 @@ pub record Passes (s : Sums) : Type 0 where
 pub passes : (s : Sums) → sums_refusal s ≡ 0 → Passes s
 unfolding sums_refusal
 passes s e =
-    let a = cond_zero (leb 1 s.n && leb s.n 16) _ 1 (λ z. omega arith) e in
-    let b = cond_zero (leb 1 s.w && leb s.w 64) (cond (all_small s.n s.each) 0 9) 2 (λ z. omega arith) a.1 in
+    let a = cond_zero (leb 1 s.n && leb s.n 16) 1 _ (λ z. omega arith) e in
+    let b = cond_zero (leb 1 s.w && leb s.w 64) 2 (cond (not (all_small s.n s.each)) 9 0) (λ z. omega arith) a.1 in
     record {
       few = leb-true s.n 16 (and_true (leb 1 s.n) (leb s.n 16) a.0).1;
-      small = (cond_zero (all_small s.n s.each) 0 9 (λ z. omega arith) b.1).0;
+      small = (cond_zero (all_small s.n s.each) 9 0 (λ z. omega arith) b.1).0;
     }
+
+pub few_pass : (s : Sums) → sums_refusal s ≡ 0 → s.n ≤ 16
+few_pass s e = (passes s e).few
 
 -- small sums are below 2 to the 56th
 small_one : (s : Sum) → small_sum s ≡ true → Below 72057594037927935 s

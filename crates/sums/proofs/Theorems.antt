@@ -2,21 +2,22 @@
 use Prim.Native.Nat.{ℕ, zero, suc, ◌+◌, ◌≤◌, ◌<◌, ◌∣◌}
 use mathlib.Core.Path.{◌≡◌, refl, sym, ap, subst, ◌∙◌}
 use mathlib.Core.List.{List, [], ◌∷◌, Permᴰ}
-use mathlib.Core.Bool.{Bool, true, false, ◌&&◌}
+use mathlib.Core.Bool.{Bool, true, false, ◌&&◌, cond, true≢false}
 use native.Mathlib.Omega.{arith}
 use native.Mathlib.Nat.{dvd-zero}
-use borrow.Author.Tests.{leb-true, lt-ltb, ne_eqb}
+use borrow.Author.Tests.{leb-true, lt-ltb, eqb-true}
 use lib.Dec.{leb, eqb}
+use Rattle.std.specs.Prelude.{Option, Result, Ok, Err}
+use Rattle.std.specs.Result.{is_ok, result_unwrap_or, IsOk, IsErr, IsOkAnd}
 use lib.ListN.{length, get_or, replicate, get_or-replicate, length-replicate}
 use Rattle.answers.specs.declared.Sum.{Sum}
 use Rattle.answers.specs.Shape.{Answer, ll, sc, vl, Right}
 use Rattle.answers.specs.Gains.{no_sum, plus, gain_of, gained}
-use Rattle.answers.specs.Readers.{Read}
 use Rattle.answers.proofs.Theorems.{reads_shaped}
 use Rattle.sums.specs.declared.Sums.{Sums}
 use Rattle.sums.specs.declared.Fraction.{Fraction}
 use Rattle.sums.specs.declared.Row.{Row}
-use Rattle.sums.specs.Season.{empty_sums, most_listings, sums_refusal, is_right, listing_refusal, add_refusal, taking, added, add_all}
+use Rattle.sums.specs.Season.{empty_sums, most_listings, sums_refusal, is_right, listing_refusal, add_refusal, taking, NotTaken, added, added_number, sums_after, add_all}
 use Rattle.sums.specs.Fractions.{none, lowest, Exact, row_of, no_row, rows_of, table}
 use Rattle.sums.specs.SeasonTable.{Listing, bytes_of, answers_of, sc_success, sc_answered, ll_steps, ll_answered, total, Tabled, SeasonTable}
 use Rattle.sums.proofs.GcdLaws.{lowest_terms, no_calls}
@@ -32,33 +33,52 @@ right_exactly n w bs few = (right_of n w bs few, of_right n w bs few)
 -- and then the sums gain what its answers add.
 pub gains_answers : (s : Sums) (bs : List ℕ) → s.n ≤ 16 → (r : Right s.n s.w bs) → (taking s bs).each ≡ gained s.each r.shaped.answers
 unfolding taking
-gains_answers s bs few r = ap (λ (x : Read). x.each) (reads_shaped s.n s.w s.each few r.shaped)
+gains_answers s bs few r = ap (λ (x : Result (List Sum) (List ℕ)). result_unwrap_or x s.each) (reads_shaped s.n s.w s.each few r.shaped)
 
 -- A right listing is taken by sums that rows 1, 2, 9 and 19 leave alone.
-pub right_taken : (s : Sums) (bs : List ℕ) → sums_refusal s ≡ 0 → s.taken < most_listings → Right s.n s.w bs → (added s bs).number ≡ 0
+pub right_taken : (s : Sums) (bs : List ℕ) → sums_refusal s ≡ 0 → s.taken < most_listings → Right s.n s.w bs → IsOk (added s bs)
 unfolding added add_refusal
 right_taken s bs e h r = simp (e, lt-ltb s.taken most_listings h, of_right s.n s.w bs (passes s e).few r)
 
--- Row 9 never strikes sums that began empty, whatever listings were added: neither their table
-pub never_nine : (n w : ℕ) (xs : List (List ℕ)) → 1 ≤ n → n ≤ 16 → 1 ≤ w → w ≤ 64 → (table (add_all (empty_sums n w) xs)).number ≡ 0
+-- What rows 1, 2 and 9 leave has its rows.
+rows_are : (s : Sums) → sums_refusal s ≡ 0 → table s ≡ Ok (rows_of s.each s.n)
 unfolding table
-never_nine n w xs a b c d = fine_right (add_all (empty_sums n w) xs) (all_fine xs (empty_sums n w) (empty_fine n w a b c d))
+rows_are s e = simp (e)
+
+-- Row 9 never strikes sums that began empty, whatever listings were added: neither their table
+pub never_nine : (n w : ℕ) (xs : List (List ℕ)) → 1 ≤ n → n ≤ 16 → 1 ≤ w → w ≤ 64 → IsOk (table (add_all (empty_sums n w) xs))
+never_nine n w xs a b c d = ap is_ok (rows_are (add_all (empty_sums n w) xs) (fine_right _ (all_fine xs (empty_sums n w) (empty_fine n w a b c d))))
+
+-- (the number that is told is that of the first row that strikes)
+number_added : (s : Sums) (bs : List ℕ) → added_number (added s bs) ≡ add_refusal s bs
+unfolding added
+number_added s bs = pick (add_refusal s bs) _ (eqb (add_refusal s bs) 0) refl
+  where
+    pick : (k : ℕ) (at : Option ℕ) (t : Bool) → eqb k 0 ≡ t
+        → added_number (cond t (Ok (taking s bs)) (Err (record { number = k; at = at }))) ≡ k
+    pick k at true e = sym (eqb-true k 0 e)
+    pick k at false e = refl
 
 -- nor the adding of a further one, which rows 19 and 18 alone can stop.
 pub never_nine_adding : (n w : ℕ) (xs : List (List ℕ)) (bs : List ℕ) → 1 ≤ n → n ≤ 16 → 1 ≤ w → w ≤ 64
-    → (added (add_all (empty_sums n w) xs) bs).number ≡ listing_refusal (add_all (empty_sums n w) xs) bs
-unfolding added add_refusal
+    → added_number (added (add_all (empty_sums n w) xs) bs) ≡ listing_refusal (add_all (empty_sums n w) xs) bs
+unfolding add_refusal
 never_nine_adding n w xs bs a b c d =
-    let s : Sums = add_all (empty_sums n w) xs in simp (fine_right s (all_fine xs (empty_sums n w) (empty_fine n w a b c d)))
+    let s : Sums = add_all (empty_sums n w) xs in
+    number_added s bs ∙ simp (fine_right s (all_fine xs (empty_sums n w) (empty_fine n w a b c d)))
 
 -- "the sums stay"
-pub sums_stay : (s : Sums) (bs : List ℕ) → ((added s bs).number ≡ 0 → ⊥) → (added s bs).sums ≡ s
-unfolding added
-sums_stay s bs h = simp (ne_eqb (add_refusal s bs) 0 h)
+pub sums_stay : (s : Sums) (bs : List ℕ) → IsErr (added s bs) → sums_after s bs ≡ s
+unfolding sums_after
+sums_stay s bs h = pick (added s bs) h
+  where
+    pick : (r : Result Sums NotTaken) → IsErr r → result_unwrap_or r s ≡ s
+    pick (Ok t) e = absurd (true≢false (sym e))
+    pick (Err e) h = refl
 
 -- At rows 1, 2 and 9 they stay whatever is added.
 stuck : (s : Sums) → eqb (sums_refusal s) 0 ≡ false → (xs : List (List ℕ)) → add_all s xs ≡ s
-unfolding add_all added add_refusal
+unfolding add_all sums_after added add_refusal
 stuck s e [] = refl
 stuck s e (x ∷ xs) = ap (λ (z : Sums). add_all z xs) (simp (e)) ∙ stuck s e xs
 
@@ -97,17 +117,22 @@ pub any_order : (n w : ℕ) {xs ys : List (List ℕ)} → Permᴰ xs ys → leng
 any_order n w p h = ap table (order_pick n w p h (right_n n w) (right_w n w) refl refl)
 
 -- The table: a process below N has its two fractions, the others have 0 over 0,
-rows_are : (s : Sums) → sums_refusal s ≡ 0 → (table s).rows ≡ rows_of s.each s.n
+tabled : (s : Sums) {rows : List Row} → table s ≡ Ok rows → (sums_refusal s ≡ 0) × (rows ≡ rows_of s.each s.n)
 unfolding table
-rows_are s e = simp (e)
+tabled s {rows} e = pick (eqb (sums_refusal s) 0) refl e
+  where
+    pick : (t : Bool) → eqb (sums_refusal s) 0 ≡ t → cond t (Ok (rows_of s.each s.n)) (Err (sums_refusal s)) ≡ Ok rows
+        → (sums_refusal s ≡ 0) × (rows ≡ rows_of s.each s.n)
+    pick true z h = (eqb-true (sums_refusal s) 0 z, ap (λ (r : Result (List Row) ℕ). result_unwrap_or r []) (sym h))
+    pick false z h = absurd (true≢false (sym (ap is_ok h)))
 
-pub own_row : (s : Sums) (p : ℕ) → (table s).number ≡ 0 → p < s.n → get_or (table s).rows p no_row ≡ row_of (get_or s.each p no_sum)
-unfolding table
-own_row s p e h = ap (λ (l : List Row). get_or l p no_row) (rows_are s e) ∙ row_below s.each s.n p h (passes s e).few
+pub own_row : (s : Sums) (p : ℕ) {rows : List Row} → table s ≡ Ok rows → p < s.n → get_or rows p no_row ≡ row_of (get_or s.each p no_sum)
+own_row s p e h =
+    let t = tabled s e in
+    ap (λ (l : List Row). get_or l p no_row) t.1 ∙ row_below s.each s.n p h (passes s t.0).few
 
-pub other_row : (s : Sums) (p : ℕ) → (table s).number ≡ 0 → s.n ≤ p → p < 16 → get_or (table s).rows p no_row ≡ no_row
-unfolding table
-other_row s p e h k = ap (λ (l : List Row). get_or l p no_row) (rows_are s e) ∙ row_past s.each s.n p h k
+pub other_row : (s : Sums) (p : ℕ) {rows : List Row} → table s ≡ Ok rows → s.n ≤ p → p < 16 → get_or rows p no_row ≡ no_row
+other_row s p e h k = ap (λ (l : List Row). get_or l p no_row) (tabled s e).1 ∙ row_past s.each s.n p h k
 
 -- "as fractions in lowest terms. A process with no such call gets 0 over 0", and no other does.
 two_zeros : {x : ℕ} → x ≡ 0 → 2 ∣ x
@@ -129,8 +154,8 @@ exact a b = record {
 }
 
 -- So for each process below N and both fractions of its row.
-pub exact_rows : (s : Sums) (p : ℕ) → (table s).number ≡ 0 → p < s.n
-    → let r = get_or (table s).rows p no_row in let t = get_or s.each p no_sum in
+pub exact_rows : (s : Sums) (p : ℕ) {rows : List Row} → table s ≡ Ok rows → p < s.n
+    → let r = get_or rows p no_row in let t = get_or s.each p no_sum in
     Exact t.successes t.scs r.successes × Exact t.steps t.lls r.steps
 unfolding row_of
 exact_rows s p e h =
@@ -154,8 +179,8 @@ module _ (n w : ℕ) (a : 1 ≤ n) (b : n ≤ 16) (c : 1 ≤ w) (d : w ≤ 64) (
   unfolding empty_sums
   end_is = all_gained n w season 0 (replicate 16 no_sum) (empty_fine n w a b c d) (omega arith)
 
-  number : (table end).number ≡ 0
-  number = never_nine n w (bytes_of season) a b c d
+  rows_end : table end ≡ Ok (rows_of end.each end.n)
+  rows_end = rows_are end (fine_right end (all_fine (bytes_of season) (empty_sums n w) (empty_fine n w a b c d)))
 
   -- one of the four sums of a process
   total_is : (g : Sum → ℕ) (f : Answer → ℕ) (adds : (s t : Sum) → g (plus s t) ≡ g s + g t) (worth : (x : Answer) → g (gain_of x) ≡ f x)
@@ -169,19 +194,18 @@ module _ (n w : ℕ) (a : 1 ≤ n) (b : n ≤ 16) (c : 1 ≤ w) (d : w ≤ 64) (
   below_n : (p : ℕ) → p < n → p < end.n
   below_n p k = omega (arith, ap (λ (s : Sums). s.n) end_is)
 
-  season_tabled : Tabled n answers (table end)
-  season_tabled = record {
-    number = number;
+  season_tabled : IsOkAnd (table end) (Tabled n answers)
+  season_tabled = subst (λ (t : Result (List Row) ℕ). IsOkAnd t (Tabled n answers)) (sym rows_end) (record {
     successes = λ p k.
         let scs = total_is (λ (s : Sum). s.scs) sc_answered (λ s t. refl) of_scs refl p k in
         let ones = total_is (λ (s : Sum). s.successes) sc_success (λ s t. refl) of_successes refl p k in
-        rw (sym scs, sym ones) (exact_rows end p number (below_n p k)).0;
+        rw (sym scs, sym ones) (exact_rows end p rows_end (below_n p k)).0;
     steps = λ p k.
         let lls = total_is (λ (s : Sum). s.lls) ll_answered (λ s t. refl) of_lls refl p k in
         let all = total_is (λ (s : Sum). s.steps) ll_steps (λ s t. refl) of_steps refl p k in
-        rw (sym lls, sym all) (exact_rows end p number (below_n p k)).1;
-    others = λ p k q. other_row end p number (omega (arith, ap (λ (s : Sums). s.n) end_is)) q;
-  }
+        rw (sym lls, sym all) (exact_rows end p rows_end (below_n p k)).1;
+    others = λ p k q. other_row end p rows_end (omega (arith, ap (λ (s : Sums). s.n) end_is)) q;
+  })
     where
       of_scs : (x : Answer) → (gain_of x).scs ≡ sc_answered x
       of_scs (ll p e ws) = refl

@@ -48,18 +48,13 @@ unfoldable pub rows_of : List Sum → ℕ → List Row
 rows_of l zero = replicate 16 no_row
 rows_of l (suc k) = set (rows_of l k) k (row_of (get_or l k no_sum))
 
--- the number of the refusal, 0 for none, and a row for each process below n; the others are 0 over 0
-pub record Table : Type 0 where
-  pub number : ℕ
-  pub rows : List Row
-
--- rows 1, 2 and 9 for the table too
-unfoldable pub table : Sums → Table
+-- a row for each process below n, the others 0 over 0; or the number of the refusal: rows 1, 2 and 9 for the table too
+unfoldable pub table : Sums → Result (List Row) ℕ
 table s =
     let number : ℕ = sums_refusal s in
-    record { number = number; rows = cond (eqb number 0) (rows_of s.each s.n) (replicate 16 no_row) }
+    cond (eqb number 0) (Ok (rows_of s.each s.n)) (Err number)
 
 -- what the code returns: the rows, or a refusal
-abbrev pub told_table : Result (List Row) Refusal → Table
-told_table (Ok rows) = record { number = 0; rows = rows }
-told_table (Err r) = record { number = refusal_number r; rows = replicate 16 no_row }
+abbrev pub told_table : Result (List Row) Refusal → Result (List Row) ℕ
+told_table (Ok rows) = Ok rows
+told_table (Err r) = Err (refusal_number r)

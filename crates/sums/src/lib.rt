@@ -27,6 +27,7 @@ pub struct Sums {
 }
 
 // Why a listing is not added: a row of the refusals, or that it is no listing, with the place of its first wrong byte.
+// Kept: both are errors of a `Result`; a struct of a refusal and an `Option` of a place would take one at any row.
 #[derive(Clone, Copy, PartialEq, Eq)]
 pub enum NotAdded {
     Refused(Refusal),
@@ -96,8 +97,9 @@ pub fn empty_sums(n: u64, w: u64) -> Sums
 }
 
 // The sums with a listing added. Where it is not added, the caller's sums stay.
+#[tactic(auto, using(crate::proofs::AddLaws::adding))]
 pub fn add_listing(sums: Sums, listing: &[u8]) -> Result<Sums, NotAdded>
-    ensures { told_added sums result ≡ added sums listing.now }
+    ensures { told_added result ≡ added sums listing.now }
 {
     refusals::sums_refusal(sums)?;
     Refusal::SeasonFull.if_holds(MOST_LISTINGS <= sums.taken)?;
@@ -118,7 +120,7 @@ pub fn add_listing(sums: Sums, listing: &[u8]) -> Result<Sums, NotAdded>
 }
 
 // The table: a row for each process below n, and 0 over 0 for the others.
-#[tactic(auto, unfolding(crate::specs::Fractions::table))]
+#[tactic(auto, unfolding(crate::specs::Fractions::table), using(crate::proofs::RefusalLaws::few_pass))]
 pub fn table_of(sums: Sums) -> Result<[Row; 16], Refusal>
     ensures { told_table result ≡ table sums }
 {

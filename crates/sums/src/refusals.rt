@@ -1,7 +1,8 @@
 // Rows 1, 2 and 9.
-ghost use Rattle.std.specs.Prelude.{◌≡◌, ◌↔◌, true, not, ◌&&◌, leb};
+ghost use Rattle.std.specs.Prelude.{◌≡◌, ◌↔◌, true, not};
 ghost use Rattle.std.specs.List.{AllPass};
 ghost use Rattle.llsc.specs.Refusals.{number_told};
+ghost use Rattle.llsc.specs.Rows.{between};
 ghost use Rattle.sums.specs.Season.{small_sum, sums_refusal};
 
 use crate::Sums;
@@ -27,12 +28,13 @@ fn all_small(sums: &[Sum]) -> bool
 
 // Whether a number is 0 or more than the most.
 fn out_of_range(x: u64, most: u64) -> bool
-    ensures { result ≡ not (leb 1 x && leb x most) }
+    ensures { result ≡ not (between 1 most x) }
 {
     x < 1 || most < x
 }
 
 // The first of the rows that holds.
+#[tactic(auto, unfolding(crate::specs::Season::sums_refusal))]
 pub fn sums_refusal(sums: Sums) -> Result<(), Refusal>
     ensures { number_told result ≡ sums_refusal sums }
 {

@@ -6,6 +6,7 @@ use crate::{Fraction, Row};
 use answers::Sum;
 
 // Euclid's greatest common divisor.
+#[tactic(auto, using(crate::proofs::GcdLaws::dividing))]
 fn gcd_of(a: u64, b: u64) -> u64
     ensures { result ≡ gcd a b }
 {
@@ -24,6 +25,7 @@ impl Fraction {
     const NONE: Fraction = Fraction { over: 0, under: 0 };
 
     // The fraction in lowest terms, 0 over 0 where it is of no call.
+    #[tactic(auto, using(crate::proofs::GcdLaws::lowering))]
     fn lowest(self) -> Fraction
         ensures { result ≡ lowest self.over self.under }
     {
@@ -68,6 +70,7 @@ impl From<Sum> for Row {
 }
 
 // The rows of the first n processes.
+#[tactic(auto, unfolding(crate::specs::Fractions::rows_of), using(crate::proofs::RowLaws::rows_more))]
 pub fn rows_of(each: [Sum; 16], n: usize) -> [Row; 16]
     requires { n ≤ 16 }
     ensures { result ≡ rows_of each n }

@@ -21,10 +21,9 @@ fn main(rt: HostRuntime) -> Result<ExitCode, AllocError> {
     let out = run::text_run::run_by_value(held, 16, true, &mut words, given, &mut list);
     let trace = &list[..out.written.min(list.len())];
     let count = marking::output::mark_lines(trace, &mut marked);
+    let left = messages::figure2::left(out.held.all);
     let ended = messages::Ended {
-        outcome: out.outcome,
-        entries: out.entries,
-        report: out.report,
+        run: out.holding(left),
         text: given,
     };
     let status = messages::conclude(
@@ -32,7 +31,6 @@ fn main(rt: HostRuntime) -> Result<ExitCode, AllocError> {
         &mut rt.stderr(),
         marked.get(..count),
         ended,
-        messages::figure2::left(out.held.all),
     );
     Ok(status)
 }

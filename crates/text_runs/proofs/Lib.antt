@@ -5,7 +5,10 @@ pub mod ToldLaws
 pub mod RunCommands
 pub mod KeptLaws
 pub mod MiddleLaws
+pub mod LoopLaws
 pub mod TextLaws
 pub mod StopLaws
 pub mod FaultLaws
 pub mod LastLaws
+pub mod TraceLengths
+pub mod ShownLaws

@@ -11,8 +11,9 @@ use borrow.Author.Tests.{eq-eqb, ne_eqb}
 use Rattle.notation.specs.declared.Entry.{Entry}
 use Rattle.notation.specs.declared.Entry.TheVariants.{StartLl, StartVl, StartSc, Step, Finish}
 use Rattle.text_runs.specs.Machines.{Machine}
-use Rattle.text_runs.specs.TextRun.{Progress, single, unanswered, finish, carry, carry_all}
+use Rattle.text_runs.specs.TextRun.{Progress, single, finish, carry, carry_all}
 use Rattle.text_runs.specs.StopPlaces.{stop_index}
+use Rattle.text_runs.specs.Carrying.{gone_on, Over}
 use Rattle.text_runs.proofs.UntilAnswered.{until_answered}
 use Rattle.text_runs.proofs.KeptLaws.{all_stay}
 
@@ -35,11 +36,6 @@ pub record Middle (M : Machine) (es : List Entry) (first : Progress M) (at : ℕ
   pub same : carry_all M (drop at es) now ≡ carry_all M es first
   pub index : at + stop_index M (drop at es) now ≡ stop_index M es first
 
--- the list is carried out, or an entry of it stopped the run
-pub record Over (M : Machine) (es : List Entry) (first : Progress M) (at : ℕ) (now : Progress M) : Type 0 where
-  pub same : now ≡ carry_all M es first
-  pub index : at ≡ stop_index M es first
-
 module _ (M : Machine) where
   -- how many entries are carried out whole, once the first has left the run so
   abbrev index_after : List Entry → Progress M → ℕ
@@ -52,16 +48,8 @@ module _ (M : Machine) where
   index_stops : (es : List Entry) (s : Progress M) → (s.stop ≡ 0 → ⊥) → index_after es s ≡ 0
   index_stops es s n = simp (ne_eqb s.stop 0 n)
 
-  -- `!`: whether a further step follows
-  unfoldable pub gone_on : Entry → Progress M → Bool
-  gone_on (StartLl p) s = false
-  gone_on (StartVl p) s = false
-  gone_on (StartSc p k) s = false
-  gone_on (Step p) s = false
-  gone_on (Finish p) s = unanswered M p s
-
   -- one step of an entry, and where `!` goes on, the rest of it
-  one_step : (e : Entry) (s s' : Progress M) → s.stop ≡ 0 → s' ≡ single M e s → carry M e s ≡ cond (gone_on e s') (carry M e s') s'
+  one_step : (e : Entry) (s s' : Progress M) → s.stop ≡ 0 → s' ≡ single M e s → carry M e s ≡ cond (gone_on M e s') (carry M e s') s'
   unfolding carry single gone_on
   one_step (StartLl p) s s' z q = sym q
   one_step (StartVl p) s s' z q = sym q
@@ -77,7 +65,7 @@ module _ (M : Machine) where
       by s₁ true false = refl
       by s₁ false b = refl
 
-  goes_not : (e : Entry) (s : Progress M) → (s.stop ≡ 0 → ⊥) → gone_on e s ≡ false
+  goes_not : (e : Entry) (s : Progress M) → (s.stop ≡ 0 → ⊥) → gone_on M e s ≡ false
   unfolding gone_on
   goes_not (StartLl p) s n = refl
   goes_not (StartVl p) s n = refl
@@ -109,24 +97,24 @@ module _ (M : Machine) where
     abbrev ahead : Bool → Progress M
     ahead t = cond t (carry M e s') s'
 
-    stepped : carry M e s₁ ≡ ahead (gone_on e s')
+    stepped : carry M e s₁ ≡ ahead (gone_on M e s')
     stepped = one_step e s₁ s' g b
 
-    opened : carry_all M rest (ahead (gone_on e s')) ≡ carry_all M es s
+    opened : carry_all M rest (ahead (gone_on M e s')) ≡ carry_all M es s
     unfolding carry_all
     opened = ap (carry_all M rest) (sym stepped) ∙ sym (ap (λ (x : List Entry). carry_all M x s₁) (drop_at es at d l)) ∙ c.same
 
-    opened_index : at + index_after rest (ahead (gone_on e s')) ≡ stop_index M es s
+    opened_index : at + index_after rest (ahead (gone_on M e s')) ≡ stop_index M es s
     unfolding stop_index
     opened_index =
         ap (λ (x : Progress M). at + index_after rest x) (sym stepped)
         ∙ sym (ap (λ (x : List Entry). at + stop_index M x s₁) (drop_at es at d l)) ∙ c.index
 
     -- with what is known of the further step
-    open_with : (t : Bool) → gone_on e s' ≡ t → carry_all M rest (ahead t) ≡ carry_all M es s
+    open_with : (t : Bool) → gone_on M e s' ≡ t → carry_all M rest (ahead t) ≡ carry_all M es s
     open_with t q = ap (λ (x : Bool). carry_all M rest (ahead x)) (sym q) ∙ opened
 
-    index_with : (t : Bool) → gone_on e s' ≡ t → at + index_after rest (ahead t) ≡ stop_index M es s
+    index_with : (t : Bool) → gone_on M e s' ≡ t → at + index_after rest (ahead t) ≡ stop_index M es s
     index_with t q = ap (λ (x : Bool). at + index_after rest (ahead x)) (sym q) ∙ opened_index
 
     -- "After a refused entry nothing more runs."
@@ -139,14 +127,14 @@ module _ (M : Machine) where
         }
 
     -- it is over: the next entry begins
-    pub middle_over : s'.stop ≡ 0 → gone_on e s' ≡ false → Middle M es s (at + 1) s'
+    pub middle_over : s'.stop ≡ 0 → gone_on M e s' ≡ false → Middle M es s (at + 1) s'
     middle_over z q = record {
       same = open_with false q;
       index = omega (arith, index_goes rest s' z, index_with false q);
     }
 
     -- it stays, and the rest of it is the same entry again
-    pub middle_further : gone_on e s' ≡ true → Middle M es s at s'
+    pub middle_further : gone_on M e s' ≡ true → Middle M es s at s'
     unfolding carry_all stop_index
     middle_further q = record {
       same = ap (λ (x : List Entry). carry_all M x s') (drop_at es at d l) ∙ open_with true q;

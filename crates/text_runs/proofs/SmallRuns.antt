@@ -12,7 +12,7 @@ use Rattle.notation.specs.declared.Entry.TheVariants.{StartLl, Step, Finish}
 use Rattle.listing.specs.Quoted.{quoted}
 use Rattle.listing.specs.Decimal.{digits, decimal}
 use Rattle.listing.specs.Lines.{end_line, refused_line}
-use Rattle.trace_parts.specs.TraceParts.{spaced, head_text, brought_text, start_line}
+use Rattle.trace_parts.specs.TraceParts.{spaced, head_text, start_text, start_line}
 use Rattle.text_runs.specs.Machines.{Machine}
 use Rattle.text_runs.specs.TextRun.{Ended, single, steps, carry, carry_all, begun, ended}
 use Rattle.positions.specs.declared.StopReport.TheVariants.{AtItem}
@@ -77,7 +77,7 @@ not_counted = refl
 
 -- a trace shows each step in the memory that its command found
 traced : run true (StartLl 0 ∷ Finish 0 ∷ []) ≡ record { number = 0; entries = 3; bytes = quoted "1 0 start L\n2 2\n3 1 answers a\nend 3\n" }
-unfolding run start step obeyed carry_all carry steps single end_line refused_line decimal digits start_line head_text spaced brought_text
+unfolding run start step obeyed carry_all carry steps single end_line refused_line decimal digits start_line head_text spaced start_text
 traced = refl
 
 -- the item whose entry stopped the run: its place and its process

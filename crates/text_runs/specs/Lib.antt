@@ -5,3 +5,5 @@ pub mod RunCommands
 pub mod KeptEntries
 pub mod Parts
 pub mod Runs
+pub mod Carrying
+pub mod Returned

@@ -8,7 +8,8 @@ use Rattle.notation.specs.declared.Entry.{Entry}
 use Rattle.notation.specs.declared.Entry.TheVariants.{StartLl, StartVl, StartSc, Step, Finish}
 use Rattle.notation.specs.Grammar.{Said}
 use Rattle.notation.specs.Readings.{Reading, right, wrong, Reader}
-use Rattle.listing.specs.Lines.{letter_l, letter_s, letter_v, end_line, refused_line}
+use Rattle.listing.specs.Lines.{end_line, refused_line}
+use Rattle.trace_parts.specs.declared.Start.TheVariants as call
 use Rattle.trace_parts.specs.TraceParts.{start_line}
 use Rattle.text_runs.specs.Machines.{Machine}
 
@@ -45,6 +46,14 @@ value_of w (StartSc p k) = replicate w k
 value_of w (Step p) = []
 value_of w (Finish p) = []
 
+-- the trace's line for entry k: a start with its letter, or a step with its access, which such a line shows
+abbrev pub line_by : {A : Type 0} → (ℕ → ℕ → A → Bool → List ℕ) → ℕ → A → Entry → Bool → List ℕ
+line_by step_line k a (StartLl p) answered = start_line k p call.Ll
+line_by step_line k a (StartVl p) answered = start_line k p call.Vl
+line_by step_line k a (StartSc p v) answered = start_line k p (call.Sc v)
+line_by step_line k a (Step p) answered = step_line k p a answered
+line_by step_line k a (Finish p) answered = step_line k p a answered
+
 -- A run in progress: the lent memory, the listing, how many of its bytes are written, the entries done, the number of
 -- the refusal that stopped it, 0 while it goes on, and whether it writes a trace.
 pub record Progress (M : Machine) : Type 0 where
@@ -67,13 +76,9 @@ module _ (M : Machine) where
   abbrev pub stopped : ℕ → Progress M → Progress M
   stopped k s = record { memory = s.memory; listing = s.listing; written = s.written; entries = s.entries; stop = k; traced = s.traced }
 
-  -- the trace's line for entry k: a start with its letter, or a step with its access
+  -- the trace's line for entry k, on this machine
   abbrev pub entry_line : ℕ → M.Shown → Entry → M.Reply → List ℕ
-  entry_line k a (StartLl p) r = start_line k p letter_l 0
-  entry_line k a (StartVl p) r = start_line k p letter_v 0
-  entry_line k a (StartSc p v) r = start_line k p letter_s v
-  entry_line k a (Step p) r = M.step_line k p a (M.answers r)
-  entry_line k a (Finish p) r = M.step_line k p a (M.answers r)
+  entry_line k a e r = line_by M.step_line k a e (M.answers r)
 
   -- the same from the memory before the command
   abbrev pub trace_line : ℕ → M.Memory → Entry → M.Reply → List ℕ

@@ -3,8 +3,11 @@
 #![tactic(auto)]
 
 pub mod entries;
+pub mod entry_loop;
 pub mod last_lines;
 pub mod limits;
 pub mod lists;
 pub mod reports;
+pub mod returned;
 pub mod runs;
+pub mod traces;

@@ -1,7 +1,7 @@
 // Where a run stopped, for its messages.
 ghost use Rattle.std.specs.Prelude.{◌≡◌, cond, ◌<◌, eqb, length, get_or};
 ghost use Rattle.llsc.specs.Refusals.{number_told};
-ghost use Rattle.text_runs.specs.StopPlaces.{reported_process, at_no_item};
+ghost use Rattle.text_runs.specs.StopPlaces.{at_no_item};
 ghost use Rattle.text_runs.specs.KeptEntries.{word_item, word_report};
 
 use crate::entries;
@@ -9,20 +9,14 @@ use llsc::refusals::Refusal;
 use notation::entry_words;
 use positions::{Item, Sizes, StopReport};
 
-// N is at most 16, so that all above 15 are reported alike.
-fn reported_process(p: u64) -> u64
-    ensures { result ≡ reported_process p }
-{
-    p.min(16)
-}
-
-// The item that a number of the list keeps: its place, and the process of its entry.
+// The item that a number of the list keeps: its place, and the process of its entry. N is at most 16, so that all above 15
+// are reported alike.
 fn word_item(word: u64) -> Item
     ensures { result ≡ word_item word }
 {
     let e = entry_words::entry_in(word);
     let place = entry_words::item_place(word);
-    let process = reported_process(entries::process_of(e));
+    let process = entries::process_of(e).min(16);
     Item { place, process }
 }
 

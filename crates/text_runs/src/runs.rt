@@ -1,16 +1,41 @@
-// How a text run goes on and ends, by value, over what a bench holds.
-ghost use Rattle.std.specs.Prelude.{◌≡◌};
-ghost use Rattle.text_runs.specs.Runs.{closed, Closable};
+// How a text run begins, goes on and ends, by value, over what a bench holds.
+ghost use Rattle.std.specs.Prelude.{◌≡◌, ◌≤◌, false, length, Err};
+ghost use Rattle.llsc.specs.declared.refusals.Refusal.TheVariants.{NoRoom};
+ghost use Rattle.llsc.specs.Refusals.{refusal_number};
+ghost use Rattle.positions.specs.declared.StopReport.TheVariants.{NotRead};
+ghost use Rattle.text_runs.specs.Runs.{closed, closed_at, finished_of, fresh_run, Closable};
+ghost use Rattle.text_runs.specs.TextRun.{room_needed};
 
 use crate::last_lines;
 use listing::Writer;
 use llsc::refusals::Refusal;
 use positions::StopReport;
 
+// A run in progress: what its bench holds, the entries done, and whether it writes a trace. Its lines go to a writer.
+#[derive(Clone, Copy)]
+pub struct Run<H> {
+    pub held: H,
+    pub entries: usize,
+    pub traced: bool,
+}
+
+impl<H: Copy> Run<H> {
+    // A run before its first entry, or one that a refusal keeps from it.
+    pub fn fresh(held: H, traced: bool) -> Run<H>
+        ensures { result ≡ fresh_run held traced }
+    {
+        Run {
+            held,
+            entries: 0,
+            traced,
+        }
+    }
+}
+
 // The run after its list, its place in it, that of the entry that was refused, or the end; and why it was refused.
 #[derive(Clone, Copy)]
-pub struct Carried<R> {
-    pub run: R,
+pub struct Carried<H> {
+    pub run: Run<H>,
     pub at: usize,
     pub outcome: Result<(), Refusal>,
 }
@@ -24,6 +49,21 @@ pub struct Finished<H> {
     pub entries: usize,
     pub written: usize,
     pub report: StopReport,
+}
+
+impl<H: Copy> Finished<H> {
+    // "A refusal 14 at the start writes nothing."
+    pub fn unwritten(held: H) -> Finished<H>
+        ensures { result ≡ finished_of held 0 (Err NoRoom) NotRead 0 }
+    {
+        Finished {
+            held,
+            outcome: Err(Refusal::NoRoom),
+            entries: 0,
+            written: 0,
+            report: StopReport::NotRead,
+        }
+    }
 }
 
 // A run with its last line.
@@ -46,4 +86,13 @@ pub fn ended<H: Copy>(
         written: to.written,
         report,
     }
+}
+
+// A run that is refused before its set-up: its last line alone.
+pub fn refused<H: Copy>(held: H, cause: Refusal, report: StopReport, list: &mut [u8]) -> Finished<H>
+    requires { (refusal_number cause ≤ 15) × (room_needed false ≤ length list.old) }
+    ensures { (result, list.new) ≡ closed_at held 0 (Err cause) report list.old 0 }
+{
+    let mut to = Writer { list, written: 0 };
+    ended(held, 0, Err(cause), report, &mut to)
 }

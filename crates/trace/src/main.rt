@@ -16,10 +16,9 @@ fn main(rt: HostRuntime) -> Result<ExitCode, AllocError> {
     let mut words = [0; 5120];
     let held = Held::empty();
     let out = run::text_run::run_by_value(held, 16, true, &mut words, given, &mut list);
+    let left = messages::figure2::left(out.held.all);
     let ended = messages::Ended {
-        outcome: out.outcome,
-        entries: out.entries,
-        report: out.report,
+        run: out.holding(left),
         text: given,
     };
     let status = messages::conclude(
@@ -27,7 +26,6 @@ fn main(rt: HostRuntime) -> Result<ExitCode, AllocError> {
         &mut rt.stderr(),
         list.get(..out.written),
         ended,
-        messages::figure2::left(out.held.all),
     );
     Ok(status)
 }

@@ -1,15 +1,21 @@
 -- How long the parts of a trace line that every bench has are, with numbers of at most ten digits.
 use Prim.Native.Nat.{ℕ, ◌+◌, ◌≤◌}
-use mathlib.Core.List.{[], ◌∷◌, ◌++◌}
-use mathlib.Core.Bool.{Bool, true, false, cond}
+use mathlib.Core.List.{List, ◌++◌}
+use mathlib.Core.Bool.{Bool, true, false}
 use native.Mathlib.Omega.{arith}
-use lib.Dec.{eqb}
 use lib.ListN.{length}
 use Rattle.listing.specs.Quoted.{quoted}
 use Rattle.listing.specs.Decimal.{decimal}
-use Rattle.listing.specs.Lines.{letter_s}
 use Rattle.listing.proofs.Lengths.{word_digits, entries_digits, joined}
-use Rattle.trace_parts.specs.TraceParts.{spaced, bracketed, head_text, truth_text, end_text, brought_text, start_line}
+use Rattle.trace_parts.specs.TraceParts.{spaced, bracketed, head_text, truth_text, end_text, start_text, start_line, step_line}
+use Rattle.trace_parts.specs.declared.Start.{Start}
+use Rattle.trace_parts.specs.declared.Start.TheVariants.{Ll, Vl, Sc}
+
+-- the value that is brought has at most ten digits
+abbrev pub SmallStart : Start → Type 0
+SmallStart Ll = Unit {0}
+SmallStart Vl = Unit {0}
+SmallStart (Sc value) = value ≤ 4294967295
 
 pub spaced_length : (n k : ℕ) → length (decimal n) ≤ k → length (spaced n) ≤ k + 1
 unfolding spaced
@@ -36,17 +42,23 @@ unfolding end_text
 end_length true = omega arith
 end_length false = omega arith
 
-pub brought_length : (letter value : ℕ) → value ≤ 4294967295 → length (brought_text letter value) ≤ 11
-unfolding brought_text
-brought_length letter value h = by (eqb letter letter_s)
-  where
-    by : (t : Bool) → length (cond t (spaced value) []) ≤ 11
-    by true = number_length value h
-    by false = omega arith
+start_text_length : (start : Start) → SmallStart start → length (start_text start) ≤ 12
+unfolding start_text
+start_text_length Ll h = omega arith
+start_text_length Vl h = omega arith
+start_text_length (Sc value) h = omega (arith, number_length value h)
 
 -- the line of a start
-pub start_length : (entry p letter value : ℕ) → entry ≤ 60000 → p ≤ 4294967295 → value ≤ 4294967295 → length (start_line entry p letter value) ≤ 128
+pub start_length : (entry p : ℕ) (start : Start) → entry ≤ 60000 → p ≤ 4294967295 → SmallStart start → length (start_line entry p start) ≤ 128
 unfolding start_line
-start_length entry p letter value h k l =
-    let c = joined (brought_text letter value) (quoted "\n") 11 1 (brought_length letter value l) (omega arith) in
-    omega (arith, joined (head_text entry p) (quoted " start " ++ ((letter ∷ []) ++ (brought_text letter value ++ quoted "\n"))) 16 20 (head_length entry p h k) (omega (arith, c)))
+start_length entry p start h k l =
+    let c = joined (start_text start) (quoted "\n") 12 1 (start_text_length start l) (omega arith) in
+    omega (arith, joined (head_text entry p) (quoted " start " ++ (start_text start ++ quoted "\n")) 16 20 (head_length entry p h k) (omega (arith, c)))
+
+-- the line of a step, of which little is shown
+pub step_length : {A : Type 0} (shown : A → List ℕ) (entry p : ℕ) (a : A) (t : Bool) → entry ≤ 60000 → p ≤ 4294967295
+    → length (shown a) ≤ 103 → length (step_line shown entry p a t) ≤ 128
+unfolding step_line
+step_length shown entry p a t h k s =
+    let c = joined (shown a) (end_text t) 103 9 s (end_length t) in
+    omega (arith, joined (head_text entry p) (shown a ++ end_text t) 16 112 (head_length entry p h k) c)

@@ -14,7 +14,7 @@ use Rattle.turns_model.specs.declared.NextCall.{NextCall}
 use Rattle.turns_model.specs.declared.TurnReply.{TurnReply}
 use Rattle.turns_model.specs.declared.TurnReply.TheVariants.{Replied, Passed}
 use Rattle.turns_model.specs.declared.Turned.{Turned}
-use Rattle.turns_model.specs.Turns.{start_of}
+use Rattle.llsc.specs.CallKinds.{start_of}
 use Rattle.turns_machine.specs.declared.TurnOutcome.{TurnOutcome}
 
 -- no command is obeyed

@@ -4,6 +4,7 @@
 
 ghost use Rattle.std.specs.Prelude.{◌≡◌, ◌<◌, Ok, length};
 ghost use Rattle.llsc.specs.Refusals.{refusal_number};
+ghost use Rattle.station_rows.specs.Ordered.{order_in, number_in};
 ghost use Rattle.station_rows.specs.StationCommandRows.{station_memory_number};
 ghost use Rattle.station_machine.specs.StationDecision.{station_decided};
 ghost use Rattle.turns_machine.specs.TurnDecision.{unchanged_turn, refused_turn, commanded_turn, commanded_at};
@@ -15,7 +16,7 @@ use model::Reply;
 use station::StationProcess;
 use station_machine::Outcome;
 use station_records::gathered::Gathered;
-use station_rows::commands::Command;
+use station_rows::commands::{Command, Ordered};
 use station_rows::table;
 use turns_model::{NextCall, TurnReply, Turned};
 
@@ -66,6 +67,7 @@ fn counts_as_idle(n: usize, all: [StationProcess; 16], p: usize) -> bool
 
 // The command that the turn gives, with `left` calls left after it. The lent memory is in order, and is not looked at
 // again.
+#[tactic(auto, using(crate::proofs::TurnDecisionLaws::give_laws))]
 fn give(
     lent: Gathered,
     command: Command,
@@ -76,7 +78,7 @@ fn give(
     requires { station_memory_number lent.station lent.all lent.len (length words.old) ≡ 0 }
     ensures { (result, words.new)
         ≡ commanded_at left
-        (station_decided lent.station lent.all lent.len command.process command.order command.named value.now words.old) }
+        (station_decided lent.station lent.all lent.len command.process (order_in command.order) (number_in command.order) value.now words.old) }
 {
     if let Err(refusal) = table::late_refusal(lent, command, value.len()) {
         return refused(refusal, left);
@@ -85,6 +87,7 @@ fn give(
 }
 
 // `next` is the first of the `left` calls on the list of process `turn`, and `value` the words that it brings.
+#[tactic(auto, using(crate::proofs::TurnDecisionLaws::turn_laws))]
 pub fn decide_turn(
     lent: Gathered,
     turn: usize,
@@ -105,8 +108,7 @@ pub fn decide_turn(
     if !counts_as_idle(lent.station.n, lent.all, turn) {
         let step = Command {
             process: turn,
-            order: Order::Step,
-            named: 0,
+            order: Ordered::Step,
         };
         return give(lent, step, left, &value[..0], words);
     }
@@ -115,8 +117,7 @@ pub fn decide_turn(
     }
     let start = Command {
         process: turn,
-        order: Order::from(next.kind),
-        named: next.named,
+        order: Ordered::new(Order::from(next.kind), next.named),
     };
     give(lent, start, left - 1, value, words)
 }

@@ -11,7 +11,7 @@ use Rattle.station.specs.Station.{StationMemory, no_holding}
 use Rattle.station.specs.StationRefusals.{station_in_range}
 use Rattle.station.specs.StationCommand.{station_refusal, station_command}
 use Rattle.station.specs.StationSetUp.{empty_process, empty_tables, station_set_up, station_set_up_refusal}
-use Rattle.turns_model.specs.declared.CallKind.TheVariants.{Ll, Sc}
+use Rattle.llsc.specs.declared.calls.CallKind.TheVariants.{Ll, Sc}
 use Rattle.turns_model.specs.declared.TurnReply.{TurnReply}
 use Rattle.turns_model.specs.declared.TurnReply.TheVariants.{Replied, Passed}
 use Rattle.turns_model.specs.TurnReplies.{turn_number, TurnSaid, passed, told, turn_says}

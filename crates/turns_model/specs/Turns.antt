@@ -1,15 +1,14 @@
 -- A turn of process 0 or 1 on a station (02, CR 5). `calls` is the list of that process.
 use Rattle.std.specs.Prelude.{ℕ, List, [], ◌∷◌, Bool, ◌||◌, cond, eqb, ltb, leb, length, replicate}
-use Rattle.llsc.specs.declared.Order.{Order}
-use Rattle.llsc.specs.declared.Order.TheVariants.{StartLl, StartSc, StartVl, Step}
+use Rattle.llsc.specs.declared.Order.TheVariants.{Step}
+use Rattle.llsc.specs.declared.calls.CallKind.{CallKind}
+use Rattle.llsc.specs.CallKinds.{start_of}
 use Rattle.llsc.specs.Rows.{first, row9}
 use Rattle.model.specs.declared.Reply.TheVariants.{Refused}
 use Rattle.station.specs.Station.{StationMemory, process_at}
 use Rattle.station.specs.Projection.{at_rest}
 use Rattle.station.specs.StationRefusals.{StationOrder, station_lent_rows, station_in_range}
 use Rattle.station.specs.StationCommand.{station_command}
-use Rattle.turns_model.specs.declared.CallKind.{CallKind}
-use Rattle.turns_model.specs.declared.CallKind.TheVariants.{Ll, Sc, Vl}
 use Rattle.turns_model.specs.declared.NextCall.{NextCall}
 use Rattle.turns_model.specs.declared.TurnReply.{TurnReply}
 use Rattle.turns_model.specs.declared.TurnReply.TheVariants.{Replied, Passed}
@@ -20,11 +19,6 @@ pub record ListedCall : Type 0 where
   pub kind : CallKind
   pub named : ℕ
   pub value : List ℕ
-
-abbrev pub start_of : CallKind → Order
-start_of Ll = StartLl
-start_of Sc = StartSc
-start_of Vl = StartVl
 
 -- "A turn of an idle process starts the next call on its list"
 abbrev pub start_by : ℕ → ListedCall → StationOrder

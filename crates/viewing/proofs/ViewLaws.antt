@@ -13,6 +13,7 @@ use mir.Syntax.{w64}
 use mir.Val.{Fits}
 use denote.Ref.{Bor}
 use Rattle.llsc.specs.Rows.{row2, row8always}
+use Rattle.llsc.proofs.RefusalNumbers.{number_some}
 use Rattle.model.specs.Refusals.{row3view, row15}
 use Rattle.model.specs.View.{Part, view_number, view_part, view}
 use Rattle.rows.proofs.RowLaws.{cleared, w_in}
@@ -103,3 +104,6 @@ module _ (w : ℕ) (value written : Bor (List ℕ)) (k : ℕ) where
   list_part e z =
       let far : (k - 1) * w * 8 + written.ref_ptr.1 ≡ written.ref_ptr.1 + (k - 1) * w * 8 = omega arith in
       rw far (simp (eq-eqb _ _ e, ne_eqb _ _ z))
+
+-- what `view` rests on
+pub ruleset view_laws = (number_some, viewed, words_fit, more_words_fit, bytes_fit, refused_part, value_part, list_part)

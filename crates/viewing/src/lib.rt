@@ -26,6 +26,7 @@ pub fn view_refusal(w: usize, value: &[u64], written: &[u64], k: usize) -> Resul
 // at a refusal.
 // Ruled out: one that counts the successes in the list from 0, and one that gives an empty part of the list when
 // refused.
+#[tactic(auto, using(crate::proofs::ViewLaws::view_laws))]
 pub fn view<'a>(w: usize, value: &'a [u64], written: &'a [u64], k: usize) -> &'a [u64]
     ensures { (result.ref_ptr, result.now) ≡ view w value.entry written.entry k }
 {

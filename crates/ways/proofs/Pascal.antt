@@ -61,3 +61,7 @@ module _ (t : List (List ℕ)) (p : Pascal t) where
       eqb-true _ _ (off_edge _ _ _ (passed (suc a) (suc b) ha hb) (ap₂ ◌||◌ (positive a) (positive b)))
       ∙ ap₂ (λ i j. entry_at t i (suc b) + entry_at t (suc a) j) (omega arith) (omega arith)
       ∙ ap₂ ◌+◌ (entry_is a (suc b) (omega arith) hb) (entry_is (suc a) b ha (omega arith))
+
+-- what the function reads
+pub kept_is : (a b : ℕ) → a ≤ 32 → b ≤ 32 → get_or (get_or WAYS a []) b 0 ≡ ways a b
+kept_is = entry_is WAYS table_is

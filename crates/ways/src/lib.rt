@@ -804,6 +804,7 @@ static WAYS: [[u64; 33]; 33] = [
 ];
 
 // The entry for a and b.
+#[tactic(auto, using(crate::proofs::Pascal::kept_is))]
 pub fn entry(a: usize, b: usize) -> u64
     requires { (a ≤ 32) × (b ≤ 32) }
     ensures { result ≡ ways a b }

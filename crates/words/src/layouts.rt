@@ -3,6 +3,7 @@
 ghost use Rattle.std.specs.Prelude.{◌≡◌, ◌+◌, ◌*◌, ◌≤◌, ◌<◌};
 
 use llsc::ProcessNumber;
+use llsc::counts::Processes;
 use model::{BufferNumber, sizes};
 
 #[derive(Clone, Copy)]
@@ -23,7 +24,6 @@ pub(crate) fn word_of_row(row: usize, w: usize, k: usize) -> usize
     row * w + k
 }
 
-// Kept: three places of a word, as buffers and areas have numbers of two kinds, and each its own first row.
 impl FirstRows {
     ghost use Rattle.model.specs.Words.{buffer_in, return_in, offer_in};
     ghost use Rattle.words.specs.Layouts.{layout_from, OneRecord};
@@ -33,15 +33,17 @@ impl FirstRows {
         requires { (n ≤ 16) × (w ≤ 64) }
         ensures { OneRecord n w result }
     {
+        let count = Processes { n };
         FirstRows {
             buffers: 0,
-            returns: sizes::buffers(n),
-            offers: sizes::rows_before_offers(n),
+            returns: sizes::buffers(count),
+            offers: sizes::rows_before_offers(count),
             w,
         }
     }
 
     // Where word k of BUF[b] lies.
+    // Kept: beside `return_in` and `offer_in`: `word_of_row` is what they share; each has its own first row.
     pub fn buffer_in(self, b: BufferNumber, k: usize) -> usize
         requires { k < 64 }
         ensures { result ≡ buffer_in (layout_from self) self.w b k }

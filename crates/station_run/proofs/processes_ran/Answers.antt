@@ -1,11 +1,10 @@
 -- `station_run::processes_ran` meets its contract: the processes below i are put back.
-use mathlib.Core.Path.{◌≡◌, ◌∙◌}
+use mathlib.Core.Path.{◌≡◌}
 use native.Mathlib.Omega.{arith}
 use lib.ListN.{length}
 use Rattle.station.specs.Station.{no_station_process}
 use Rattle.station_facts.proofs.Firsts.{firsts_one_more}
 use Rattle.station_run.specs.TextByValue.{put_at}
-use borrow.Author.Rules.{rules}
 use Rattle.station_run.proofs.processes_ran.Goals as goal
 
 pub loop-i-preserved : goal.loop-i-preserved

@@ -6,5 +6,5 @@ use Rattle.run.proofs.RecordLaws.{sixteen_most}
 use borrow.Author.Rules.{rules}
 use Rattle.station_run.proofs.put_back.Goals as goal
 
-pub processes_ran-all-requires : goal.processes_ran-all-requires
-processes_ran-all-requires c = subst (λ (k : ℕ). k ≤ 16) (sym c.records_seen-stored.ensures) (sixteen_most c.args.out.held.bench.n)
+pub processes_ran-requires : goal.processes_ran-requires
+processes_ran-requires c = subst (λ (k : ℕ). k ≤ 16) (sym c.records_seen-count.ensures) (sixteen_most c.args.held.bench.n)

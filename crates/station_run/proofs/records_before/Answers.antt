@@ -1,12 +1,10 @@
 -- `station_run::records_before`: each process as record 0 has it.
-use mathlib.Core.Path.{◌≡◌, refl, sym, ◌∙◌}
-use mathlib.Core.List.{List, map}
-use Prim.Native.Nat.{ℕ, ◌<◌}
+use mathlib.Core.Path.{◌≡◌, sym, ◌∙◌}
+use Prim.Native.Nat.{◌<◌}
 use native.Mathlib.Omega.{arith}
 use borrow.Author.Rules.{rules}
 use lib.ListN.{length, get_or, length-map}
 use lib.Seq.{ext_get_or}
-use Rattle.model.specs.declared.Process.{Process}
 use Rattle.model.specs.Records.{no_process}
 use Rattle.station.specs.StationSetUp.{empty_process}
 use Rattle.station.specs.Projection.{process_of}

@@ -1,11 +1,10 @@
 -- `station_setup::prepare` meets its contract: a refusal changes nothing, and where no row holds the set-up is done.
 use mathlib.Core.Path.{◌≡◌, sym, ap, ◌∙◌}
-use mathlib.Core.List.{List}
 use Prim.Native.Nat.{ℕ}
 use lib.ListN.{length}
 use borrow.Author.Rules.{rules}
 use Rattle.llsc.specs.Refusals.{refusal_number}
-use Rattle.rows.proofs.Refused.{number_some}
+use Rattle.llsc.proofs.RefusalNumbers.{number_some}
 use Rattle.station.specs.declared.Station.{Station}
 use Rattle.station_setup.specs.StationSetUpByValue.{told}
 use Rattle.station_setup.proofs.StationSetUpLaws.{set_up_fits, prepared_refused, prepared_done}

@@ -7,7 +7,7 @@ pub returns-in-X : goal.returns-in-X
 unfolding written_text
 returns-in-X c =
     elim c.in-X.is [
-      | inl e ↦ rw e c.plain.ensures
-      | inr (inl (i, e)) ↦ rw e c.plain.ensures
-      | inr (inr (i, e)) ↦ rw e c.plain.ensures
+      | inl (v, e) ↦ rw e c.plain.ensures
+      | inr (inl (i, v, e)) ↦ rw e c.plain.ensures
+      | inr (inr (i, v, e)) ↦ rw e c.plain.ensures
     ]

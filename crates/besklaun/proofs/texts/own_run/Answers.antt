@@ -7,4 +7,4 @@ pub run_by_value-out-requires : goal.run_by_value-out-requires
 run_by_value-out-requires c = fillers _ c.empty-held.ensures
 
 pub returns : goal.returns
-returns c = rw c.told.ensures (ran_alone _ _ _ _ _ _ _ c.empty-held.ensures c.run_by_value-out.ensures)
+returns c = rw c.from.ensures (ran_alone _ _ _ _ _ _ _ c.empty-held.ensures c.run_by_value-out.ensures)

@@ -8,6 +8,7 @@ use native.Mathlib.Omega.{arith}
 use lib.ListN.{length, take, length-replicate}
 use Rattle.boards.specs.Files.{record_of}
 use Rattle.entry.proofs.WordLaws.{prefix_length}
+use Rattle.station_machine.proofs.OrderLaws.{same_decided}
 use Rattle.board_commands.proofs.CommandLaws.{at_most, record_decided}
 use Rattle.board_commands.proofs.commands.decide.Goals as goal
 
@@ -29,4 +30,5 @@ returns c =
     let same : w.result ≡ at_most64 a.lent.station.w = grind arith in
     let few : w.result ≤ 64 = omega (arith, same, at_most a.lent.station.w) in
     record_decided a.lent.station a.lent.all a.lent.len (record_of a.bytes.now) a.words.now
-    c.value.ensures same (c.order_of-order.ensures ∙ ap order_of c.order.ensures) (ap (take w.result) c.repeated-value.ensures) few (rw c.process-p.ensures at c.decide.ensures)
+    c.value.ensures same (c.order_of-order.ensures ∙ ap order_of c.order.ensures) (ap (take w.result) c.repeated-value.ensures) few
+    (rw c.process-p.ensures at c.decide.ensures ∙ same_decided a.lent.station a.lent.all a.lent.len (record_of a.bytes.now).process _ 0 _ a.words.now c.new.result c.new.ensures)

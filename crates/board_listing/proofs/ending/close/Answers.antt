@@ -1,11 +1,9 @@
 -- `board_listing::ending::close`: the last line, and where it ends.
 use Prim.Native.Nat.{ℕ}
 use Rattle.std.proofs.Common.{rules}
-use mathlib.Core.Path.{refl, ap}
-use Rattle.entry.specs.declared.state.Run.{Run}
+use mathlib.Core.Path.{refl}
 use Rattle.text_runs.proofs.LastLaws.{with_written_lem}
 use Rattle.board_listing.specs.declared.ending.Stopped.{Stopped}
-use Rattle.board_listing.specs.ListedRun.{with_written}
 use Rattle.board_listing.proofs.LineLaws.{closable_room}
 use Rattle.board_listing.proofs.ending.close.Goals as goal
 
@@ -15,5 +13,5 @@ write-requires c = record { fits = (closable_room c.requires).fits }
 pub returns : goal.returns
 returns c =
     let s = c.args.stopped in
-    let left : ℕ → Stopped = λ k. record { run = with_written s.run k; outcome = s.outcome } in
-    with_written_lem left c.write.ensures (search rules) (ap (λ (r : Run). record { run = r; outcome = s.outcome }) c.with_written.ensures)
+    let left : ℕ → Stopped = λ k. record { held = s.held; entries = s.entries; written = k; outcome = s.outcome } in
+    with_written_lem left c.write.ensures (search rules) refl

@@ -5,7 +5,7 @@ use Rattle.board_listing.proofs.ListedLaws.{file_small, file_refused, file_run_i
 use Rattle.board_listing.proofs.listed.run_file.Goals as goal
 
 pub refused-requires : goal.refused-requires
-refused-requires c = (file_small c.args.file.now (sym c.in-Err.ensures), c.requires.2)
+refused-requires c = (file_small c.args.file.now (sym c.in-Err.ensures), c.requires.1)
 
 pub obey_records-done-requires : goal.obey_records-done-requires
 obey_records-done-requires c = (c.requires.0, omega (arith, c.in-Ok.ensures.few))
@@ -13,9 +13,9 @@ obey_records-done-requires c = (c.requires.0, omega (arith, c.in-Ok.ensures.few)
 pub returns-in-Ok : goal.returns-in-Ok
 returns-in-Ok c =
     let x = c.args in
-    file_run_is x.run x.words.now x.file.now x.list.now c.in-Ok.ensures c.requires.1 c.obey_records-done.ensures c.close.ensures
+    file_run_is x.held x.words.now x.file.now x.list.now c.in-Ok.ensures c.obey_records-done.ensures c.close.ensures
 
 pub returns-in-Err : goal.returns-in-Err
 returns-in-Err c =
     let x = c.args in
-    file_refused x.run x.words.now x.file.now x.list.now _ c.in-Err.ensures c.refused.ensures
+    file_refused x.held x.words.now x.file.now x.list.now _ c.in-Err.ensures c.refused.ensures

@@ -6,8 +6,7 @@ use Rattle.board_listing.proofs.listed.run_listed.Goals as goal
 pub returns-then-list-lt-LISTING_ROOM : goal.returns-then-list-lt-LISTING_ROOM
 returns-then-list-lt-LISTING_ROOM c =
     let x = c.args in
-    rw c.fresh.ensures
-    (no_room (memory_of x.held 16 x.words.now) x.n x.w x.initial x.file.now x.list.now c.if-list-lt-LISTING_ROOM.true)
+    no_room (memory_of x.held 16 x.words.now) x.n x.w x.initial x.file.now x.list.now c.if-list-lt-LISTING_ROOM.true
 
 pub returns : goal.returns
 returns c =

@@ -4,7 +4,7 @@ use mathlib.Core.Bool.{false}
 use Prim.Native.Nat.{ℕ, ◌≤◌}
 use native.Mathlib.Omega.{arith}
 use lib.ListN.{length, length-replicate}
-use Rattle.carrying.proofs.LoopLaws.{not_refused}
+use Rattle.carrying.proofs.TurnLaws.{not_refused}
 use Rattle.model.specs.Machine.{Shaped}
 use Rattle.run.specs.Finished.{memory_of}
 use Rattle.setup.specs.SetUpByValue.{Accepted}
@@ -12,7 +12,7 @@ use Rattle.notation.specs.Grammar.{largest}
 use Rattle.entry.proofs.WordLaws.{prefix_length}
 use Rattle.setup.proofs.SetUpLaws.{set_up_fits}
 use Rattle.run.proofs.StartLaws.{number_small, first_state_is}
-use Rattle.board_listing.proofs.ListedLaws.{lent, as_fresh, set_up_refused, begun_between, set_up_run}
+use Rattle.board_listing.proofs.ListedLaws.{lent, set_up_refused, begun_between, set_up_run}
 use Rattle.board_listing.proofs.listed.set_up_and_run.Goals as goal
 
 pub refused-requires : goal.refused-requires
@@ -44,25 +44,20 @@ words_at_set_up-requires c =
     let ok = set_up_fits x.n x.w 16 (length x.words.now) x.w (not_refused c.set_up_refusal.result c.set_up_refusal.ensures c.in_default.not-Err) in
     subst (λ (j : ℕ). Accepted x.n x.w (length x.words.now) j) (prefix_length ok.w_most c.repeated-value.ensures) ok
 
-pub bench_at_set_up-bench-requires : goal.bench_at_set_up-bench-requires
-bench_at_set_up-bench-requires c =
+pub invariant_of-count : goal.invariant_of-count
+invariant_of-count c =
     let x = c.args in
-    (set_up_fits x.n x.w 16 (length x.words.now) x.w (not_refused c.set_up_refusal.result c.set_up_refusal.ensures c.in_default.not-Err)).n_most
-
-pub records_at_set_up-all-requires : goal.records_at_set_up-all-requires
-records_at_set_up-all-requires c =
-    let x = c.args in
-    (set_up_fits x.n x.w 16 (length x.words.now) x.w (not_refused c.set_up_refusal.result c.set_up_refusal.ensures c.in_default.not-Err)).n_most
+    let e = not_refused c.set_up_refusal.result c.set_up_refusal.ensures c.in_default.not-Err in
+    record { most = (set_up_fits x.n x.w 16 (length x.words.now) x.w e).n_most }
 
 pub run_file-requires : goal.run_file-requires
 run_file-requires c =
     let x = c.args in let l = lent x.list.now c.requires.0 c.requires.1 in
     let small : x.initial ≤ largest = omega (arith, c.type_inv) in
     let begins = first_state_is false x.held x.words.now l x.n x.w x.initial small (not_refused c.set_up_refusal.result c.set_up_refusal.ensures c.in_default.not-Err)
-    c.fresh-run.ensures c.bench_at_set_up-bench.ensures c.records_at_set_up-all.ensures c.words_at_set_up.ensures c.repeated-value.ensures in
+    refl c.bench_at_set_up-bench.ensures c.records_at_set_up-all.ensures c.words_at_set_up.ensures c.repeated-value.ensures in
     let shaped : Shaped (memory_of x.held 16 x.words.now) = record { bank = omega arith; help = omega arith } in (
       begun_between x.held x.words.now x.file.now l x.n x.w x.initial c.set_up_refusal.ensures small (c.set_up_refusal.ensures ∙ not_refused c.set_up_refusal.result c.set_up_refusal.ensures c.in_default.not-Err) shaped begins,
-      as_fresh c.fresh-run.ensures,
       c.requires.1,
     )
 
@@ -71,5 +66,5 @@ returns c =
     let x = c.args in
     let l = lent x.list.now c.requires.0 c.requires.1 in let small : x.initial ≤ largest = omega (arith, c.type_inv) in
     let begins = first_state_is false x.held x.words.now l x.n x.w x.initial small (not_refused c.set_up_refusal.result c.set_up_refusal.ensures c.in_default.not-Err)
-    c.fresh-run.ensures c.bench_at_set_up-bench.ensures c.records_at_set_up-all.ensures c.words_at_set_up.ensures c.repeated-value.ensures in
+    refl c.bench_at_set_up-bench.ensures c.records_at_set_up-all.ensures c.words_at_set_up.ensures c.repeated-value.ensures in
     set_up_run x.held x.words.now x.file.now l x.n x.w x.initial c.set_up_refusal.ensures small (c.set_up_refusal.ensures ∙ not_refused c.set_up_refusal.result c.set_up_refusal.ensures c.in_default.not-Err) begins c.run_file.ensures

@@ -1,31 +1,53 @@
 -- `board_listing::records::obey_records`: the loop over a file's records.
-use mathlib.Core.Path.{◌≡◌, refl, ap, ◌∙◌}
+use mathlib.Core.Path.{◌≡◌, refl, sym, subst, ◌∙◌}
+use mathlib.Core.Bool.{false}
+use Prim.Native.Nat.{ℕ, ◌+◌}
 use native.Mathlib.Omega.{arith}
+use Rattle.std.proofs.Common.{rules}
 use lib.ListN.{length}
+use Rattle.llsc.specs.Refusals.{refusal_number}
 use Rattle.llsc.proofs.RefusalNumbers.{number_some}
-use Rattle.carrying.proofs.LoopLaws.{not_refused}
-use Rattle.board_listing.specs.ListedRun.{with_entries}
-use Rattle.board_listing.proofs.LoopLaws.{first_record, refused, goes_on, all_done}
+use Rattle.text_runs.specs.Carrying.{in_run, done_after, turn_number}
+use Rattle.entry.specs.RunState.{state_with, Sound}
+use Rattle.carrying.specs.Carried.{lent_state}
+use Rattle.board_listing.specs.ListedRun.{fresh_state}
+use Rattle.board_listing.proofs.LoopLaws.{Obeying, first_record, turned_becomes, not_stopped, in_list, refused, goes_on, all_done}
 use Rattle.board_listing.proofs.records.obey_records.Goals as goal
 
 pub loop-done-init : goal.loop-done-init
-loop-done-init c = first_record _ _ _ _ c.requires.0
+loop-done-init c = record { obeying = first_record c.args.records.now (fresh_state c.args.held c.args.words.now c.args.list.now) c.requires.0; lent = refl; same = refl }
 
-pub obey-next-requires : goal.obey-next-requires
-obey-next-requires c = (c.loop-done.invariant.between, c.entry_of-e.ensures.1)
+pub turn-requires : goal.turn-requires
+turn-requires c =
+    let l = c.loop-done in
+    (subst (λ (j : ℕ). Sound j (lent_state (in_run l.lent 0 false) 0 l.words l.to)) (sym l.invariant.lent) l.invariant.obeying.between.sound, c.entry_of-e.ensures.1)
 
 pub returns-in-Err : goal.returns-in-Err
 returns-in-Err c =
-    let made = rw c.in-Err.is at c.obey-next.ensures in
-    refused c.loop-done.invariant (omega (arith, c.loop-done-test.true)) c.entry_of-e.ensures.0 c.entry_of-e.ensures.1 made
-    c.requires.1 (number_some c.in-Err.cause) _ c.with_entries.ensures
+    let l = c.loop-done in
+    let t = c.in-Err.ensures in
+    let after = lent_state (in_run c.turn.new.self 0 false) (refusal_number c.in-Err.cause) c.turn.new.words c.turn.new.to in
+    let made = turned_becomes (lent_state (in_run l.lent 0 false) 0 l.words l.to) after l.invariant.lent t.kept.1 t.is t.sound t.kept.0.words t.kept.0.listing in
+    in_list _ (search rules) (refused l.invariant.obeying (omega (arith, c.loop-done-test.true)) c.entry_of-e.ensures.0 c.entry_of-e.ensures.1 made c.requires.1 (number_some c.in-Err.cause))
 
 pub loop-done-preserved : goal.loop-done-preserved
 loop-done-preserved c =
-    goes_on c.loop-done.invariant (omega (arith, c.loop-done-test.true)) c.entry_of-e.ensures.0 c.entry_of-e.ensures.1 c.obey-next.ensures
-    (not_refused c.obey-next.result.outcome refl c.in_default.not-Err) _ c.with_entries-state.ensures
+    let l = c.loop-done in
+    let t = c.turn.ensures in
+    let r = c.turn.result in
+    let new = c.turn.new in
+    let z = not_stopped r c.in_default.not-Err in
+    let after = lent_state (in_run new.self (done_after r 0) false) (turn_number r) new.words new.to in
+    let made = turned_becomes (lent_state (in_run l.lent 0 false) 0 l.words l.to) after l.invariant.lent t.kept.1 t.is t.sound t.kept.0.words t.kept.0.listing in
+    record {
+      obeying = subst (λ (k : ℕ). Obeying c.args.records.now (fresh_state c.args.held c.args.words.now c.args.list.now)
+          (state_with (in_run new.self.held 0 false) k new.words new.to.list.now new.to.written) (l.done + 1)) z
+          (goes_on l.invariant.obeying (omega (arith, c.loop-done-test.true)) c.entry_of-e.ensures.0 c.entry_of-e.ensures.1 made z);
+      lent = t.kept.1 ∙ l.invariant.lent;
+      same = t.kept.0.same ∙ l.invariant.same;
+    }
 
 pub returns : goal.returns
 returns c =
     let all : length c.args.records.now ≡ c.loop-done.done = omega (arith, c.loop-done-test.false, c.loop-done.auto.done-end) in
-    all_done c.loop-done.invariant c.requires.1 all _ (c.with_entries-2.ensures ∙ ap (with_entries c.loop-done.state) all)
+    in_list _ (search rules) (all_done c.loop-done.invariant.obeying c.requires.1 all)

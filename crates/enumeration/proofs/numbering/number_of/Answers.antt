@@ -1,10 +1,7 @@
 use native.Mathlib.Omega.{arith}
-use Rattle.enumeration.proofs.LoopLaws.{ways_fit, count_begins, count_fits, count_goes_on, count_stops, count_short, count_ends}
+use Rattle.enumeration.proofs.LoopLaws.{ways_fit, count_fits, count_goes_on, count_stops, count_ends}
 use borrow.Author.Rules.{rules}
 use Rattle.enumeration.proofs.numbering.number_of.Goals as goal
-
-pub loop-turn-init : goal.loop-turn-init
-loop-turn-init c = count_begins _ _ _ c.args.totals.few.0 c.args.totals.few.1
 
 pub returns-in_err-t : goal.returns-in_err-t
 returns-in_err-t c = rw c.from_residual.ensures (count_stops _ _ _ _ _ _ _ c.loop-turn.invariant (search rules) c.in_err-t.ensures)
@@ -16,10 +13,6 @@ overflow_add-k c =
 
 pub loop-turn-preserved : goal.loop-turn-preserved
 loop-turn-preserved c = count_goes_on _ _ _ _ _ _ _ c.loop-turn.invariant (search rules) _ c.in_ok-t.ensures
-
--- the turns are all taken: none may be left
-pub returns-then-left-gt0 : goal.returns-then-left-gt0
-returns-then-left-gt0 c = count_short _ _ _ _ _ _ _ c.loop-turn.invariant (search rules) (search rules)
 
 pub returns : goal.returns
 returns c = count_ends _ _ _ _ _ _ _ c.loop-turn.invariant (search rules) (omega arith)

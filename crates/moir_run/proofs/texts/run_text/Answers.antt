@@ -1,6 +1,5 @@
 -- `moir_run::texts::run_text`: 14, 12, the first line, and the rest.
 use mathlib.Core.Path.{ap, ◌∙◌}
-use Prim.Native.Nat.{ℕ}
 use native.Mathlib.Omega.{arith}
 use Rattle.text_runs.proofs.TextLaws.{run_12, run_not_headed, run_headed}
 use Rattle.text_runs.proofs.StopLaws.{report_is, line_stops, stops_12, stops_looked}
@@ -12,7 +11,7 @@ use Rattle.moir_run.proofs.texts.run_text.Goals as goal
 pub returns-then-list-room_needed : goal.returns-then-list-room_needed
 returns-then-list-room_needed c =
     let a = c.args in
-    no_room a.traced a.text.now a.list.now c.fresh-run.ensures (omega (arith, c.if-list-room_needed.true, c.room_needed.ensures))
+    rw c.unwritten.ensures (no_room a.traced a.text.now a.list.now c.records.ensures (omega (arith, c.if-list-room_needed.true, c.room_needed.ensures)))
 
 pub returns-then-text-gt-LONGEST_TEXT : goal.returns-then-text-gt-LONGEST_TEXT
 returns-then-text-gt-LONGEST_TEXT c =

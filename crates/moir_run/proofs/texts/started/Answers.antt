@@ -5,7 +5,7 @@ use Rattle.std.proofs.Common.{rules}
 use lib.ListN.{length, length-replicate}
 use Rattle.text_runs.specs.KeptEntries.{entries_in, places_in}
 use Rattle.text_runs.proofs.StopLaws.{stop_within, item_read}
-use Rattle.moir_machine.proofs.RowLaws.{told_some}
+use Rattle.llsc.proofs.RefusalNumbers.{number_some}
 use Rattle.moir_semantics.specs.TextRun.{figure6}
 use Rattle.moir_run.specs.RunState.{Sound}
 use Rattle.moir_run.proofs.StartLaws.{closed_report, number_few, first_sound, accepted}
@@ -22,7 +22,7 @@ returns-in-Err c =
     let f = a.first in
     let es = entries_in a.kept.now in
     let ps = places_in a.kept.now in
-    let some = told_some c.in-Err.refusal in (
+    let some = number_some c.in-Err.refusal in (
       c.refused.ensures.0 ∙ refused_start a.traced f.n f.w f.initial a.list.now es ps c.in-Err.ensures some,
       c.refused.ensures.1 ∙ refused_report a.traced f.n f.w f.initial a.list.now es ps c.in-Err.ensures some,
     )
@@ -51,11 +51,10 @@ words_at_set_up-requires c =
     let x = accepted a.traced f.n f.w f.initial a.list.now (sym c.in-Ok.ensures) in
     set_up_lent x c.no_words-words.ensures (prefix_length x.w_most c.repeated-value.ensures)
 
-pub bench_at_set_up-bench-requires : goal.bench_at_set_up-bench-requires
-bench_at_set_up-bench-requires c =
-    let a = c.args in
-    let f = a.first in
-    (accepted a.traced f.n f.w f.initial a.list.now (sym c.in-Ok.ensures)).w_most
+pub invariant_of-bench_at_set_up : goal.invariant_of-bench_at_set_up
+invariant_of-bench_at_set_up c =
+    let f = c.args.first in
+    record { most = (accepted c.args.traced f.n f.w f.initial c.args.list.now (sym c.in-Ok.ensures)).w_most }
 
 pub carry_out-carried-requires : goal.carry_out-carried-requires
 carry_out-carried-requires c =
@@ -63,7 +62,7 @@ carry_out-carried-requires c =
     let f = a.first in
     let x = accepted a.traced f.n f.w f.initial a.list.now (sym c.in-Ok.ensures) in
     let first =
-    first_state_is a.traced f.n f.w f.initial a.list.now refl refl x.w_most c.fresh-run.ensures c.bench_at_set_up-bench.ensures
+    first_state_is a.traced f.n f.w f.initial a.list.now refl refl x.w_most c.fresh-run.ensures c.records-all.ensures c.bench_at_set_up-bench.ensures
     c.empty_bench.ensures c.words_at_set_up.ensures c.no_words-words.ensures c.repeated-value.ensures in
     subst Sound (sym first) (first_sound a.traced f.n f.w f.initial a.list.now c.requires.1 c.requires.0)
 
@@ -79,11 +78,11 @@ returns-in-Ok c =
     let ps = places_in a.kept.now in
     let x = accepted a.traced f.n f.w f.initial a.list.now (sym c.in-Ok.ensures) in
     let first =
-    first_state_is a.traced f.n f.w f.initial a.list.now refl refl x.w_most c.fresh-run.ensures c.bench_at_set_up-bench.ensures
+    first_state_is a.traced f.n f.w f.initial a.list.now refl refl x.w_most c.fresh-run.ensures c.records-all.ensures c.bench_at_set_up-bench.ensures
     c.empty_bench.ensures c.words_at_set_up.ensures c.no_words-words.ensures c.repeated-value.ensures in
     let out = c.carry_out-carried in (
-      carried_closed a.traced f.n f.w f.initial a.list.now ps c.in-Ok.ensures out.ensures first c.ended.ensures.is (search rules),
-      closed_report out.result.run out.result.outcome c.ended.ensures.is ∙ c.stop_report-report.ensures
+      carried_closed a.traced f.n f.w f.initial a.list.now ps c.in-Ok.ensures a.kept.now out.new.words out.new.to out.ensures.over first c.ended.ensures.is (search rules),
+      closed_report out.result.outcome c.ended.ensures.is ∙ c.stop_report-report.ensures
           ∙ item_read figure6 a.kept.now out.ensures.over f.n f.w
           ∙ begun_report a.traced f.n f.w f.initial a.list.now es ps c.in-Ok.ensures refl first,
     )

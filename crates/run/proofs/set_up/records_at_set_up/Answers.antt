@@ -7,5 +7,5 @@ use Rattle.run.proofs.set_up.records_at_set_up.Goals as goal
 
 pub loop-p-preserved : goal.loop-p-preserved
 loop-p-preserved c =
-    records_again c.args.all c.args.n c.loop-p.p c.loop-p.invariant c.record_at_set_up.ensures
+    records_again c.args.all c.args.count.n c.loop-p.p c.loop-p.invariant c.record_at_set_up.ensures
     (ap (λ (k : ℕ). set c.loop-p.next k c.record_at_set_up.result) c.record_place.ensures)

@@ -2,7 +2,7 @@
 use mathlib.Core.Path.{◌≡◌, sym, ◌∙◌}
 use borrow.Author.Rules.{rules}
 use Rattle.llsc.specs.Refusals.{number_told}
-use Rattle.rows.proofs.Refused.{number_some}
+use Rattle.llsc.proofs.RefusalNumbers.{number_some}
 use Rattle.station_rows.specs.StationCommandRows.{station_memory_number}
 use Rattle.station_rows.proofs.StationRowLaws.{memory_lent, memory_answers, late_decides}
 use Rattle.station_rows.proofs.table.refusal.Goals as goal

@@ -1,7 +1,5 @@
 -- `text_runs::runs::ended`: the last line, and what the run returns.
-use mathlib.Core.Path.{refl}
-use Rattle.text_runs.specs.Runs.{finished_of}
-use Rattle.text_runs.proofs.LastLaws.{closable_room, with_written_lem}
+use Rattle.text_runs.proofs.LastLaws.{closable_room}
 use Rattle.text_runs.proofs.runs.ended.Goals as goal
 
 pub write-requires : goal.write-requires
