@@ -38,6 +38,8 @@ fn main(rt: HostRuntime) -> ExitCode {
     }
     let given = &text[..got];
     let mut numbers = number_room();
+    // Matched here: where a function takes the reading, LLVM makes a slower loop of the bytes, 16.4 million instructions
+    // for 512 calls of 64 words and not 15.3.
     let Reading { fault, count, .. } = logtext::read(given, &mut numbers);
     console::status(match fault {
         Some(fault) => faults::tell(&mut outputs.errors, fault, count, given),

@@ -7,7 +7,7 @@ ghost use Rattle.verdicts.specs.Reasons.{cause_of, place_of};
 
 use llsc::refusals::Refusal;
 
-// Kept: 02 names three verdicts; a `Result<bool, Refusal>` would say yes as `Ok(true)`, and its reader the names anew.
+// Kept: 02 names three verdicts; in a `Result<bool, Refusal>` yes and no would be `Ok(true)` and `Ok(false)`.
 #[derive(Clone, Copy, PartialEq, Eq)]
 pub enum Verdict {
     Refused(Refusal),
