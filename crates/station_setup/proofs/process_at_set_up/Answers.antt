@@ -3,7 +3,7 @@ use mathlib.Core.Path.{◌≡◌, ap, ap₂, ◌∙◌}
 use Prim.Native.Nat.{ℕ, ◌+◌, ◌-◌}
 use mathlib.Core.List.{List}
 use native.Mathlib.Omega.{arith}
-use lib.ListN.{length, set, length-map}
+use lib.ListN.{length, set}
 use Rattle.station.specs.declared.Holding.{Holding}
 use Rattle.model.specs.Sizes.{sequence_numbers}
 use Rattle.station.specs.Station.{no_holding}
