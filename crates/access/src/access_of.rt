@@ -26,6 +26,7 @@ fn no_access() -> Access
 // From the memory before the step: the places taken out for it and the words. An idle process and a line that is none
 // are never stepped.
 // Kept: an arm for each point, as each names its line and the item that it looks at.
+// Kept: `obey_taken` takes these to write the words; a struct for both would have its fact proved anew at each write.
 #[tactic(auto, unfolding(crate::specs::AccessOn::access_on), using(crate::proofs::PlaceLaws::word_lies))]
 pub fn access_of(
     n: usize,

@@ -10,7 +10,7 @@ use Rattle.verdicts.specs.declared.Shown.TheVariants.{Value as Value·shown, Wor
 use Rattle.verdicts.specs.declared.Place.{Place}
 use Rattle.verdicts.specs.declared.Place.TheVariants.{Value, Call}
 use Rattle.verdicts.specs.Verdicts.{number_of, says_yes}
-use Rattle.verdicts.specs.Reasons.{condition_of}
+use Rattle.verdicts.specs.Reasons.{condition_of, cause_of, place_of}
 use Rattle.besklaun.specs.declared.logs.Judgement.{Judgement}
 use Rattle.besklaun.specs.declared.logs.Reasoned.{Reasoned}
 
@@ -40,6 +40,6 @@ refused_of c (Some (Call k)) = record { number = c; yes = false; condition = 0; 
 
 -- verdict and reason (verdicts/specs/Reasons) side by side
 abbrev pub reasoned_of : Said → Reasoned
-reasoned_of (Refused r place) = refused_of (refusal_number r) place
+reasoned_of (Refused r) = refused_of (refusal_number (cause_of r)) (place_of r)
 reasoned_of Yes = record { number = 0; yes = true; condition = 0; given = false; truth = false; call = 0; other = 0 }
 reasoned_of (No f) = fault_of f

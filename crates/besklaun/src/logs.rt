@@ -149,7 +149,9 @@ fn reasoned_of(said: verdicts::Judgement) -> Reasoned
     ensures { result ≡ reasoned_of said }
 {
     match said {
-        verdicts::Judgement::Refused(refusal, place) => refused_of(refusal.number(), place),
+        verdicts::Judgement::Refused(refusal) => {
+            refused_of(refusal.refusal().number(), refusal.place())
+        }
         verdicts::Judgement::Yes => Reasoned {
             yes: true,
             ..plain_no()

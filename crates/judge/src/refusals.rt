@@ -1,29 +1,22 @@
 // Why a log is refused, and where.
 use crate::calls;
 use crate::calls::{Call, Log};
-use llsc::refusals::Refusal;
 use logtext::number_places;
 use std::io;
 use std::io::Write;
-use verdicts::Place;
+use verdicts::{LogRefusal, Place};
 
-pub(crate) fn refused(
-    to: &mut impl Write,
-    refusal: Refusal,
-    place: Option<Place>,
-    log: Log,
-) -> io::Result<()> {
-    write!(to, "refused {}: ", refusal.number())?;
-    // Kept: each arm writes what its own refusal is about: N or W, a call, or a place.
-    match (refusal, place) {
-        (Refusal::NOutOfRange, _) => range(to, 0, "N", 16, log),
-        (Refusal::WOutOfRange, _) => range(to, 1, "W", 64, log),
-        (Refusal::NoSuchProcess, Some(Place::Call(call))) => process(to, log.call(call), log),
-        (Refusal::ValueNotWWords, Some(Place::Call(call))) => call_cut_off(to, call, log),
-        (Refusal::ValueNotWWords, _) => value_cut_off(to, log),
-        (Refusal::TooManyCalls, _) => too_many(to, log),
-        (Refusal::AnswerNotAfterStart, Some(Place::Call(call))) => backwards(to, log.call(call)),
-        _ => Ok(()),
+pub(crate) fn refused(to: &mut impl Write, refusal: LogRefusal, log: Log) -> io::Result<()> {
+    write!(to, "refused {}: ", refusal.refusal().number())?;
+    // Kept: each arm writes what its own refusal is about: N or W, a call, or the value.
+    match refusal {
+        LogRefusal::NOutOfRange => range(to, 0, "N", 16, log),
+        LogRefusal::WOutOfRange => range(to, 1, "W", 64, log),
+        LogRefusal::NoSuchProcess(call) => process(to, log.call(call), log),
+        LogRefusal::ValueNotWWords(Place::Call(call)) => call_cut_off(to, call, log),
+        LogRefusal::ValueNotWWords(Place::Value) => value_cut_off(to, log),
+        LogRefusal::TooManyCalls => too_many(to, log),
+        LogRefusal::AnswerNotAfterStart(call) => backwards(to, log.call(call)),
     }?;
     writeln!(to)
 }

@@ -12,8 +12,8 @@ pub(crate) fn explain(to: &mut impl Write, judgement: Judgement, log: Log) -> io
             no(to, fault, log)?;
             log_lines::remark(to, log)
         }
-        Judgement::Refused(refusal, place) => {
-            refusals::refused(to, refusal, place, log)?;
+        Judgement::Refused(refusal) => {
+            refusals::refused(to, refusal, log)?;
             log_lines::remark(to, log)
         }
     }

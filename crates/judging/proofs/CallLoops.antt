@@ -12,9 +12,13 @@ use Rattle.std.specs.Prelude.{Option, Some, None}
 use Rattle.std.specs.Option.{is_some}
 use Rattle.llsc.specs.Rows.{some}
 use Rattle.verdicts.specs.Log.{Entry, width, entry_of, rows, entries}
-use Rattle.verdicts.specs.Reasons.{first_with, two_at_fault}
+use Rattle.verdicts.specs.Reasons.{first_with, one_at_fault, two_at_fault}
 use Rattle.judging.specs.declared.heads.Head.{Head}
 use Rattle.judging.specs.Heads.{head, entry_at, leads, first_from, lacks_ll}
+
+-- an index counted from 0
+pub from_0 : (f : Entry → Bool) (es : List Entry) → first_from f 0 es ≡ one_at_fault f es
+from_0 f es = ap (λ k. cond (some f es) (Some k) None) (let z : 0 + first_with f es ≡ first_with f es = omega arith in z)
 
 pub rows_length : (k w : ℕ) (ns : List ℕ) → length (rows k w ns) ≡ k
 rows_length zero w ns = refl
@@ -120,12 +124,16 @@ found_some f k es r e = ap is_some e ∙ go (some f es)
     go true = refl
     go false = refl
 
-not_not : (b : Bool) → b ≡ not (not b)
-not_not true = refl
-not_not false = refl
+-- what is not unlike is alike
+pub twice : (b c : Bool) → b ≡ c → b ≡ not (not c)
+twice b c e = e ∙ go c
+  where
+    go : (c : Bool) → c ≡ not (not c)
+    go true = refl
+    go false = refl
 
 pub found_none : (f : Entry → Bool) (k : ℕ) (es : List Entry) (r : Option ℕ) → r ≡ first_from f k es → (b : Bool) → is_some r ≡ not b → b ≡ not (some f es)
-found_none f k es r e b h = not_not b ∙ ap not (sym h ∙ found_some f k es r e)
+found_none f k es r e b h = twice b b refl ∙ ap not (sym h ∙ found_some f k es r e)
 
 -- e lacks its LL where it is none, and none is found
 pub lacks_none : (all : List Entry) (e : Head) → (e.kind ≡ 1 → ⊥)

@@ -6,17 +6,17 @@ use mathlib.Core.Bool.{Bool, true, false, not, ◌&&◌, cond}
 use lib.Dec.{eqb}
 use Rattle.std.specs.Prelude.{Option, Some, None, Ok, Err}
 use Rattle.std.specs.Option.{is_some}
-use Rattle.llsc.specs.Object.{fresh}
-use Rattle.llsc.specs.Rows.{every, some}
+use Rattle.llsc.specs.Rows.{every}
 use Rattle.llsc.specs.declared.refusals.Refusal.{Refusal}
 use Rattle.verdicts.specs.declared.Verdict.TheVariants.{Refused, Yes, No}
-use Rattle.verdicts.specs.declared.Fault.{Fault}
+use Rattle.verdicts.specs.declared.LogRefusal.{LogRefusal}
 use Rattle.verdicts.specs.Log.{Entry, entries}
-use Rattle.verdicts.specs.Verdicts.{each_two, kind_known, apart, differ, inside, served_alike, ll_before, earns_yes, log_checked, said_of, judged}
-use Rattle.verdicts.specs.Reasons.{in_value, two_at_fault, not_alike, numbered_in_order}
-use Rattle.verdicts.proofs.ReasonLaws.{across, and_true, none, one_none, two_none, served_none}
+use Rattle.verdicts.specs.Verdicts.{each_two, kind_known, apart, differ, inside, served_alike, ll_before, earns_yes, said_of, judged}
+use Rattle.verdicts.specs.Reasons.{cause_of, log_refused}
+use Rattle.verdicts.proofs.ReasonLaws.{across, and_true, none, one_none, cause_told, checked_is}
 use Rattle.judging.specs.declared.heads.Head.{Head}
-use Rattle.judging.specs.Heads.{head, first_unled, first_from}
+use Rattle.judging.specs.Heads.{first_from}
+use Rattle.judging.proofs.CallLoops.{from_0, twice}
 use Rattle.judging.specs.Heads.{known as Heads·known, inside as Heads·inside, apart as Heads·apart}
 
 and_false : (x : Bool) → (x && false) ≡ false
@@ -48,59 +48,31 @@ wrong e = not (Heads·known e && Heads·inside e)
 abbrev pub clash : Head → Head → Bool
 clash e f = not (Heads·apart e f && not (eqb e.moment f.moment))
 
--- a first entry is found where one is at fault: the index counts from 0
-module _ (value : List ℕ) (es : List Entry) where
-  abbrev first_wrong : Option ℕ
-  first_wrong = first_from (λ e. wrong (head e)) 0 es
+-- the conditions in the order in which the code looks
+pub earns_is : (value : List ℕ) (es : List Entry) → earns_yes value es
+    ≡ (every (λ e. kind_known e && inside e) es && (each_two (λ e f. apart e f && differ e f) es && (every (ll_before es) es && served_alike value es)))
+unfolding earns_yes
+earns_is value es =
+    sort_out (every kind_known es) (each_two apart es) (each_two differ es) (every inside es) (served_alike value es) (every (ll_before es) es)
+    ∙ ap₂ (λ x y. x && (y && (every (ll_before es) es && served_alike value es))) (join_every kind_known inside es) (join_two apart differ es)
 
-  abbrev first_clash : Option (ℕ × ℕ)
-  first_clash = two_at_fault (λ e f. clash (head e) (head f)) 0 es
+-- none is found where each passes
+pub first_none : (f : Entry → Bool) (es : List Entry) → none (first_from (λ e. not (f e)) 0 es) ≡ every f es
+first_none f es = ap none (from_0 (λ e. not (f e)) es) ∙ one_none f es
 
-  abbrev first_unlike : Option Fault
-  first_unlike = not_alike (fresh value) in_value (numbered_in_order es)
-
-  -- the first of each kind
-  from_0 : (f : Entry → Bool) → none (first_from (λ e. not (f e)) 0 es) ≡ every f es
-  from_0 f = same (some (λ e. not (f e)) es) _ _ ∙ one_none f es
-    where
-      same : (b : Bool) (j k : ℕ) → none (cond b (Some j) None) ≡ none (cond b (Some k) None)
-      same true j k = refl
-      same false j k = refl
-
-  pub earns_is : earns_yes value es ≡ (none first_wrong && (none first_clash && (none (first_unled es) && none first_unlike)))
-  unfolding earns_yes
-  earns_is =
-      sort_out (every kind_known es) (each_two apart es) (each_two differ es) (every inside es) (served_alike value es) (every (ll_before es) es)
-      ∙ ap₂ (λ x y. x && (y && (every (ll_before es) es && served_alike value es)))
-      (join_every kind_known inside es ∙ sym (from_0 (λ e. kind_known e && inside e)))
-      (join_two apart differ es ∙ sym (two_none (λ e f. apart e f && differ e f) 0 es))
-      ∙ ap₂ (λ x y. none first_wrong && (none first_clash && (x && y))) (sym (from_0 (ll_before es))) (sym (served_none value es))
-
--- what is found stops, what is not goes on
-none_not : {A : Type 0} (r : Option A) → none r ≡ not (is_some r)
-none_not None = refl
-none_not (Some a) = refl
-
-module _ {A : Type 0} (r R : Option A) (e : r ≡ R) (x y : Bool) (v : y ≡ (none R && x)) where
-  pub stop : is_some r ≡ true → false ≡ y
-  stop h = sym (v ∙ ap (λ b. b && x) (ap none (sym e) ∙ none_not r ∙ ap not h))
-
-  pub pass : is_some r ≡ false → y ≡ x
-  pass h = v ∙ ap (λ b. b && x) (ap none (sym e) ∙ none_not r ∙ ap not h)
-
-pub last : {A : Type 0} (r R : Option A) → r ≡ R → (b y : Bool) → is_some r ≡ not b → y ≡ none R → b ≡ y
-last r R e b y h v = not_twice b ∙ ap not (sym h) ∙ sym (none_not r) ∙ ap none e ∙ sym v
+pub none_found : {A : Type 0} (r R : Option A) → r ≡ R → (b : Bool) → is_some r ≡ not b → {y : Bool} → none R ≡ y → b ≡ y
+none_found r R e b h v = twice b b refl ∙ ap not (sym h) ∙ sym (none_not r) ∙ ap none e ∙ v
   where
-    not_twice : (b : Bool) → b ≡ not (not b)
-    not_twice true = refl
-    not_twice false = refl
+    none_not : {A : Type 0} (r : Option A) → none r ≡ not (is_some r)
+    none_not None = refl
+    none_not (Some a) = refl
 
 -- the verdict
 module _ (n w : ℕ) (value log : List ℕ) where
-  pub judged_refused : (r : Refusal) → Err r ≡ log_checked n w value log → Refused r ≡ judged n w value log
+  pub judged_refused : (r : LogRefusal) (c : Refusal) → c ≡ cause_of r → Err r ≡ log_refused n w value log → Refused c ≡ judged n w value log
   unfolding judged
-  judged_refused r e = ap (λ c. said_of c (earns_yes value (entries w log))) e
+  judged_refused r c z e = ap Refused z ∙ ap (λ c. said_of c (earns_yes value (entries w log))) (ap cause_told e ∙ checked_is n w value log)
 
-  pub judged_as : Ok tt ≡ log_checked n w value log → (b : Bool) → b ≡ earns_yes value (entries w log) → cond b Yes No ≡ judged n w value log
+  pub judged_as : Ok tt ≡ log_refused n w value log → (b : Bool) → b ≡ earns_yes value (entries w log) → cond b Yes No ≡ judged n w value log
   unfolding judged
-  judged_as e b h = ap (λ b. cond b Yes No) h ∙ ap (λ c. said_of c (earns_yes value (entries w log))) e
+  judged_as e b h = ap (λ b. cond b Yes No) h ∙ ap (λ c. said_of c (earns_yes value (entries w log))) (ap cause_told e ∙ checked_is n w value log)

@@ -1,6 +1,6 @@
 -- Inner: calls without their words, and the conditions as tests that a log is looked through for. `earns_is`
 -- (proofs/JudgeLaws) ties them to what `verdicts` says.
-use Rattle.std.specs.Prelude.{◌≡◌, ℕ, ◌+◌, ◌*◌, List, Bool, Option, Some, None, not, ◌&&◌, ◌||◌, cond, eqb, ltb, leb, get_or, drop}
+use Rattle.std.specs.Prelude.{◌≡◌, ℕ, ◌+◌, ◌*◌, ◌/◌, List, Bool, Option, Some, None, not, ◌&&◌, ◌||◌, cond, eqb, ltb, leb, length, get_or, drop}
 use Rattle.llsc.specs.Rows.{some, between}
 use Rattle.verdicts.specs.Log.{Entry, width, entry_of}
 use Rattle.verdicts.specs.Reasons.{first_with}
@@ -15,6 +15,10 @@ head e = record { process = e.process; kind = e.kind; start = e.start; answer = 
 -- the call of an index
 abbrev pub entry_at : ℕ → List ℕ → ℕ → Entry
 entry_at w log k = entry_of w (drop (k * width w) log)
+
+-- the numbers behind the last call that is whole
+abbrev pub left_over : ℕ → List ℕ → List ℕ
+left_over w log = drop (length log / width w * width w) log
 
 -- the kind is one
 abbrev pub known : Head → Bool

@@ -1,10 +1,10 @@
 // The calls of a log, looked through: one loop for every test of a call, and one for each two calls.
-ghost use Rattle.std.specs.Prelude.{◌≡◌, Bool, ◌≤◌, ◌<◌, ◌/◌, length, drop};
+ghost use Rattle.std.specs.Prelude.{◌≡◌, Bool, ◌≤◌, ◌<◌, ◌*◌, ◌/◌, ◌%◌, length, drop};
 ghost use Rattle.verdicts.specs.Log.{width, entries};
 ghost use Rattle.verdicts.specs.Reasons.{two_at_fault};
 ghost use Rattle.judging.specs.declared.heads.Head.{Head};
 ghost use Rattle.judging.specs.Orders.{Fits};
-ghost use Rattle.judging.specs.Heads.{head, entry_at, first_from, lacks_ll, first_unled, Decides, DecidesTwo};
+ghost use Rattle.judging.specs.Heads.{head, entry_at, left_over, first_from, lacks_ll, first_unled, Decides, DecidesTwo};
 
 use crate::heads;
 use crate::heads::Head;
@@ -25,10 +25,33 @@ pub struct Admitted<'a> {
 }
 
 impl<'a> Calls<'a> {
+    // How many numbers a call has.
+    fn width(&self) -> usize
+        ensures { result ≡ width self.now.w }
+    {
+        6 + self.w
+    }
+
     pub fn len(&self) -> usize
         ensures { result ≡ length self.now.log.now / width self.now.w }
     {
-        self.log.len() / (6 + self.w)
+        self.log.len() / self.width()
+    }
+
+    // The numbers from the call of an index on; from behind the last call on they are what is left over.
+    fn numbers_from(&self, k: usize) -> &'a [u64]
+        requires { k ≤ length self.now.log.now / width self.now.w }
+        ensures { result.now ≡ drop (k * width self.now.w) self.now.log.now }
+    {
+        &self.log[k * self.width()..]
+    }
+
+    // The numbers of a call that is cut off.
+    pub(crate) fn left_over(&self) -> &'a [u64]
+        ensures value { result.now ≡ left_over self.now.w self.now.log.now }
+        ensures long { length result.now ≡ length self.now.log.now % width self.now.w }
+    {
+        self.numbers_from(self.len())
     }
 
     // The call of an index, without its words.
@@ -37,15 +60,14 @@ impl<'a> Calls<'a> {
         requires { k < length self.now.log.now / width self.now.w }
         ensures { result ≡ head (entry_at self.now.w self.now.log.now k) }
     {
-        heads::head_of(&self.log[k * (6 + self.w)..])
+        heads::head_of(self.numbers_from(k))
     }
 
     pub fn words(&self, k: usize) -> &'a [u64]
         requires { k < length self.now.log.now / width self.now.w }
         ensures { result.now ≡ (entry_at self.now.w self.now.log.now k).words }
     {
-        let at = k * (6 + self.w) + 6;
-        &self.log[at..at + self.w]
+        &self.numbers_from(k)[6..self.width()]
     }
 
     // The first call that passes a test, of those from an index on.
@@ -89,5 +111,16 @@ impl<'a> Calls<'a> {
         ensures { result ≡ first_unled (entries self.now.w self.now.log.now) }
     {
         self.first(0, |e| self.lacks_ll(e))
+    }
+}
+
+impl Admitted<'_> {
+    // The call of an index, without its words: its process has one of sixteen links.
+    pub(crate) fn head(&self, k: usize) -> Head
+        requires { k < length self.now.calls.log.now / width self.now.calls.w }
+        ensures value { result ≡ head (entry_at self.now.calls.w self.now.calls.log.now k) }
+        ensures linked { result.process < 16 }
+    {
+        self.calls.head(k)
     }
 }

@@ -30,12 +30,14 @@ fn words_held<'a>(calls: &Calls<'a>, value: &'a [u64], held: &Held) -> &'a [u64]
 }
 
 // Whether the object answers a call as the call says.
+// Kept: `k < count` is asked by the three functions that get an index: one of its own type would hold its log, as at
+// `Calls::head`.
 fn alike<'a>(admitted: &Admitted<'a>, value: &'a [u64], held: &Held, k: usize) -> bool
     requires call { k < count admitted.now.calls.w admitted.now.calls.log.now }
     requires sane { Sane admitted.now.calls.w admitted.now.calls.log.now held.now }
     ensures { result ≡ told_alike admitted.now.calls.w admitted.now.calls.log.now value.now k held.now }
 {
-    let e = admitted.calls.head(k);
+    let e = admitted.head(k);
     if e.kind == heads::LL {
         return words_held(&admitted.calls, value, held) == admitted.calls.words(k);
     }
@@ -48,7 +50,7 @@ fn serve(admitted: &Admitted, held: &mut Held, k: usize)
     requires sane { Sane admitted.now.calls.w admitted.now.calls.log.now held.old }
     ensures { MovedOn admitted.now.calls.w admitted.now.calls.log.now k held.old held.new }
 {
-    let e = admitted.calls.head(k);
+    let e = admitted.head(k);
     let p = e.process as usize;
     if e.kind == heads::LL {
         held.links[p] = true;
@@ -63,7 +65,7 @@ fn shown(admitted: &Admitted, held: &Held, k: usize) -> Shown
     requires { k < count admitted.now.calls.w admitted.now.calls.log.now }
     ensures { result ≡ shown_at admitted.now.calls.w admitted.now.calls.log.now k held.now }
 {
-    let e = admitted.calls.head(k);
+    let e = admitted.head(k);
     if e.kind != heads::LL {
         return Shown::Truth(held.links[e.process as usize]);
     }

@@ -1,55 +1,81 @@
-// The causes for which a log is refused, and their order: 1, 2, 4, 8, 16, 17.
-ghost use Rattle.std.specs.Prelude.{◌≡◌, ◌≤◌};
-ghost use Rattle.verdicts.specs.Log.{entries, begun};
-ghost use Rattle.verdicts.specs.Verdicts.{row4log, row8log, row16, row17, log_checked};
+// The causes for which a log is refused, and their order: 1, 2, 4, 8, 16, 17. Each tells what it is about.
+ghost use Rattle.std.specs.Prelude.{◌≡◌, Some, None, cond, leb};
+ghost use Rattle.verdicts.specs.Log.{Entry, entries, begun};
+ghost use Rattle.verdicts.specs.Verdicts.{row8log, row16};
+ghost use Rattle.verdicts.specs.Reasons.{one_at_fault, cut_off, log_refused};
 
 use crate::calls::Calls;
-use llsc::refusals::Refusal;
 use rows::causes;
+use verdicts::{LogRefusal, Place};
 
 pub const MOST_CALLS: usize = 512;
 
-// Row 4: of a call that is cut off, too, where its first number stands.
-fn no_such_process(n: usize, calls: &Calls) -> bool
-    ensures { result ≡ (row4log n (begun calls.now.w calls.now.log.now)).holds }
+// Row 4: the first call of a process not below N, also of one that is cut off, where its first number stands.
+fn no_such_process(n: usize, calls: &Calls) -> Option<usize>
+    ensures { result ≡ one_at_fault (λ (e : Entry). leb n e.process) (begun calls.now.w calls.now.log.now) }
 {
     let n = n as u64;
-    let at = calls.len() * (6 + calls.w);
-    calls.first(0, |e| n <= e.process).is_some() || at < calls.log.len() && n <= calls.log[at]
+    if let Some(call) = calls.first(0, |e| n <= e.process) {
+        return Some(call);
+    }
+    match calls.left_over() {
+        [process, ..] if n <= *process => Some(calls.len()),
+        _ => None,
+    }
 }
 
 // Row 8: the value given, or a call that is cut off.
-fn not_w_words(w: usize, value: &[u64], log: &[u64]) -> bool
-    requires { w ≤ 64 }
-    ensures { result ≡ (row8log w value.now log.now).holds }
+fn not_w_words(calls: &Calls, value: &[u64]) -> Option<Place>
+    ensures { let w = calls.now.w in let log = calls.now.log.now in
+        result ≡ cond (row8log w value.now log).holds (Some (cut_off w value.now log)) None }
 {
-    value.len() != w || log.len() % (6 + w) != 0
+    if value.len() != calls.w {
+        return Some(Place::Value);
+    }
+    if calls.left_over().is_empty() {
+        return None;
+    }
+    Some(Place::Call(calls.len()))
 }
 
 // Row 16.
+#[tactic(auto, using(crate::proofs::CallLoops::entries_length))]
 fn too_many(calls: &Calls) -> bool
     ensures { result ≡ (row16 (entries calls.now.w calls.now.log.now)).holds }
 {
     calls.len() > MOST_CALLS
 }
 
-// Row 17.
-fn not_after_start(calls: &Calls) -> bool
-    ensures { result ≡ (row17 (entries calls.now.w calls.now.log.now)).holds }
+// Row 17: the first call that is not answered after its start.
+fn not_after_start(calls: &Calls) -> Option<usize>
+    ensures { result ≡ one_at_fault (λ (e : Entry). leb e.answer e.start) (entries calls.now.w calls.now.log.now) }
 {
-    calls.first(0, |e| e.answer <= e.start).is_some()
+    calls.first(0, |e| e.answer <= e.start)
 }
 
 // Refuses for the first cause that holds.
-#[tactic(auto, unfolding(verdicts::specs::Verdicts::log_checked))]
-pub fn checked(n: usize, w: usize, value: &[u64], log: &[u64]) -> Result<(), Refusal>
-    ensures { result ≡ log_checked n w value.now log.now }
+#[tactic(auto, unfolding(verdicts::specs::Reasons::log_refused))]
+pub fn checked(n: usize, w: usize, value: &[u64], log: &[u64]) -> Result<(), LogRefusal>
+    ensures { result ≡ log_refused n w value.now log.now }
 {
-    Refusal::NOutOfRange.if_holds(causes::n_out_of_range(n))?;
-    Refusal::WOutOfRange.if_holds(causes::w_out_of_range(w))?;
+    if causes::n_out_of_range(n) {
+        return Err(LogRefusal::NOutOfRange);
+    }
+    if causes::w_out_of_range(w) {
+        return Err(LogRefusal::WOutOfRange);
+    }
     let calls = Calls { log, w };
-    Refusal::NoSuchProcess.if_holds(no_such_process(n, &calls))?;
-    Refusal::ValueNotWWords.if_holds(not_w_words(w, value, log))?;
-    Refusal::TooManyCalls.if_holds(too_many(&calls))?;
-    Refusal::AnswerNotAfterStart.if_holds(not_after_start(&calls))
+    if let Some(call) = no_such_process(n, &calls) {
+        return Err(LogRefusal::NoSuchProcess(call));
+    }
+    if let Some(place) = not_w_words(&calls, value) {
+        return Err(LogRefusal::ValueNotWWords(place));
+    }
+    if too_many(&calls) {
+        return Err(LogRefusal::TooManyCalls);
+    }
+    if let Some(call) = not_after_start(&calls) {
+        return Err(LogRefusal::AnswerNotAfterStart(call));
+    }
+    Ok(())
 }

@@ -1,5 +1,5 @@
 -- Every list of commands after an accepted set-up: the memory follows the ghost machine, and its invariants hold.
-use mathlib.Core.Path.{◌≡◌, refl}
+use mathlib.Core.Path.{◌≡◌}
 use mathlib.Core.List.{List, [], ◌∷◌, map}
 use Prim.Native.Nat.{ℕ, suc, ◌<◌}
 use Rattle.model.specs.Sizes.{halves}

@@ -17,7 +17,7 @@ use Rattle.model.specs.declared.Reply.{Reply}
 use Rattle.model.specs.declared.Reply.TheVariants.{Refused, Accepted}
 use Rattle.model.specs.declared.Moved.{Moved}
 use Rattle.model.specs.Sizes.{halves}
-use Rattle.model.specs.Points.{idle, line11}
+use Rattle.model.specs.Points.{line11}
 use Rattle.model.specs.Records.{record_at, no_process}
 use Rattle.model.specs.Machine
 use Rattle.model.specs.Machine.{Memory, obey}

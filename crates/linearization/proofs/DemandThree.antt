@@ -8,18 +8,16 @@ use lib.ListN.{length, length-map}
 use Rattle.model.specs.Sizes.{halves}
 use Rattle.model.specs.Machine.{Memory, Shaped}
 use Rattle.model.specs.SetUp.{set_up}
-use Rattle.llsc.specs.History.{Command, Call, calls, slots, none}
+use Rattle.llsc.specs.History.{Command, calls, slots, none}
 use Rattle.model.specs.History.{events}
 use Rattle.llsc.specs.Linearizable.{All, Timed, Linearization}
 use Rattle.model.specs.Linearizable.{Counted, OpenCounted, Demand3}
-use Rattle.linearization.specs.After.{after}
 use Rattle.linearization.proofs.GhostMachine.{State}
 use Rattle.linearization.proofs.WordLists.{words_of, cells}
 use Rattle.linearization.proofs.GhostRuns.{Cmd, calls_f, setup}
 use Rattle.linearization.proofs.InvariantRuns.{execs}
 use Rattle.linearization.proofs.GhostLinearization.{linearization}
 use Rattle.linearization.proofs.CallCounts.{all_calls, run_counted}
-use Rattle.linearization.proofs.Slots.{slot_in}
 use Rattle.linearization.proofs.OpenCounts.{open_counted}
 use Rattle.linearization.proofs.ListFacts.{words_whole}
 use Rattle.linearization.proofs.SetUpSimulation.{set_up_admits, set_up_halves}

@@ -12,7 +12,6 @@ use Rattle.llsc.specs.declared.Order.TheVariants.{StartLl, StartSc, StartVl, Ste
 use Rattle.model.specs.Sizes.{halves}
 use Rattle.model.specs.Points.{Point, line1, line12, line23}
 use Rattle.llsc.specs.Rows.{is_start, needs_ll, brings_value}
-use Rattle.llsc.specs.Answers.{refused, accepted}
 use Rattle.linearization.proofs.PointFacts
 use Rattle.laws.proofs.Updates.{by_test, contra}
 use Rattle.linearization.proofs.GhostMachine

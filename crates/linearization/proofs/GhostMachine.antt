@@ -1,7 +1,6 @@
 -- The machine of Figure 2, one access a step, over functions ℕ → A, with its ghost state. N is the number of processes, W the number of cells of a buffer.
-use mathlib.Core.Path.{◌≡◌, refl}
-use mathlib.Core.Bool.{Bool, true, false, not}
-use Prim.Native.Nat.{ℕ, zero, suc, ◌+◌, ◌*◌, ◌%◌, ◌≤◌, ◌<◌}
+use mathlib.Core.Bool.{Bool, true, false}
+use Prim.Native.Nat.{ℕ, suc, ◌+◌, ◌*◌, ◌%◌}
 use lib.Dec.{ltb, eqb}
 use mathlib.Core.Bool.{cond}
 use Rattle.laws.proofs.Updates.{upd, swap}

@@ -1,7 +1,7 @@
 -- The set-up: the invariants hold, and the log is empty.
 use mathlib.Core.Path.{◌≡◌, refl, sym, ◌∙◌}
 use mathlib.Core.Bool.{true, false, cond}
-use mathlib.Core.List.{List, []}
+use mathlib.Core.List.{[]}
 use Prim.Native.Nat.{ℕ, ◌+◌, ◌*◌, ◌<◌}
 use native.Mathlib.Nat.{zero-mod}
 use native.Mathlib.Omega.{arith}
@@ -11,8 +11,7 @@ use Rattle.laws.proofs.Updates.{ifb_eq, ifb_ne, Split, same, other, split, contr
 use Rattle.laws.proofs.Parts.{SamePart}
 use Rattle.linearization.proofs.Invariants.{ProcessClauses, SharedClauses, Invariant}
 use Rattle.linearization.proofs.WordLists.{words_of}
-use Rattle.linearization.proofs.GhostRuns.{Cmd, loc0, sh0, setup}
-use Rattle.linearization.proofs.InvariantRuns.{number_after, execs, execs_inv}
+use Rattle.linearization.proofs.GhostRuns.{loc0, sh0, setup}
 use Rattle.linearization.proofs.GhostLog.{Good, LoggedAt}
 
 module _ (N W : ℕ) (v : ℕ → ℕ) where
@@ -51,6 +50,3 @@ module _ (N W : ℕ) (v : ℕ → ℕ) where
 
   pub setup_good : 0 < N → Good N W (words_of W v) 1 (setup N W v) []
   setup_good h_n = record { inv = setup_inv h_n; logged = empty }
-
-pub run_inv : (N W : ℕ) → 0 < N → 0 < W → (v : ℕ → ℕ) (cs : List Cmd) → Invariant N W (number_after 1 cs) (execs N W 1 cs (setup N W v))
-run_inv N W h_n h_w v cs = execs_inv N W h_w 1 cs _ (setup_inv N W v h_n)

@@ -1,24 +1,21 @@
 -- The three writes of Help (L1, Withdrawing, S15).
-use mathlib.Core.Path.{◌≡◌, refl, sym, ap, subst, subst⁻¹, ◌∙◌}
-use mathlib.Core.Bool.{Bool, true, false, not}
-use Prim.Native.Nat.{ℕ, zero, suc, ◌+◌, ◌*◌, ◌%◌, ◌≤◌, ◌<◌}
-use native.Mathlib.Nat.{suc-mod, mod-lt}
-use native.Mathlib.Decide.{dec_lt}
-use Rattle.laws.proofs.Residues.{hit}
+use mathlib.Core.Path.{◌≡◌, sym, ◌∙◌}
+use mathlib.Core.Bool.{Bool, true, false}
+use Prim.Native.Nat.{ℕ, suc, ◌+◌, ◌*◌, ◌%◌, ◌≤◌, ◌<◌}
+use native.Mathlib.Nat.{mod-lt}
 use native.Mathlib.Omega.{arith}
-use lib.Dec.{ltb, eqb, lit≤}
-use Rattle.laws.proofs.Updates.{upd, upd_same, upd_other, Split, same, other, split, by_test, contra, is_false, is_true, swap, swap_l, swap_r, swap_o, swap_inj}
-use Rattle.linearization.proofs.GhostMachine.{Local, Shared, State, quiet, noisy, to, set_word, word, ll_x}
-use Rattle.linearization.proofs.GhostMachine.{set_returned, set_link_help, set_moment, set_b, set_c, set_mybuf, set_e}
-use Rattle.linearization.proofs.GhostMachine.{set_link_bank, set_d, set_checked_at, rest, w_help, w_asked, w_give}
-use Rattle.model.specs.Points.{Point, idle, line1, line2, line3, line4, line5, line6, line7, line7copy, line8, line9}
-use Rattle.model.specs.Points.{line10, line11, line12, line12valid, line13, line14, line14valid, line15, line17, line18}
-use Rattle.model.specs.Points.{line19, line23}
-use Rattle.laws.proofs.Claimed.{On, on_map, on_no, on_get, on_with}
+use lib.Dec.{lit≤}
+use Rattle.laws.proofs.Updates.{upd, upd_same, upd_other, Split, same, other, split, contra, is_true, swap, swap_l, swap_r, swap_o, swap_inj}
+use Rattle.linearization.proofs.GhostMachine.{Local, Shared, to}
+use Rattle.linearization.proofs.GhostMachine.{set_link_help, set_mybuf}
+use Rattle.linearization.proofs.GhostMachine.{w_help, w_asked, w_give}
+use Rattle.model.specs.Points.{Point, line1, line2, line9}
+use Rattle.model.specs.Points.{line10, line15, line17}
+use Rattle.laws.proofs.Claimed.{on_map, on_no, on_get, on_with}
 use Rattle.linearization.proofs.Invariants.{later_g, lines, wide, above}
-use Rattle.linearization.proofs.Invariants.{apart, ProcessClauses, SharedClauses, Invariant, Withdrawing, Asking}
+use Rattle.linearization.proofs.Invariants.{apart, ProcessClauses, SharedClauses, Withdrawing}
 use Rattle.laws.proofs.Parts.{SamePart}
-use Rattle.linearization.proofs.Invariants.{K2, K3, H6, H7, H8, H9, K4x, Both, Within, Got, D6}
+use Rattle.linearization.proofs.Invariants.{H6, H7, H8, H9, Both, Got, D6}
 use Rattle.laws.proofs.Parts.{pre_none}
 
 -- what a write of Help[i], which clears the links to it, leaves of the facts on the process t that q would help

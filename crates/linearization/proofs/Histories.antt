@@ -1,11 +1,11 @@
 -- The history that model computes from the commands and the replies is that of the ghost machine: the same answered calls, the same open calls.
 use mathlib.Core.Path.{◌≡◌, refl, sym, ap, ap₂, subst, ◌∙◌}
-use mathlib.Core.Bool.{Bool, true, false, cond}
+use mathlib.Core.Bool.{true}
 use mathlib.Core.List.{List, [], ◌∷◌, ◌++◌, map}
-use Prim.Native.Nat.{ℕ, suc, ◌+◌, ◌≤◌, ◌<◌}
+use Prim.Native.Nat.{ℕ, suc, ◌≤◌, ◌<◌}
 use native.Mathlib.Omega.{arith}
 use native.Mathlib.Numerals.{add-one}
-use lib.Dec.{ltb, eqb}
+use lib.Dec.{ltb}
 use lib.ListN.{length}
 use Rattle.llsc.specs.declared.Order.{Order}
 use Rattle.llsc.specs.declared.Order.TheVariants.{StartLl, StartSc, StartVl, Step}
@@ -15,9 +15,9 @@ use Rattle.model.specs.Points.{line10, line11, line12, line12valid, line13, line
 use Rattle.model.specs.Points.{line19, line23}
 use Rattle.model.specs.Machine.{Memory}
 use Rattle.model.specs.Command.{command}
-use Rattle.llsc.specs.Answers.{Said, accepted, refused, answered}
-use Rattle.llsc.specs.Object.{ll, sc, vl, set_at}
-use Rattle.llsc.specs.History.{Command, Event, Slot, none, running, stepped, Call, ordered, slot_after, slots_after, call_of, calls_from, slots_from}
+use Rattle.llsc.specs.Answers.{Said}
+use Rattle.llsc.specs.Object.{ll, sc, set_at}
+use Rattle.llsc.specs.History.{Command, Slot, none, running, stepped, ordered, slot_after, slots_after, call_of, calls_from, slots_from}
 use Rattle.model.specs.History.{event_of, events}
 use Rattle.llsc.specs.Rows.{is_start, brings_value}
 use Rattle.llsc.specs.Linearizable.{Timed}
@@ -32,7 +32,7 @@ use Rattle.laws.proofs.ListFacts.{map_append}
 use Rattle.linearization.proofs.ListFacts.{words_whole}
 use Rattle.linearization.proofs.Simulation.{begun}
 use Rattle.linearization.proofs.ReplySimulation.{said_at}
-use Rattle.linearization.proofs.Outcome.{cmd_of, to_f, Outcome, refused_with, started, stepped as stepped_case, IsRefused, IsStarted, IsStepped}
+use Rattle.linearization.proofs.Outcome.{cmd_of, to_f, Outcome, refused_with, started, stepped as stepped_case}
 use Rattle.linearization.proofs.GhostCommands.{silent_start, answers_step}
 use Rattle.linearization.proofs.CommandRuns.{Holds, next_command, holds_after}
 

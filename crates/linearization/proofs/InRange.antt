@@ -1,7 +1,7 @@
 -- Row 9 never holds: the numbers of related memory are in range.
 use mathlib.Core.Path.{◌≡◌, refl, ap₂, subst}
 use mathlib.Core.Bool.{Bool, true, false, ◌&&◌, cond}
-use Prim.Native.Nat.{ℕ, ◌+◌, ◌*◌, ◌^◌, ◌≤◌, ◌<◌}
+use Prim.Native.Nat.{ℕ, ◌*◌, ◌^◌, ◌≤◌, ◌<◌}
 use native.Mathlib.Omega.{arith}
 use lib.Dec.{ltb, leb}
 use borrow.Author.Tests.{lt-ltb, le-leb}
@@ -11,7 +11,6 @@ use Rattle.model.specs.Places.{XPlace, BankPlace, HelpPlace}
 use Rattle.model.specs.Sizes.{halves, busy_most}
 use Rattle.model.specs.Tables.{no_bank, no_help}
 use Rattle.model.specs.Records.{no_process}
-use Rattle.model.specs.Points.{idle}
 use Rattle.model.specs.Machine.{Memory}
 use Rattle.llsc.specs.Rows.{every}
 use Rattle.model.specs.Refusals.{links_ok, x_place_ok, bank_place_ok, help_place_ok, process_ok, count_ok, in_range}

@@ -1,15 +1,15 @@
 -- The invariants, and the two frame lemmas.
-use mathlib.Core.Path.{◌≡◌, refl, sym, ap, subst, subst⁻¹, ◌∙◌}
+use mathlib.Core.Path.{◌≡◌, refl}
 use mathlib.Core.Bool.{Bool, true, false, not, cond}
-use Prim.Native.Nat.{ℕ, zero, suc, ◌+◌, ◌*◌, ◌%◌, ◌≤◌, ◌<◌}
-use lib.Dec.{ltb, leb, eqb, lit≤}
+use Prim.Native.Nat.{ℕ, suc, ◌+◌, ◌*◌, ◌%◌, ◌≤◌, ◌<◌}
+use lib.Dec.{leb, eqb, lit≤}
 use borrow.Author.Tests.{leb-true, le-leb}
 use native.Mathlib.Decide.{dec_le}
 use native.Mathlib.Omega.{arith}
 use Rattle.laws.proofs.Claimed.{On}
 use Rattle.laws.proofs.Parts.{SamePart}
 use Rattle.linearization.proofs.PointFacts.{busy, moving}
-use Rattle.laws.proofs.Updates.{upd, upd_same, upd_other, Split, same, other, split, by_test, contra, is_true, is_false}
+use Rattle.laws.proofs.Updates.{upd, upd_same, upd_other, Split, same, other, split, contra, is_true, is_false}
 use Rattle.linearization.proofs.GhostMachine.{Local, Shared, State, quiet, noisy, w_end}
 use Rattle.model.specs.Points.{Point, idle, line1, line2, line3, line4, line5, line6, line7, line7copy, line8, line9}
 use Rattle.model.specs.Points.{line10, line11, line12, line12valid, line13, line14, line14valid, line15, line17, line18}

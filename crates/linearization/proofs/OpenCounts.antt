@@ -1,5 +1,5 @@
 -- Every open call has fewer own steps than its kind's largest.
-use mathlib.Core.Path.{◌≡◌, refl}
+use mathlib.Core.Path.{refl}
 use mathlib.Core.List.{List}
 use Prim.Native.Nat.{ℕ, ◌<◌}
 use Rattle.model.specs.Sizes.{halves}

@@ -1,15 +1,15 @@
 -- Every step keeps the invariants.
-use mathlib.Core.Path.{◌≡◌, refl, sym, ap, subst, subst⁻¹, ◌∙◌}
-use mathlib.Core.Bool.{Bool, true, false, not, cond}
-use Prim.Native.Nat.{ℕ, zero, suc, ◌+◌, ◌*◌, ◌%◌, ◌≤◌, ◌<◌}
+use mathlib.Core.Path.{◌≡◌, refl, subst, subst⁻¹}
+use mathlib.Core.Bool.{true, false, cond}
+use Prim.Native.Nat.{ℕ, suc, ◌+◌, ◌*◌, ◌%◌, ◌≤◌, ◌<◌}
 use native.Mathlib.Nat.{mod-lt}
 use native.Mathlib.Omega.{arith}
 use lib.Dec.{ltb, eqb}
 use borrow.Author.Tests.{ltb-true, ltb-false, eqb-true, eqb-false}
-use Rattle.laws.proofs.Updates.{upd, Split, same, other, split, by_test, contra}
+use Rattle.laws.proofs.Updates.{Split, same, other, split, by_test, contra}
 use Rattle.linearization.proofs.GhostMachine.{Local, Shared, State, quiet, noisy, step, step_at, to, set_link_help}
-use Rattle.linearization.proofs.GhostMachine.{set_link_bank, set_link_x, set_mybuf, set_word, set_returned, rest, w_help}
-use Rattle.linearization.proofs.GhostMachine.{w_give, w_buf, w_bank, w_x, w_start, begin, w_end}
+use Rattle.linearization.proofs.GhostMachine.{set_link_bank, set_link_x, set_word, set_returned, w_help}
+use Rattle.linearization.proofs.GhostMachine.{w_give, w_buf, w_end}
 use Rattle.model.specs.Points.{Point, idle, line1, line2, line3, line4, line5, line6, line7, line7copy, line8, line9}
 use Rattle.model.specs.Points.{line10, line11, line12, line12valid, line13, line14, line14valid, line15, line17, line18}
 use Rattle.model.specs.Points.{line19, line23}
@@ -18,7 +18,7 @@ use Rattle.linearization.proofs.QuietSteps.{own_l2, own_l3, own_l3', own_l4, own
 use Rattle.linearization.proofs.QuietSteps.{own_l7, own_l7', own_l7c, own_l7c', own_l8, own_l8', own_l9'}
 use Rattle.linearization.proofs.QuietSteps.{own_l10, own_s12, own_s12', own_s12v, own_s12v', own_s13', own_s14}
 use Rattle.linearization.proofs.QuietSteps.{own_s14', own_s14v, own_s14v', own_s15', own_s18, own_s19', own_v23}
-use Rattle.linearization.proofs.HelpWrites.{others_l1, others_l9, own_l1, own_l9, all_l1, all_l9, t_s15, others_s15, own_s15, all_s15, own_of, ann_of}
+use Rattle.linearization.proofs.HelpWrites.{others_l1, others_l9, own_l1, own_l9, all_l1, all_l9, t_s15, others_s15, own_s15, all_s15, own_of}
 use Rattle.linearization.proofs.BankWrites.{others_s13, own_s13, all_s13}
 use Rattle.linearization.proofs.BufferWrites.{others_buf, own_l11, own_l11', own_s17, own_s17', all_buf}
 use Rattle.linearization.proofs.XWrites.{all_s19, own_s19, others_s19}

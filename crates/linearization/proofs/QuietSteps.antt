@@ -1,23 +1,21 @@
 -- p's own facts after each quiet step.
-use mathlib.Core.Path.{◌≡◌, refl, sym, ap, subst, subst⁻¹, ◌∙◌}
-use mathlib.Core.Bool.{Bool, true, false, not}
-use Prim.Native.Nat.{ℕ, zero, suc, ◌+◌, ◌*◌, ◌%◌, ◌≤◌, ◌<◌}
+use mathlib.Core.Path.{◌≡◌}
+use mathlib.Core.Bool.{true, false}
+use Prim.Native.Nat.{ℕ, suc, ◌+◌, ◌*◌, ◌%◌, ◌≤◌, ◌<◌}
 use native.Mathlib.Nat.{suc-mod}
 use native.Mathlib.Decide.{dec_lt}
 use Rattle.laws.proofs.Residues.{hit}
 use native.Mathlib.Omega.{arith}
-use lib.Dec.{ltb, eqb}
-use Rattle.laws.proofs.Updates.{upd, upd_same, upd_other, Split, same, other, split, by_test, contra, is_false, is_true}
-use Rattle.linearization.proofs.GhostMachine.{Local, Shared, State, quiet, noisy, to, set_word, word, ll_x}
+use Rattle.laws.proofs.Updates.{upd, upd_same, contra, is_false}
+use Rattle.linearization.proofs.GhostMachine.{Local, Shared, to, set_word, ll_x}
 use Rattle.linearization.proofs.GhostMachine.{set_returned, set_link_help, set_moment, set_b, set_c, set_mybuf, set_e}
 use Rattle.linearization.proofs.GhostMachine.{set_link_bank, set_d, set_checked_at, rest, w_end}
-use Rattle.model.specs.Points.{Point, idle, line1, line2, line3, line4, line5, line6, line7, line7copy, line8, line9}
+use Rattle.model.specs.Points.{Point, idle, line2, line3, line4, line5, line6, line7, line7copy, line8, line9}
 use Rattle.model.specs.Points.{line10, line11, line12, line12valid, line13, line14, line14valid, line15, line17, line18}
 use Rattle.model.specs.Points.{line19, line23}
 use Rattle.laws.proofs.Parts.{pre_put, pre_all, pre_none}
 use Rattle.laws.proofs.Parts.{SamePart}
-use Rattle.laws.proofs.Claimed.{On, on_map}
-use Rattle.linearization.proofs.Invariants.{ProcessClauses, SharedClauses, Invariant, Withdrawing, Asking, K2, K3, H6, H7, H8, H9, K4x, Both, Within, Got, D6}
+use Rattle.linearization.proofs.Invariants.{ProcessClauses, SharedClauses, K2, K3, H8, H9, K4x, Within}
 
 -- Lemma 4: with the flag up, fewer than 2N successes since the read of X
 pub fresh : (N : ℕ) (h : Shared) (p r : ℕ) → p < N → H9 N h p → h.flag p ≡ true → h.asked p ≤ r → h.successes < r + 2 * N

@@ -1,16 +1,15 @@
 -- Every number stays in its range (row 9): a family of invariants of its own, over the same machine.
-use mathlib.Core.Path.{◌≡◌, refl, sym, ap, subst, subst⁻¹, ◌∙◌}
-use mathlib.Core.Bool.{Bool, true, false, not, cond}
-use Prim.Native.Nat.{ℕ, zero, suc, ◌+◌, ◌*◌, ◌%◌, ◌≤◌, ◌<◌}
+use mathlib.Core.Bool.{false, cond}
+use Prim.Native.Nat.{ℕ, suc, ◌*◌, ◌%◌, ◌<◌}
 use native.Mathlib.Nat.{mod-lt}
 use native.Mathlib.Omega.{arith}
 use lib.Dec.{ltb, eqb}
-use borrow.Author.Tests.{ltb-true, ltb-false, eqb-true, eqb-false}
-use Rattle.laws.proofs.Updates.{upd, upd_same, upd_other, Split, same, other, split, by_test, contra}
-use Rattle.linearization.proofs.GhostMachine.{Local, Shared, State, quiet, noisy, step, step_at, to, set_link_help}
-use Rattle.linearization.proofs.GhostMachine.{set_link_bank, set_link_x, set_moment, set_checked_at, set_b, set_c, set_d}
-use Rattle.linearization.proofs.GhostMachine.{set_e, set_mybuf, set_word, set_returned, ll_x, rest, begin, w_help}
-use Rattle.linearization.proofs.GhostMachine.{w_asked, w_give, w_buf, w_bank, w_x, w_end, w_start}
+use borrow.Author.Tests.{ltb-true}
+use Rattle.laws.proofs.Updates.{upd, upd_same, upd_other, Split, same, other, split, by_test}
+use Rattle.linearization.proofs.GhostMachine.{Local, Shared, State, quiet, noisy, step_at, to, set_link_help}
+use Rattle.linearization.proofs.GhostMachine.{set_link_bank, set_link_x}
+use Rattle.linearization.proofs.GhostMachine.{set_word, set_returned}
+use Rattle.linearization.proofs.GhostMachine.{w_buf}
 use Rattle.model.specs.Points.{Point, idle, line1, line2, line3, line4, line5, line6, line7, line7copy, line8, line9}
 use Rattle.model.specs.Points.{line10, line11, line12, line12valid, line13, line14, line14valid, line15, line17, line18}
 use Rattle.model.specs.Points.{line19, line23}

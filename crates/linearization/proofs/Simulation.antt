@@ -26,7 +26,7 @@ use Rattle.model.specs.Records
 use Rattle.model.specs.Machine
 use Rattle.llsc.specs.Rows.{brings_value, is_start}
 use Rattle.model.specs.Lines.{do_line2, do_word}
-use Rattle.model.specs.Points.{Point, line_number, idle, line1, line2, line3, line4, line5, line6, line7, line7copy}
+use Rattle.model.specs.Points.{Point, idle, line1, line2, line3, line4, line5, line6, line7, line7copy}
 use Rattle.model.specs.Points.{line8, line9, line10, line11, line12, line12valid, line13, line14, line14valid, line15}
 use Rattle.model.specs.Points.{line17, line18, line19, line23}
 use Rattle.laws.proofs.Updates.{upd, upd_same, upd_other, Split, same, other, split, by_test, contra}

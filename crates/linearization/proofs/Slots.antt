@@ -1,11 +1,11 @@
 -- Open calls: what a history knows of a process's open call is what the machine holds of it, and how a step changes it.
-use mathlib.Core.Path.{◌≡◌, refl, sym, ap, ap₂, ◌∙◌}
-use mathlib.Core.Bool.{Bool, true, false, cond}
+use mathlib.Core.Path.{◌≡◌, refl, sym, ap}
+use mathlib.Core.Bool.{false, cond}
 use mathlib.Core.List.{List}
-use Prim.Native.Nat.{ℕ, suc, ◌+◌, ◌*◌, ◌%◌}
+use Prim.Native.Nat.{ℕ, suc, ◌+◌, ◌%◌}
 use native.Mathlib.Numerals.{add-one}
 use lib.Dec.{ltb, eqb}
-use Rattle.laws.proofs.Updates.{upd, upd_same, upd_other, by_test, by_test₂}
+use Rattle.laws.proofs.Updates.{upd_same, upd_other, by_test, by_test₂}
 use Rattle.linearization.proofs.GhostMachine
 use Rattle.linearization.proofs.GhostMachine.{Local, Shared, State, quiet, noisy}
 use Rattle.linearization.proofs.WordLists.{words_of}

@@ -14,7 +14,7 @@ use Rattle.llsc.specs.Object.{Kind, ll, sc, vl}
 use Rattle.llsc.specs.History.{Call}
 use Rattle.llsc.specs.Linearizable.{Timed}
 use Rattle.linearization.specs.Changes.{succeeds, successes}
-use Rattle.laws.proofs.Updates.{upd, upd_same, by_test, by_test₂}
+use Rattle.laws.proofs.Updates.{upd_same, by_test, by_test₂}
 use Rattle.linearization.proofs.GhostMachine
 use Rattle.linearization.proofs.GhostMachine.{Local, State}
 use Rattle.linearization.proofs.WordLists.{words_of}

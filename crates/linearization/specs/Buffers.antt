@@ -3,7 +3,7 @@
 use Rattle.std.specs.Prelude.{◌≡◌, ℕ, ◌+◌, ◌<◌, List, [], ◌∷◌, ◌++◌, map, Bool, ◌&&◌, cond, eqb}
 use Rattle.model.specs.declared.Process.{Process}
 use Rattle.model.specs.Sizes.{buffers, sequence_numbers}
-use Rattle.model.specs.Points.{Point, line_number, line2, line3, line4, line5, line6, line7, line7copy, line8, line9, line10}
+use Rattle.model.specs.Points.{line_number, line2, line3, line4, line5, line6, line7, line7copy, line8, line9, line10}
 use Rattle.model.specs.Tables.{bank_at, help_at}
 use Rattle.model.specs.Records.{record_at}
 use Rattle.llsc.specs.Rows.{some}

@@ -9,7 +9,7 @@ use Rattle.listing.specs.Decimal.{decimal}
 use Rattle.listing.specs.Lines.{space, words_of}
 use Rattle.listing.specs.declared.Writer.{Writer}
 use Rattle.listing.specs.Writing.{Fits, Writes}
-use Rattle.listing.proofs.WritingLaws.{fits_same, fits_then}
+use Rattle.listing.proofs.WritingLaws.{fits_same, fits_first, fits_then, writes_none, writes_then, writes_same}
 
 -- the next of some bytes
 module _ (bs : List ℕ) (i : ℕ) (h : i < length bs) where
@@ -30,12 +30,26 @@ words_one x = ap (λ (y : List ℕ). (space ∷ []) ++ y) (append-nil (decimal x
 
 -- the next of some words
 module _ (ws : List ℕ) (i : ℕ) (h : i < length ws) where
-  pub word_more : words_of (take (i + 1) ws) ≡ words_of (take i ws) ++ ((space ∷ []) ++ decimal (get_or ws i 0))
+  word_more : words_of (take (i + 1) ws) ≡ words_of (take i ws) ++ ((space ∷ []) ++ decimal (get_or ws i 0))
   word_more = ap words_of (take_more ws i h) ∙ words_append (take i ws) (get_or ws i 0 ∷ [])
       ∙ ap (λ (x : List ℕ). words_of (take i ws) ++ x) (words_one (get_or ws i 0))
 
-  pub word_room : {u v : Writer} → Fits u (words_of ws) → Writes u (words_of (take i ws)) v
+  word_room : {u v : Writer} → Fits u (words_of ws) → Writes u (words_of (take i ws)) v
       → Fits v ((space ∷ []) ++ (decimal (get_or ws i 0) ++ words_of (drop (suc i) ws)))
   unfolding words_of
   word_room f w = fits_then (words_of (get_or ws i 0 ∷ drop (suc i) ws))
       (fits_same (ap words_of (split ws i h) ∙ words_append (take i ws) (get_or ws i 0 ∷ drop (suc i) ws)) f) w
+
+  -- so the space and the number have room, and with them one word more is written
+  pub space_fits : {u v : Writer} → Fits u (words_of ws) → Writes u (words_of (take i ws)) v → Fits v (space ∷ [])
+  space_fits f w = fits_first (space ∷ []) _ (word_room f w)
+
+  pub number_fits : {u v x : Writer} → Fits u (words_of ws) → Writes u (words_of (take i ws)) v → Writes v (space ∷ []) x
+      → Fits x (decimal (get_or ws i 0))
+  number_fits f w p = fits_first (decimal (get_or ws i 0)) _ (fits_then _ (word_room f w) p)
+
+  pub word_written : {u v x y : Writer} → Writes u (words_of (take i ws)) v → Writes v (space ∷ []) x
+      → Writes x (decimal (get_or ws i 0)) y → Writes u (words_of (take (i + 1) ws)) y
+  word_written w p q = writes_same word_more (writes_then w (writes_then p q))
+
+pub ruleset writing_words = (writes_none, space_fits, number_fits, word_written)

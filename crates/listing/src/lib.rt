@@ -61,7 +61,7 @@ impl<'a> Writer<'a> {
     }
 
     // A space and a number for each word.
-    #[tactic(auto, unfolding(crate::specs::Lines::words_of), using(crate::proofs::WritingLaws::writes_none))]
+    #[tactic(auto, unfolding(crate::specs::Lines::words_of), using(crate::proofs::LineLaws::writing_words))]
     pub fn words(&mut self, ws: &[u64])
         requires { Fits self.old (words_of ws.now) }
         ensures { Writes self.old (words_of ws.now) self.new }

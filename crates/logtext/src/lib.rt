@@ -59,6 +59,8 @@ fn with_digit(number: u64, d: u64) -> Option<u64>
 }
 
 // The number being read, if there is one, ends here.
+// Kept: the reading by value beside its list, here and in `byte`: tried as a struct whose methods change both, which
+// proves, and takes 15.7 million instructions for a log of 512 calls of 64 words, where this takes 15.3.
 fn close(r: Reading, numbers: &mut [u64]) -> Reading
     requires { r.count ≤ length numbers.old }
     ensures { (result, numbers.new) ≡ closed_into r numbers.old }

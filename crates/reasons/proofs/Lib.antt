@@ -1,3 +1,1 @@
-pub mod FailingLaws
-pub mod RefusedLaws
 pub mod ToldAnswers

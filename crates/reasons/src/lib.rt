@@ -3,7 +3,6 @@
 #![tactic(auto)]
 
 pub mod failing;
-pub mod refused;
 
 ghost use Rattle.std.specs.Prelude.{◌≡◌};
 ghost use Rattle.verdicts.specs.Reasons.{judged_with_reason};
@@ -19,7 +18,7 @@ pub fn judge_with_reason(n: usize, w: usize, value: &[u64], log: &[u64]) -> Judg
     ensures { result ≡ judged_with_reason n w value.now log.now }
 {
     if let Err(refusal) = refusals::checked(n, w, value, log) {
-        return Judgement::Refused(refusal, refused::refused_at(refusal, n, w, value, log));
+        return Judgement::Refused(refusal);
     }
     let calls = Calls { log, w };
     let admitted = Admitted { calls };

@@ -164,3 +164,11 @@ module _ (s : Station) (list : List StationProcess) (len p : ℕ) (o : Order) (n
         ∙ ap₂ (λ (k : ℕ) (x : StationProcess). (Ok (obeyed_outcome s (record { 0 = k }) x m p), ws)) record_is t.process_is
         ∙ obeyed_law (m, ws) e (h ∙ ap (λ (x : Layout). obey_in x o (record { 0 = p }) value b u words) layout_at
         ∙ ap₂ (λ (x : Bench) (y : Process). obey_in (station_layout s.n s.r j) o (record { 0 = p }) value x y words) bench_at seen_at)
+
+-- what follows of an order that no row refuses, told at the rows' number
+pub order_small : (s : Station) (list : List StationProcess) (len p : ℕ) (o : Order) (named : ℕ) (value words : List ℕ)
+    → length list ≡ 16 → station_number s list len p o named (length value) (length words) ≡ 0
+    → (station_number s list len p o named (length value) (length words) ≡ station_number s list len p o named (length value) (length words))
+    × ((p < 16) × (((record_about o named (get_or list p no_station_process)).0 < 8) × Sizes s))
+order_small s list len p o named value words l e =
+    (refl, (process_small s list len p o named value words l e, (record_small s list len p o named value words l e, sizes_small s list len p o named value words l e)))

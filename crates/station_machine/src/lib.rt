@@ -55,6 +55,7 @@ fn rows_of(station: Station, j: RecordNumber) -> FirstRows
 }
 
 // A command that no row refuses.
+#[tactic(auto, using(crate::proofs::StationObeyLaws::order_small))]
 pub fn obey(lent: Gathered, command: Command, value: &[u64], words: &mut [u64]) -> Outcome
     requires { station_number lent.station lent.all lent.len command.process (order_in command.order) (number_in command.order)
         (length value.now) (length words.old) ≡ 0 }
@@ -74,6 +75,7 @@ pub fn obey(lent: Gathered, command: Command, value: &[u64], words: &mut [u64]) 
 }
 
 // A command: refused by the first row that holds, and else obeyed.
+#[tactic(auto, using(llsc::proofs::RefusalNumbers::number_some, crate::proofs::StationObeyLaws::refused_law))]
 pub fn decide(
     lent: Gathered,
     command: Command,

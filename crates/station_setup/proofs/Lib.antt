@@ -1,2 +1,3 @@
 pub mod StationSetUpLaws
 pub mod StoredSetUp
+pub mod FilledLaws

@@ -47,6 +47,7 @@ pub fn bracketed(to: &mut Writer<'_>, n: u64)
 }
 
 // The entry number and the process.
+// Kept: the two functions that begin a line by this take both too; a struct of the two would be made for this one call.
 #[tactic(auto, unfolding(crate::specs::TraceParts::head_text), using(listing::proofs::WritingLaws::writes_then))]
 pub fn head(to: &mut Writer<'_>, entry: u64, p: u64)
     requires { Fits to.old (head_text entry p) }

@@ -21,7 +21,7 @@ use Rattle.station.specs.StationCommand.{station_command}
 use Rattle.station.specs.StationSetUp.{empty_process}
 use Rattle.lent.specs.Gathered.{gathered}
 use Rattle.station_rows.specs.StationCommandRows.{station_memory_number}
-use Rattle.station_rows.proofs.StationRowLaws.{same_then, memory_lent}
+use Rattle.station_rows.proofs.StationRowLaws.{same_then, memory_lent, late_decides}
 use Rattle.station_machine.specs.declared.Outcome.{Outcome}
 use Rattle.station_machine.specs.StationDecision.{Decided, station_decided, stored_back}
 use Rattle.station_machine.proofs.StationDecisionLaws.{same_range, same_process, decision_law}
@@ -35,6 +35,9 @@ use Rattle.turns_model.specs.Turns.{lent_refusal, turn, counted, listed_as, turn
 use Rattle.turns_machine.specs.declared.TurnOutcome.{TurnOutcome}
 use Rattle.turns_machine.specs.TurnDecision.{unchanged_turn, refused_turn, commanded_turn, commanded_at, idle_decided, busy_decided}
 use Rattle.turns_machine.specs.TurnDecision.{rests_in, turn_decided, stored_turn}
+use Rattle.llsc.proofs.RefusalNumbers.{number_some}
+use Rattle.station_machine.proofs.OrderLaws.{same_decided}
+use Rattle.station_machine.proofs.StationObeyLaws.{refused_law}
 
 -- what the code answers, where it returns
 module _ (s : Station) (list : List StationProcess) (len p : ℕ) (next : NextCall) (left : ℕ) (value words : List ℕ) where
@@ -172,3 +175,9 @@ module _ (s : Station) (ps : List StationProcess) (ws : List ℕ) (p : ℕ) (nex
         either (eqb k 0) (cond rests (idle left) busy) (refused_turn k left, ws)
         (turn_given lent p calls) (turn_refused k lent calls)
         (λ z. in_order (eqb-true k 0 z)) (λ _. refuses k))
+
+-- what `decide_turn` rests on
+pub ruleset turn_laws = (number_some, same_decided, other_turn, refused_lent, steps, passes, starts)
+
+-- what `give` rests on
+pub ruleset give_laws = (number_some, memory_lent, late_decides, refused_law, commanded_law)

@@ -67,6 +67,7 @@ fn counts_as_idle(n: usize, all: [StationProcess; 16], p: usize) -> bool
 
 // The command that the turn gives, with `left` calls left after it. The lent memory is in order, and is not looked at
 // again.
+#[tactic(auto, using(crate::proofs::TurnDecisionLaws::give_laws))]
 fn give(
     lent: Gathered,
     command: Command,
@@ -86,6 +87,7 @@ fn give(
 }
 
 // `next` is the first of the `left` calls on the list of process `turn`, and `value` the words that it brings.
+#[tactic(auto, using(crate::proofs::TurnDecisionLaws::turn_laws))]
 pub fn decide_turn(
     lent: Gathered,
     turn: usize,

@@ -3,15 +3,13 @@ use mathlib.Core.Path.{◌≡◌, refl}
 use mathlib.Core.List.{List, [], ◌∷◌, ◌++◌}
 use mathlib.Core.Bool.{true, false}
 use Prim.Native.Nat.{ℕ}
-use Rattle.std.specs.Prelude.{Some, None}
-use Rattle.llsc.specs.declared.refusals.Refusal.TheVariants.{WOutOfRange, NoSuchProcess, ValueNotWWords, AnswerNotAfterStart}
+use Rattle.verdicts.specs.declared.LogRefusal.TheVariants.{WOutOfRange, NoSuchProcess, ValueNotWWords, AnswerNotAfterStart}
 use Rattle.verdicts.specs.declared.Shown.TheVariants.{Value as Value·shown, WordsOf, Truth}
 use Rattle.verdicts.specs.declared.Fault.TheVariants.{Unknown, Overlap, Moment, Outside, Answer, Unled}
 use Rattle.verdicts.specs.declared.Place.TheVariants.{Value, Call}
 use Rattle.verdicts.specs.declared.Judgement.{Judgement}
 use Rattle.verdicts.specs.declared.Judgement.TheVariants.{Refused, Yes, No}
-use Rattle.verdicts.specs.Verdicts.{log_checked}
-use Rattle.verdicts.specs.Reasons.{reason_of_no, condition_of, judged_with_reason}
+use Rattle.verdicts.specs.Reasons.{reason_of_no, condition_of, log_refused, judged_with_reason}
 use Rattle.verdicts.proofs.Needed.{call}
 
 abbrev why : List ℕ → Judgement
@@ -19,7 +17,7 @@ why log = judged_with_reason 2 1 (5 ∷ []) log
 
 -- the number of the condition that a no tells
 abbrev condition_told : Judgement → ℕ
-condition_told (Refused r at) = 0
+condition_told (Refused r) = 0
 condition_told Yes = 0
 condition_told (No f) = condition_of f
 
@@ -53,7 +51,7 @@ record Reasons : Type 0 where
   no_ll : why (call 0 1 10 20 0 20 5 ++ call 1 3 30 40 0 40 0 ++ call 1 3 50 60 0 60 0) ≡ No (Unled 1)
 
 reasons : Reasons
-unfolding log_checked reason_of_no
+unfolding log_refused reason_of_no
 reasons = record {
   kind = refl;
   overlap = refl;
@@ -78,18 +76,18 @@ record InOrder : Type 0 where
   five_of_six : condition_told (why (call 0 3 10 20 0 20 0 ++ call 1 1 30 40 0 40 6)) ≡ 5
 
 in_order : InOrder
-unfolding log_checked reason_of_no
+unfolding log_refused reason_of_no
 in_order = record { one_of_two = refl; two_of_three = refl; three_of_four = refl; four_of_five = refl; five_of_six = refl }
 
 -- the call that a refusal is about, or the value
 record Refusals : Type 0 where
-  four : judged_with_reason 2 1 (5 ∷ []) (call 0 1 10 20 0 20 5 ++ call 2 1 10 20 0 20 5 ++ call 3 1 10 20 0 20 5) ≡ Refused NoSuchProcess (Some (Call 1))
-  four_cut : judged_with_reason 2 1 (5 ∷ []) (call 0 1 10 20 0 20 5 ++ 2 ∷ []) ≡ Refused NoSuchProcess (Some (Call 1))
-  eight_value : judged_with_reason 2 1 [] (call 0 1 10 20 0 20 5 ++ 0 ∷ []) ≡ Refused ValueNotWWords (Some Value)
-  eight_cut : judged_with_reason 2 1 (5 ∷ []) (call 0 1 10 20 0 20 5 ++ 1 ∷ []) ≡ Refused ValueNotWWords (Some (Call 1))
-  seventeen : judged_with_reason 2 1 (5 ∷ []) (call 0 1 10 20 0 20 5 ++ call 1 1 10 10 0 10 5 ++ call 1 1 9 9 0 9 5) ≡ Refused AnswerNotAfterStart (Some (Call 1))
-  one_two : judged_with_reason 2 65 [] (call 3 1 10 10 0 10 5) ≡ Refused WOutOfRange None
+  four : judged_with_reason 2 1 (5 ∷ []) (call 0 1 10 20 0 20 5 ++ call 2 1 10 20 0 20 5 ++ call 3 1 10 20 0 20 5) ≡ Refused (NoSuchProcess 1)
+  four_cut : judged_with_reason 2 1 (5 ∷ []) (call 0 1 10 20 0 20 5 ++ 2 ∷ []) ≡ Refused (NoSuchProcess 1)
+  eight_value : judged_with_reason 2 1 [] (call 0 1 10 20 0 20 5 ++ 0 ∷ []) ≡ Refused (ValueNotWWords Value)
+  eight_cut : judged_with_reason 2 1 (5 ∷ []) (call 0 1 10 20 0 20 5 ++ 1 ∷ []) ≡ Refused (ValueNotWWords (Call 1))
+  seventeen : judged_with_reason 2 1 (5 ∷ []) (call 0 1 10 20 0 20 5 ++ call 1 1 10 10 0 10 5 ++ call 1 1 9 9 0 9 5) ≡ Refused (AnswerNotAfterStart 1)
+  one_two : judged_with_reason 2 65 [] (call 3 1 10 10 0 10 5) ≡ Refused WOutOfRange
 
 refusals : Refusals
-unfolding log_checked reason_of_no
+unfolding log_refused reason_of_no
 refusals = record { four = refl; four_cut = refl; eight_value = refl; eight_cut = refl; seventeen = refl; one_two = refl }

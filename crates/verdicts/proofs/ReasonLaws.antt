@@ -1,5 +1,5 @@
 -- A reason is given exactly where the verdict is no.
-use mathlib.Core.Path.{◌≡◌, refl, sym, ap, ap₂, ◌∙◌}
+use mathlib.Core.Path.{◌≡◌, refl, sym, ap, ap₂, subst, ◌∙◌}
 use Prim.Native.Nat.{ℕ, suc}
 use mathlib.Core.List.{List, [], ◌∷◌, map}
 use mathlib.Core.Bool.{Bool, true, false, not, ◌&&◌, ◌||◌, cond}
@@ -12,13 +12,14 @@ use Rattle.std.specs.Prelude.{Option, Some, None, Result, Ok, Err}
 use Rattle.llsc.specs.declared.refusals.Refusal.{Refusal}
 use Rattle.verdicts.specs.declared.Verdict.{Verdict}
 use Rattle.verdicts.specs.declared.Verdict.TheVariants.{Refused, Yes, No}
+use Rattle.verdicts.specs.declared.LogRefusal.{LogRefusal}
 use Rattle.verdicts.specs.declared.Fault.{Fault}
 use Rattle.verdicts.specs.Log.{Entry, entries}
 use Rattle.verdicts.specs.Verdicts.{timed_of, each_two, kind_known, apart, differ, inside, truth_told, same_answers, in_order, answers_of, served_alike, ll_before}
-use Rattle.verdicts.specs.Verdicts.{earns_yes, log_checked, said_of, judged}
+use Rattle.verdicts.specs.Verdicts.{earns_yes, first_cause, log_checked, said_of, judged}
 use Rattle.verdicts.specs.Reasons.{first_with, one_at_fault, two_at_fault, Numbered, numbered, insert_numbered, sort_numbered, numbered_in_order}
 use Rattle.verdicts.specs.Reasons.{tells_alike, feed_entry, standing_after, Standing, in_value, object_answers, not_alike}
-use Rattle.verdicts.specs.Reasons.{at_one, at_two, reasons, first_reason, reason_of_no, explained, judged_with_reason}
+use Rattle.verdicts.specs.Reasons.{at_one, at_two, reasons, first_reason, reason_of_no, cause_of, log_faults, log_refused, explained, judged_with_reason}
 use Rattle.verdicts.specs.Reasons.{verdict_of, reason_given, reason_for}
 
 -- no condition of CR 1 is told to fail
@@ -164,12 +165,32 @@ no_reason_earns value es =
     (ap₂ ◌&&◌ (one_told _ _ ∙ one_none inside es)
     (ap₂ ◌&&◌ (served_none value es) (ap (λ b. b && true) (one_told _ _ ∙ one_none (ll_before es) es))))))
 
+-- a refusal without what it is about; the first that holds is that of the rows by their names
+abbrev pub cause_told : Result (Unit {0}) LogRefusal → Result (Unit {0}) Refusal
+cause_told (Ok x) = Ok x
+cause_told (Err r) = Err (cause_of r)
+
+same_cause : (cs : List (Bool × LogRefusal)) → cause_told (first_cause cs) ≡ first_cause (map (λ c. (c.0, cause_of c.1)) cs)
+same_cause [] = refl
+same_cause (c ∷ cs) = go c.0 (same_cause cs)
+  where
+    go : (b : Bool) → cause_told (first_cause cs) ≡ first_cause (map (λ c. (c.0, cause_of c.1)) cs)
+        → cause_told (cond b (Err c.1) (first_cause cs)) ≡ cond b (Err (cause_of c.1)) (first_cause (map (λ c. (c.0, cause_of c.1)) cs))
+    go true e = refl
+    go false e = e
+
+pub checked_is : (n w : ℕ) (value log : List ℕ) → cause_told (log_refused n w value log) ≡ log_checked n w value log
+unfolding log_refused log_checked
+checked_is n w value log = same_cause (log_faults n w value log)
+
 -- the verdict is the judge's
 pub verdict_of_reason : (n w : ℕ) (value log : List ℕ) → verdict_of (judged_with_reason n w value log) ≡ judged n w value log
 unfolding judged
-verdict_of_reason n w value log = go (log_checked n w value log) (reason_of_no value (entries w log)) _ (no_reason_earns value (entries w log))
+verdict_of_reason n w value log =
+    go (log_refused n w value log) (reason_of_no value (entries w log)) _ (no_reason_earns value (entries w log))
+    ∙ ap (λ c. said_of c (earns_yes value (entries w log))) (checked_is n w value log)
   where
-    go : (c : Result (Unit {0}) Refusal) (r : Option Fault) (e : Bool) → none r ≡ e → verdict_of (explained n w value log c r) ≡ said_of c e
+    go : (c : Result (Unit {0}) LogRefusal) (r : Option Fault) (e : Bool) → none r ≡ e → verdict_of (explained c r) ≡ said_of (cause_told c) e
     go (Ok t) None e h = ap (λ e. cond e Yes No) h
     go (Ok t) (Some f) e h = ap (λ e. cond e Yes No) h
     go (Err c) r e h = refl
@@ -189,11 +210,13 @@ unlike a b e f z = let y : ◌≡◌ {A = ℕ} 1 0 = ap (λ b. cond b 1 0) (sym 
 
 pub reason_exactly_at_no : (n w : ℕ) (value log : List ℕ) → ExactlyAtNo (judged n w value log) (reason_for n w value log)
 unfolding judged
-reason_exactly_at_no n w value log = go (log_checked n w value log) (reason_of_no value (entries w log)) _ (no_reason_earns value (entries w log))
+reason_exactly_at_no n w value log =
+    subst (λ c. ExactlyAtNo (said_of c (earns_yes value (entries w log))) (reason_for n w value log)) (checked_is n w value log)
+    (go (log_refused n w value log) (reason_of_no value (entries w log)) _ (no_reason_earns value (entries w log)))
   where
-    go : (c : Result (Unit {0}) Refusal) (r : Option Fault) (e : Bool) → none r ≡ e → ExactlyAtNo (said_of c e) (reason_given (explained n w value log c r))
+    go : (c : Result (Unit {0}) LogRefusal) (r : Option Fault) (e : Bool) → none r ≡ e → ExactlyAtNo (said_of (cause_told c) e) (reason_given (explained c r))
     go (Ok t) None true h = record { at_no = λ y. absurd (unlike (is_no No) (is_no Yes) refl refl (sym (ap is_no y))); only = λ y. absurd (y refl) }
     go (Ok t) None false h = absurd (unlike true false refl refl h)
     go (Ok t) (Some f) true h = absurd (unlike true false refl refl (sym h))
     go (Ok t) (Some f) false h = record { at_no = λ y v. unlike (none {A = Fault} None) (none (Some f)) refl refl (sym (ap none v)); only = λ y. refl }
-    go (Err c) r e h = record { at_no = λ y. absurd (unlike (is_no No) (is_no (Refused c)) refl refl (sym (ap is_no y))); only = λ y. absurd (y refl) }
+    go (Err c) r e h = record { at_no = λ y. absurd (unlike (is_no No) (is_no (Refused (cause_of c))) refl refl (sym (ap is_no y))); only = λ y. absurd (y refl) }

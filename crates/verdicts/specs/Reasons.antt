@@ -3,9 +3,11 @@ use Rattle.std.specs.Prelude.{ℕ, zero, suc, ◌+◌, ◌/◌, List, [], ◌∷
 use Rattle.std.specs.Prelude.{Option, Some, None, Result, Ok, Err}
 use Rattle.llsc.specs.Answers.{Answer, ll_words, sc_truth, vl_truth}
 use Rattle.llsc.specs.Object.{Object, fresh, tell, feed}
-use Rattle.llsc.specs.Rows.{some}
+use Rattle.llsc.specs.Rows.{some, row1, row2}
 use Rattle.llsc.specs.declared.refusals.Refusal.{Refusal}
-use Rattle.llsc.specs.Refusals.{refusal_number}
+use Rattle.llsc.specs.declared.refusals.Refusal.TheVariants.{NOutOfRange as NOutOfRange·row, WOutOfRange as WOutOfRange·row}
+use Rattle.llsc.specs.declared.refusals.Refusal.TheVariants.{NoSuchProcess as NoSuchProcess·row, ValueNotWWords as ValueNotWWords·row}
+use Rattle.llsc.specs.declared.refusals.Refusal.TheVariants.{TooManyCalls as TooManyCalls·row, AnswerNotAfterStart as AnswerNotAfterStart·row}
 use Rattle.verdicts.specs.declared.Verdict.{Verdict}
 use Rattle.verdicts.specs.declared.Verdict.TheVariants.{Refused as Refused·said, Yes as Yes·said, No as No·said}
 use Rattle.verdicts.specs.declared.Shown.{Shown}
@@ -14,10 +16,13 @@ use Rattle.verdicts.specs.declared.Fault.{Fault}
 use Rattle.verdicts.specs.declared.Fault.TheVariants.{Unknown, Overlap, Moment, Outside, Answer as Answer·fault, Unled}
 use Rattle.verdicts.specs.declared.Place.{Place}
 use Rattle.verdicts.specs.declared.Place.TheVariants.{Value, Call}
+use Rattle.verdicts.specs.declared.LogRefusal.{LogRefusal}
+use Rattle.verdicts.specs.declared.LogRefusal.TheVariants.{NOutOfRange, WOutOfRange, NoSuchProcess, ValueNotWWords, TooManyCalls, AnswerNotAfterStart}
 use Rattle.verdicts.specs.declared.Judgement.{Judgement}
 use Rattle.verdicts.specs.declared.Judgement.TheVariants.{Refused, Yes, No}
 use Rattle.verdicts.specs.Log.{Entry, width, entries, begun}
-use Rattle.verdicts.specs.Verdicts.{kind_of, answer_of, kind_known, apart, differ, inside, truth_told, answers_alike, ll_before, log_checked}
+use Rattle.verdicts.specs.Verdicts.{kind_of, answer_of, kind_known, apart, differ, inside, truth_told, answers_alike, ll_before}
+use Rattle.verdicts.specs.Verdicts.{row4log, row8log, row16, row17, first_cause}
 
 -- how many entries stand before the first that passes a test: the index of that entry
 abbrev pub first_with : (Entry → Bool) → List Entry → ℕ
@@ -147,30 +152,55 @@ condition_of (Unled k) = 6
 abbrev pub cut_off : ℕ → List ℕ → List ℕ → Place
 cut_off w value log = cond (eqb (length value) w) (Call (length log / width w)) Value
 
--- what a refusal is about, by its number: the first call with a process not below N, or with an answer not after its start
-abbrev pub refused_at : ℕ → ℕ → ℕ → List ℕ → List ℕ → Option Place
-refused_at c n w value log =
-    cond (eqb c 4) (Some (Call (first_with (λ (e : Entry). leb n e.process) (begun w log))))
-    (cond (eqb c 8) (Some (cut_off w value log))
-    (cond (eqb c 17) (Some (Call (first_with (λ (e : Entry). leb e.answer e.start) (entries w log)))) None))
+-- the row that refuses a log, and what it is about: of 4, 8 and 17 the value or a call
+abbrev pub cause_of : LogRefusal → Refusal
+cause_of NOutOfRange = NOutOfRange·row
+cause_of WOutOfRange = WOutOfRange·row
+cause_of (NoSuchProcess k) = NoSuchProcess·row
+cause_of (ValueNotWWords p) = ValueNotWWords·row
+cause_of TooManyCalls = TooManyCalls·row
+cause_of (AnswerNotAfterStart k) = AnswerNotAfterStart·row
+
+abbrev pub place_of : LogRefusal → Option Place
+place_of NOutOfRange = None
+place_of WOutOfRange = None
+place_of (NoSuchProcess k) = Some (Call k)
+place_of (ValueNotWWords p) = Some p
+place_of TooManyCalls = None
+place_of (AnswerNotAfterStart k) = Some (Call k)
+
+-- `log_causes` with what each is about: the first call with a process not below N, or with an answer not after its start
+-- (`checked_is`, proofs/ReasonLaws)
+abbrev pub log_faults : ℕ → ℕ → List ℕ → List ℕ → List (Bool × LogRefusal)
+log_faults n w value log =
+    ((row1 n).holds, NOutOfRange)
+    ∷ ((row2 w).holds, WOutOfRange)
+    ∷ ((row4log n (begun w log)).holds, NoSuchProcess (first_with (λ (e : Entry). leb n e.process) (begun w log)))
+    ∷ ((row8log w value log).holds, ValueNotWWords (cut_off w value log))
+    ∷ ((row16 (entries w log)).holds, TooManyCalls)
+    ∷ ((row17 (entries w log)).holds, AnswerNotAfterStart (first_with (λ (e : Entry). leb e.answer e.start) (entries w log)))
+    ∷ []
+
+unfoldable pub log_refused : ℕ → ℕ → List ℕ → List ℕ → Result (Unit {0}) LogRefusal
+log_refused n w value log = first_cause (log_faults n w value log)
 
 -- verdict and reason
-abbrev pub explained : ℕ → ℕ → List ℕ → List ℕ → Result (Unit {0}) Refusal → Option Fault → Judgement
-explained n w value log (Err r) f = Refused r (refused_at (refusal_number r) n w value log)
-explained n w value log (Ok _) None = Yes
-explained n w value log (Ok _) (Some f) = No f
+abbrev pub explained : Result (Unit {0}) LogRefusal → Option Fault → Judgement
+explained (Err r) f = Refused r
+explained (Ok _) None = Yes
+explained (Ok _) (Some f) = No f
 
 abbrev pub judged_with_reason : ℕ → ℕ → List ℕ → List ℕ → Judgement
-judged_with_reason n w value log = explained n w value log (log_checked n w value log) (reason_of_no value (entries w log))
+judged_with_reason n w value log = explained (log_refused n w value log) (reason_of_no value (entries w log))
 
 -- its two parts: the verdict (`verdict_of_reason`, proofs/ReasonLaws, says that it is `judged`), and the reason of a no
 abbrev pub verdict_of : Judgement → Verdict
-verdict_of (Refused r at) = Refused·said r
+verdict_of (Refused r) = Refused·said (cause_of r)
 verdict_of Yes = Yes·said
 verdict_of (No f) = No·said
 
 abbrev pub reason_given : Judgement → Option Fault
-reason_given (Refused r at) = None
+reason_given (Refused r) = None
 reason_given Yes = None
 reason_given (No f) = Some f
 

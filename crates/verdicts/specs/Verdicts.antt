@@ -145,7 +145,7 @@ unfoldable pub log_refusal : ℕ → ℕ → List ℕ → List ℕ → ℕ
 log_refusal n w value log = first (log_rows n w value log)
 
 -- the same by name: the first cause that holds, a row's truth beside its name
-abbrev pub first_cause : List (Bool × Refusal) → Result (Unit {0}) Refusal
+abbrev pub first_cause : {A : Type 0} → List (Bool × A) → Result (Unit {0}) A
 first_cause [] = Ok tt
 first_cause (c ∷ cs) = cond c.0 (Err c.1) (first_cause cs)
 

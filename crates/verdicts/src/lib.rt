@@ -2,8 +2,12 @@
 
 #![tactic(auto)]
 
+ghost use Rattle.std.specs.Prelude.{◌≡◌};
+ghost use Rattle.verdicts.specs.Reasons.{cause_of, place_of};
+
 use llsc::refusals::Refusal;
 
+// Kept: 02 names three verdicts; in a `Result<bool, Refusal>` yes and no would be `Ok(true)` and `Ok(false)`.
 #[derive(Clone, Copy, PartialEq, Eq)]
 pub enum Verdict {
     Refused(Refusal),
@@ -39,10 +43,50 @@ pub enum Place {
     Call(usize),
 }
 
-// The verdict, with why it is no, or with the place of a refusal that has one.
+// A row of the refusal table that a log can break, with the call of this index, or the value or call, that it is about.
+#[derive(Clone, Copy, PartialEq, Eq)]
+pub enum LogRefusal {
+    NOutOfRange,
+    WOutOfRange,
+    NoSuchProcess(usize),
+    ValueNotWWords(Place),
+    TooManyCalls,
+    AnswerNotAfterStart(usize),
+}
+
+impl LogRefusal {
+    // The row.
+    pub fn refusal(self) -> Refusal
+        ensures { result ≡ cause_of self }
+    {
+        match self {
+            LogRefusal::NOutOfRange => Refusal::NOutOfRange,
+            LogRefusal::WOutOfRange => Refusal::WOutOfRange,
+            LogRefusal::NoSuchProcess(_) => Refusal::NoSuchProcess,
+            LogRefusal::ValueNotWWords(_) => Refusal::ValueNotWWords,
+            LogRefusal::TooManyCalls => Refusal::TooManyCalls,
+            LogRefusal::AnswerNotAfterStart(_) => Refusal::AnswerNotAfterStart,
+        }
+    }
+
+    // What it is about, where that is one place of the log.
+    pub fn place(self) -> Option<Place>
+        ensures { result ≡ place_of self }
+    {
+        match self {
+            LogRefusal::NoSuchProcess(call) | LogRefusal::AnswerNotAfterStart(call) => {
+                Some(Place::Call(call))
+            }
+            LogRefusal::ValueNotWWords(place) => Some(place),
+            LogRefusal::NOutOfRange | LogRefusal::WOutOfRange | LogRefusal::TooManyCalls => None,
+        }
+    }
+}
+
+// The verdict, with why it is no, or with what a refusal is about.
 #[derive(Clone, Copy, PartialEq, Eq)]
 pub enum Judgement {
-    Refused(Refusal, Option<Place>),
+    Refused(LogRefusal),
     Yes,
     No(Fault),
 }

@@ -1,6 +1,6 @@
 // The lent words of one record alone: 5N rows of W words. Rows 0 to 3N-1 are BUF, row 3N+p is the return area of p, row
 // 4N+p its offer area.
-// Kept: k < 64 is a clause, as a word place stands in a lent process record, which may hold any number.
+// Kept: bounds as clauses: k is of a lent record, which may hold any number; n and w callers have in `Ready` or `Lent`.
 ghost use Rattle.std.specs.Prelude.{◌≡◌, ◌+◌, ◌*◌, ◌<◌, ◌≤◌, length};
 ghost use Rattle.model.specs.Words.{buffer_word, return_word, offer_word, half, with_half, copied_half};
 

@@ -2,51 +2,11 @@
 use mathlib.Core.Path.{◌≡◌, ap}
 use native.Mathlib.Omega.{arith}
 use lib.ListN.{length, get_or}
-use Prim.Native.Nat.{ℕ, ◌<◌}
+use Prim.Native.Nat.{ℕ}
 use Rattle.station_rows.specs.Ordered.{order_in, number_in}
 use Rattle.station.specs.Station.{no_station_process}
-use Rattle.station_machine.proofs.StationObeyLaws.{process_small, record_small, sizes_small, taken_obeyable, whole}
+use Rattle.station_machine.proofs.StationObeyLaws.{taken_obeyable, whole}
 use Rattle.station_machine.proofs.obey.Goals as goal
-
-pub overflow_cast-me : goal.overflow_cast-me
-overflow_cast-me c =
-    let a = c.args in
-    let sixteen : length a.lent.all ≡ 16 = omega arith in
-    omega (arith, process_small a.lent.station a.lent.all a.lent.len a.command.process (order_in a.command.order) (number_in a.command.order) a.value.now a.words.now sixteen c.requires)
-
-pub offset_bounds-all-record_place : goal.offset_bounds-all-record_place
-offset_bounds-all-record_place c =
-    let a = c.args in
-    let sixteen : length a.lent.all ≡ 16 = omega arith in
-    omega (arith, c.record_place.ensures, process_small a.lent.station a.lent.all a.lent.len a.command.process (order_in a.command.order) (number_in a.command.order) a.value.now a.words.now sixteen c.requires)
-
-pub bounds-all-record_place : goal.bounds-all-record_place
-bounds-all-record_place c =
-    let a = c.args in
-    let sixteen : length a.lent.all ≡ 16 = omega arith in
-    rw c.record_place.ensures (process_small a.lent.station a.lent.all a.lent.len a.command.process (order_in a.command.order) (number_in a.command.order) a.value.now a.words.now sixteen c.requires)
-
-pub overflow_cast-j : goal.overflow_cast-j
-overflow_cast-j c =
-    let a = c.args in
-    let sixteen : length a.lent.all ≡ 16 = omega arith in
-    let small : c.record_about.result < 8 = rw (c.record_about.ensures, c.record_place.ensures) (record_small
-    a.lent.station a.lent.all a.lent.len a.command.process (order_in a.command.order) (number_in a.command.order) a.value.now a.words.now sixteen c.requires) in
-    omega (arith, small)
-
-pub bench_of-bench-requires : goal.bench_of-bench-requires
-bench_of-bench-requires c =
-    let a = c.args in
-    let sixteen : length a.lent.all ≡ 16 = omega arith in
-    rw (c.record_about.ensures, c.record_place.ensures) (record_small a.lent.station a.lent.all a.lent.len a.command.process (order_in a.command.order) (number_in a.command.order) a.value.now a.words.now sixteen c.requires)
-
-pub rows_of-rows-requires : goal.rows_of-rows-requires
-rows_of-rows-requires c =
-    let a = c.args in
-    let sixteen : length a.lent.all ≡ 16 = omega arith in (
-      sizes_small a.lent.station a.lent.all a.lent.len a.command.process (order_in a.command.order) (number_in a.command.order) a.value.now a.words.now sixteen c.requires,
-      rw (c.record_about.ensures, c.record_place.ensures) (record_small a.lent.station a.lent.all a.lent.len a.command.process (order_in a.command.order) (number_in a.command.order) a.value.now a.words.now sixteen c.requires),
-    )
 
 pub obey_in-moved-requires : goal.obey_in-moved-requires
 obey_in-moved-requires c =

@@ -1,6 +1,5 @@
 -- `station_setup::prepare` meets its contract: a refusal changes nothing, and where no row holds the set-up is done.
 use mathlib.Core.Path.{◌≡◌, sym, ap, ◌∙◌}
-use mathlib.Core.List.{List}
 use Prim.Native.Nat.{ℕ}
 use lib.ListN.{length}
 use borrow.Author.Rules.{rules}

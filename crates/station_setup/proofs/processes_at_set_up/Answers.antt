@@ -1,5 +1,5 @@
 -- `station_setup::processes_at_set_up` meets its contract: the records below i are set up.
-use mathlib.Core.Path.{◌≡◌, ◌∙◌}
+use mathlib.Core.Path.{◌≡◌}
 use native.Mathlib.Omega.{arith}
 use lib.ListN.{length}
 use Rattle.station_setup.specs.StationSetUpByValue.{process_for}
