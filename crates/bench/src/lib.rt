@@ -76,9 +76,8 @@ pub fn set_up(
     let gathered = gather(*station, processes);
     // Kept: 01 promises its users a number.
     match set_up_gathered(gathered, n, w, r, value, words) {
-        Ok(set) => {
-            *station = set.station;
-            lent::store_back(processes, &set.all, station::empty_process(), n);
+        Ok(left) => {
+            left.store(station, processes);
             0
         }
         Err(refusal) => refusal.number(),

@@ -6,7 +6,7 @@ use Prim.Native.Nat.{ℕ, ◌≤◌, ◌<◌}
 use native.Mathlib.Omega.{arith}
 use lib.ListN.{length, take, replicate}
 use borrow.Author.Tests.{eq-eqb, ne_eqb, lt-ltb, le-ltb}
-use Rattle.std.specs.Prelude.{Err}
+use Rattle.std.specs.Prelude.{Result, Err}
 use Rattle.llsc.specs.declared.refusals.Refusal.{Refusal}
 use Rattle.llsc.specs.Refusals.{refusal_number, number_told}
 use Rattle.llsc.proofs.RefusalNumbers.{number_some}
@@ -16,7 +16,9 @@ use Rattle.model.specs.Machine.{Memory, Shaped}
 use Rattle.model.specs.SetUp.{at_set_up, set_up_refusal, set_up}
 use Rattle.model.specs.declared.Process.{Process}
 use Rattle.lent.specs.Gathered.{gathered}
-use Rattle.setup.specs.SetUpByValue.{set_up_number}
+use Rattle.setup.specs.SetUpByValue.{set_up_number, Accepted}
+use Rattle.setup.proofs.SetUpLaws.{set_up_fits}
+use Rattle.carrying.proofs.TurnLaws.{not_refused}
 use Rattle.notation.specs.Grammar.{largest}
 use Rattle.boards.specs.Files.{decode, good_trailer, good_records, file_number}
 use Rattle.boards.specs.Places.{read, RightFile, WrongFile}
@@ -66,6 +68,10 @@ module _ (held : Held) (ws file list : List ℕ) where
         ∙ sym (ap ran (eq-eqb (file_number file) 0 f.number));
     words = o.words;
   }
+
+-- what a set-up that is not refused has
+pub fits : (n w words : ℕ) {r : Result (Unit {0}) Refusal} → number_told r ≡ set_up_number n w 16 words w → ((x : Refusal) → r ≡ Err x → ⊥) → Accepted n w words w
+fits n w words {r} e no = set_up_fits n w 16 words w (not_refused r e no)
 
 -- the set-up
 pub lent : {all : List Process} (list : List ℕ) → all ≡ gathered (take 16 all) no_process 16 → room_needed false ≤ length list → Lending 16 all list

@@ -8,6 +8,7 @@ use llsc::refusals::Refusal;
 use text_runs::last_lines;
 
 // A run at its end: what it holds, the commands done, the bytes written, and why it was refused, if it was.
+// Kept: no `Finished` of `text_runs`, whose `ended` reports a place of a text and takes at most 60,000 entries.
 #[derive(Clone, Copy)]
 pub struct Stopped {
     pub held: Held,

@@ -18,7 +18,7 @@ use Rattle.std.specs.List.{position_or_len}
 use Rattle.answers.specs.Readers.{Text}
 use Rattle.marking.specs.declared.Line.{Line}
 use Rattle.marking.specs.Marks.{may_swap}
-use Rattle.marking.specs.Reading.{no_line, line_in}
+use Rattle.marking.specs.Reading.{line_in}
 use Rattle.marking.specs.Marked.{mark_text, marked_from, marked}
 use Rattle.marking.specs.CopiedLines.{is_feed, line_bytes, behind, LineEnd, CopiedLine}
 
@@ -150,9 +150,6 @@ pub record Marking (bs out₀ out : List ℕ) (before : Option Line) (rest : Lis
   pub within : length rest ≤ length bs
   pub close : next ≤ 3 * (length bs - length rest)
 
-pub marking_first : (bs out₀ : List ℕ) → Marking bs out₀ out₀ no_line bs 0
-marking_first bs out₀ = record { still = record { place = refl; list = refl }; within = omega arith; close = omega arith }
-
 pub marking_end : {bs out₀ out : List ℕ} {before : Option Line} {rest : List ℕ} {next : ℕ} → Marking bs out₀ out before rest next → rest ≡ []
     → Wrote out₀ 0 (marked bs) out next
 marking_end {before = before} m h = none_left (ap (marked_from true before) h ∙ marked_none before) m.still
@@ -170,9 +167,6 @@ module _ {bs out₀ : List ℕ} {u : Writer} {before : Option Line} {rest : List
     two : (x : Bool) → length (mark_text x) ≡ 2
     two true = refl
     two false = refl
-
-    pub line_near : length bs ≤ 4294967295 → v.written + length rest < 18446744073709551616
-    line_near k = omega (arith, m.within, m.close, w.place, two t)
 
     module _ {x : Writer} {r : Text} (c : CopiedLine rest v x r) where
       pub shorter : length r.now < length rest

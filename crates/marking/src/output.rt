@@ -37,6 +37,7 @@ fn first_feed(text: &[u8]) -> Option<usize>
 }
 
 // Where the first line ends, behind its line feed.
+#[tactic(auto, using(crate::proofs::MarkedLaws::line_end_found))]
 fn line_end(text: &[u8]) -> usize
     ensures { LineEnd text.now result }
 {
@@ -54,6 +55,7 @@ fn copy_line<'a>(text: &'a [u8], to: &mut Writer<'_>) -> &'a [u8]
 }
 
 // The whole trace. The reply is the length of the marked trace; what does not fit is not written.
+#[tactic(auto, using(crate::proofs::MarkedLaws::no_bytes, crate::proofs::MarkedLaws::marking_end, crate::proofs::MarkedLaws::in_list))]
 pub fn mark_lines(text: &[u8], out: &mut [u8]) -> usize
     requires { length text.now ≤ 4294967295 }
     ensures { Wrote out.old 0 (marked text.now) out.new result }

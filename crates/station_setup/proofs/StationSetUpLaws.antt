@@ -24,6 +24,7 @@ use Rattle.station_facts.proofs.Firsts.{firsts_later, firsts_next}
 use Rattle.station_records.specs.TakenOut.{bench_in, with_tables}
 use Rattle.station_rows.proofs.StationRowLaws.{begins_lent}
 use Rattle.station_setup.specs.StationSetUpByValue.{station_set_up_number, tables_set, sized, block, Admitted, station_prepared, processes_set}
+use Rattle.llsc.proofs.RefusalNumbers.{number_some}
 
 -- the tables of one record more
 pub tables_next : (s : Station) (n w j : ℕ) → j < length s.tables
@@ -149,3 +150,9 @@ set_up_law s ps ws n w r value = go (number s (length ps) n w r value ws) refl
     go : (k : ℕ) → number s (length ps) n w r value ws ≡ k → processes_set ps n r (station_prepared s (length ps) n w r value ws) ≡ station_set_up (station_memory s ps ws) n w r value
     go zero e = simp (eq-eqb (number s (length ps) n w r value ws) 0 e, e)
     go (suc k) e = simp (ne_eqb (number s (length ps) n w r value ws) 0 (λ z. let y : ⊥ = omega (arith, e, z) in y))
+
+-- what `prepare` rests on
+pub ruleset prepare_laws = (number_some, set_up_fits, prepared_refused, prepared_done)
+
+-- what `words_at_set_up` rests on
+pub ruleset words_laws = (many_next, each_small, rows_small, value_fits)

@@ -6,7 +6,7 @@ use Prim.Native.Nat.{ℕ, ◌+◌, ◌≤◌}
 use native.Mathlib.Omega.{arith}
 use lib.Dec.{eqb, ltb}
 use lib.ListN.{length}
-use borrow.Author.Tests.{le-ltb, ltb-false, eqb-true, ne_eqb}
+use borrow.Author.Tests.{le-ltb, ltb-false, eqb-true, eq-eqb, ne_eqb}
 use Rattle.llsc.specs.Rows.{row1, row2, row8always}
 use Rattle.rows.proofs.RowLaws.{cleared, neither}
 use Rattle.station.specs.declared.Station.{Station}
@@ -56,6 +56,13 @@ done s len n w r v ws e = sym (prepared_number s len n w r v ws) ∙ e
 pub few : {x : (ℕ × Station) × List ℕ} (s : Station) (len n w r : ℕ) (v ws : List ℕ) → x ≡ station_prepared s len n w r v ws → x.0.0 ≡ 0 → n ≤ 16
 few s len n w r v ws e z =
     (set_up_fits n w r len (length ws) (length v) (done s len n w r v ws (ap (λ (y : (ℕ × Station) × List ℕ). y.0.0) (sym e) ∙ z))).n_most
+
+-- one that is done has this N
+pub prepared_n : {x : (ℕ × Station) × List ℕ} (s : Station) (len n w r : ℕ) (v ws : List ℕ) → x ≡ station_prepared s len n w r v ws → x.0.0 ≡ 0 → x.0.1.n ≡ n
+unfolding station_prepared
+prepared_n s len n w r v ws e z =
+    ap (λ (y : (ℕ × Station) × List ℕ). y.0.1.n) e
+    ∙ simp (eq-eqb (station_set_up_number n w r len (length ws) (length v)) 0 (done s len n w r v ws (ap (λ (y : (ℕ × Station) × List ℕ). y.0.0) (sym e) ∙ z)))
 
 -- a refused one leaves the process records
 pub all_stay : {x out : (ℕ × Station) × List ℕ} (all : List StationProcess) (n r : ℕ) → x ≡ out → (x.0.0 ≡ 0 → ⊥)

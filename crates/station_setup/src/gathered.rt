@@ -1,5 +1,5 @@
 // The set-up of a station with its process records, as they were gathered: all of it but storing them back.
-ghost use Rattle.std.specs.Prelude.{◌≡◌};
+ghost use Rattle.std.specs.Prelude.{◌≡◌, IfOk};
 ghost use Rattle.station_setup.specs.SetUpGathered.{told_all, set_up_gathered};
 
 use llsc::refusals::Refusal;
@@ -7,6 +7,7 @@ use station_records::gathered::Gathered;
 use station_records::left::Left;
 
 // The set-up by value, but for the lent words, which it writes.
+#[tactic(auto, using(llsc::proofs::RefusalNumbers::number_some, crate::proofs::StoredSetUp::few, crate::proofs::StoredSetUp::all_stay))]
 pub fn set_up_gathered(
     lent: Gathered,
     n: usize,
@@ -15,8 +16,9 @@ pub fn set_up_gathered(
     value: &[u64],
     words: &mut [u64],
 ) -> Result<Left, Refusal>
-    ensures { (told_all lent.station lent.all result, words.new)
+    ensures is { (told_all lent.station lent.all result, words.new)
         ≡ set_up_gathered lent.station lent.all lent.len n w r value.now words.old }
+    ensures sized { IfOk result (λ left. left.station.n ≡ n) }
 {
     let station = crate::prepare(lent.station, lent.len, n, w, r, value, words)?;
     let all = crate::processes_at_set_up(lent.all, n, r, n);

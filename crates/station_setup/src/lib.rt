@@ -64,6 +64,7 @@ pub fn station_at_set_up(station: Station, n: usize, w: usize, r: usize) -> Stat
 
 // BUF of one record, from a place on: the value, then zeros.
 // Kept: a place in all words, as `word_runs` has it.
+#[tactic(auto, using(crate::proofs::StationSetUpLaws::block_set))]
 fn block_at_set_up(words: &mut [u64], at: usize, each: usize, value: &[u64])
     requires { (at + each ≤ length words.old) × (length value.now ≤ each) }
     ensures { words.new ≡ sets words.old at (block each value.now) }
@@ -73,6 +74,7 @@ fn block_at_set_up(words: &mut [u64], at: usize, each: usize, value: &[u64])
 }
 
 // The words: BUF[0] of each record is the value, every other word 0.
+#[tactic(auto, using(crate::proofs::StationSetUpLaws::words_laws))]
 pub fn words_at_set_up(words: &mut [u64], n: usize, w: usize, r: usize, value: &[u64])
     requires { Admitted n w r (length words.old) (length value.now) }
     ensures { words.new ≡ sets words.old 0 (blocks r n w value.now) }
@@ -121,6 +123,7 @@ pub fn process_for(n: usize, r: usize, i: usize, q: StationProcess) -> StationPr
 }
 
 // The first `count` of sixteen process records.
+#[tactic(auto, using(station_facts::proofs::Firsts::firsts_one_more))]
 pub fn processes_at_set_up(
     mut all: [StationProcess; 16],
     n: usize,
@@ -137,6 +140,7 @@ pub fn processes_at_set_up(
 }
 
 // The whole set-up but for the process records, of which `len` are lent: refused, or the station record after it.
+#[tactic(auto, using(crate::proofs::StationSetUpLaws::prepare_laws))]
 pub fn prepare(
     station: Station,
     len: usize,

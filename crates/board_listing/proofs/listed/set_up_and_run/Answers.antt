@@ -10,9 +10,8 @@ use Rattle.run.specs.Finished.{memory_of}
 use Rattle.setup.specs.SetUpByValue.{Accepted}
 use Rattle.notation.specs.Grammar.{largest}
 use Rattle.entry.proofs.WordLaws.{prefix_length}
-use Rattle.setup.proofs.SetUpLaws.{set_up_fits}
 use Rattle.run.proofs.StartLaws.{number_small, first_state_is}
-use Rattle.board_listing.proofs.ListedLaws.{lent, set_up_refused, begun_between, set_up_run}
+use Rattle.board_listing.proofs.ListedLaws.{fits, lent, set_up_refused, begun_between, set_up_run}
 use Rattle.board_listing.proofs.listed.set_up_and_run.Goals as goal
 
 pub refused-requires : goal.refused-requires
@@ -29,35 +28,35 @@ returns-in-Err c =
 pub slice_bounds-value-end : goal.slice_bounds-value-end
 slice_bounds-value-end c =
     let x = c.args in
-    let ok = set_up_fits x.n x.w 16 (length x.words.now) x.w (not_refused c.set_up_refusal.result c.set_up_refusal.ensures c.in_default.not-Err) in
+    let ok = fits x.n x.w (length x.words.now) c.set_up_refusal.ensures c.in_default.not-Err in
     omega (arith, ap length c.repeated-value.ensures, length-replicate 64 x.initial, ok.w_most)
 
 pub slice_bounds-words_at_set_up-end : goal.slice_bounds-words_at_set_up-end
 slice_bounds-words_at_set_up-end c =
     let x = c.args in
-    let ok = set_up_fits x.n x.w 16 (length x.words.now) x.w (not_refused c.set_up_refusal.result c.set_up_refusal.ensures c.in_default.not-Err) in
+    let ok = fits x.n x.w (length x.words.now) c.set_up_refusal.ensures c.in_default.not-Err in
     prefix_length ok.w_most c.repeated-value.ensures
 
 pub words_at_set_up-requires : goal.words_at_set_up-requires
 words_at_set_up-requires c =
     let x = c.args in
-    let ok = set_up_fits x.n x.w 16 (length x.words.now) x.w (not_refused c.set_up_refusal.result c.set_up_refusal.ensures c.in_default.not-Err) in
+    let ok = fits x.n x.w (length x.words.now) c.set_up_refusal.ensures c.in_default.not-Err in
     subst (λ (j : ℕ). Accepted x.n x.w (length x.words.now) j) (prefix_length ok.w_most c.repeated-value.ensures) ok
 
 pub invariant_of-count : goal.invariant_of-count
 invariant_of-count c =
     let x = c.args in
-    let e = not_refused c.set_up_refusal.result c.set_up_refusal.ensures c.in_default.not-Err in
-    record { most = (set_up_fits x.n x.w 16 (length x.words.now) x.w e).n_most }
+    record { most = (fits x.n x.w (length x.words.now) c.set_up_refusal.ensures c.in_default.not-Err).n_most }
 
 pub run_file-requires : goal.run_file-requires
 run_file-requires c =
     let x = c.args in let l = lent x.list.now c.requires.0 c.requires.1 in
     let small : x.initial ≤ largest = omega (arith, c.type_inv) in
-    let begins = first_state_is false x.held x.words.now l x.n x.w x.initial small (not_refused c.set_up_refusal.result c.set_up_refusal.ensures c.in_default.not-Err)
+    let e = not_refused c.set_up_refusal.result c.set_up_refusal.ensures c.in_default.not-Err in
+    let begins = first_state_is false x.held x.words.now l x.n x.w x.initial small e
     refl c.bench_at_set_up-bench.ensures c.records_at_set_up-all.ensures c.words_at_set_up.ensures c.repeated-value.ensures in
     let shaped : Shaped (memory_of x.held 16 x.words.now) = record { bank = omega arith; help = omega arith } in (
-      begun_between x.held x.words.now x.file.now l x.n x.w x.initial c.set_up_refusal.ensures small (c.set_up_refusal.ensures ∙ not_refused c.set_up_refusal.result c.set_up_refusal.ensures c.in_default.not-Err) shaped begins,
+      begun_between x.held x.words.now x.file.now l x.n x.w x.initial c.set_up_refusal.ensures small (c.set_up_refusal.ensures ∙ e) shaped begins,
       c.requires.1,
     )
 
@@ -65,6 +64,7 @@ pub returns : goal.returns
 returns c =
     let x = c.args in
     let l = lent x.list.now c.requires.0 c.requires.1 in let small : x.initial ≤ largest = omega (arith, c.type_inv) in
-    let begins = first_state_is false x.held x.words.now l x.n x.w x.initial small (not_refused c.set_up_refusal.result c.set_up_refusal.ensures c.in_default.not-Err)
+    let e = not_refused c.set_up_refusal.result c.set_up_refusal.ensures c.in_default.not-Err in
+    let begins = first_state_is false x.held x.words.now l x.n x.w x.initial small e
     refl c.bench_at_set_up-bench.ensures c.records_at_set_up-all.ensures c.words_at_set_up.ensures c.repeated-value.ensures in
-    set_up_run x.held x.words.now x.file.now l x.n x.w x.initial c.set_up_refusal.ensures small (c.set_up_refusal.ensures ∙ not_refused c.set_up_refusal.result c.set_up_refusal.ensures c.in_default.not-Err) begins c.run_file.ensures
+    set_up_run x.held x.words.now x.file.now l x.n x.w x.initial c.set_up_refusal.ensures small (c.set_up_refusal.ensures ∙ e) begins c.run_file.ensures

@@ -1,5 +1,5 @@
-use Rattle.std.proofs.Common.{rules, sym, ◌∙◌}
-use Rattle.marking.proofs.MarkedLaws.{no_bytes, some_bytes, marking_end, shorter, marking_on, in_list}
+use Rattle.std.proofs.Common.{sym, ◌∙◌}
+use Rattle.marking.proofs.MarkedLaws.{some_bytes, shorter, marking_on}
 use Rattle.marking.proofs.output.mark_lines.Goals as goal
 
 pub loop-rest-smaller : goal.loop-rest-smaller
@@ -16,8 +16,3 @@ loop-rest-preserved c =
       marking = marking_on l.invariant.marking some _ c.line-line.ensures _ c.may_swap.ensures c.put_mark.ensures c.copy_line-rest.ensures;
       same = c.copy_line-rest.ensures.wrote.same ∙ (c.put_mark.ensures.same ∙ l.invariant.same);
     }
-
-pub returns : goal.returns
-returns c =
-    let l = c.loop-rest in
-    in_list {l = l.to.list.now} (search rules) (marking_end l.invariant.marking (no_bytes l.rest.now (sym c.loop-rest-test.ensures)))
