@@ -56,11 +56,14 @@ pub fn number(text: &[u8]) -> Read<'_, u64>
 }
 
 // A space and a number.
-#[tactic(auto, unfolding(crate::specs::Readers::spaced_number))]
+#[tactic(auto, using(crate::proofs::NumberLaws::reading_spaced))]
 pub fn spaced_number(text: &[u8]) -> Read<'_, u64>
     ensures { GivesNumber result (spaced_number text.now) }
 {
-    number(expect(text, b" ")?)
+    match text.split_first() {
+        Some((c, rest)) if *c == b' ' => number(rest),
+        _ => Err(text),
+    }
 }
 
 // The text behind a word.
