@@ -6,6 +6,7 @@
 use entry::state::Held;
 use std::process::ExitCode;
 
+#[tactic(auto, using(run::proofs::RecordLaws::fillers))]
 fn main(rt: HostRuntime) -> ExitCode {
     let mut text = [0; 16385];
     let got = console::read_full(&mut rt.stdin(), &mut text);
