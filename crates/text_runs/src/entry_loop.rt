@@ -16,9 +16,11 @@ use notation::{Entry, entry_words};
 
 // What a bench holds of a run, with which it carries out one entry after the other.
 pub trait Carrier: Copy {
-    // Its machine; what a run is on it, with the number of the refusal that stopped it; what holds at every moment; and how
-    // many records are lent.
+    // Its machine; its memory with the lent words; what a run is on it, with the number of the refusal that stopped it; what
+    // holds at every moment; and how many records are lent.
     ghost machine: { Machine };
+
+    ghost memory: { Self → List ℕ → machine.Memory };
 
     ghost progress: { Run Self → ℕ → List ℕ → Writer → Progress machine };
 
