@@ -64,7 +64,7 @@ impl Carrier for LentHeld {
         self.held.bench.x = turn.taken.x;
         self.held.bench.bank[tables::bank_place(i)] = turn.taken.bank;
         self.held.bench.help[tables::help_place(j)] = turn.taken.help;
-        // Field by field: copied as a whole, the bytes of padding behind its fields would go along with each entry.
+        // Field by field: a record copied whole takes its padding along, at each entry.
         let line = turn.process.line;
         self.held.all[k.record_place()] = Process {
             line,
