@@ -9,6 +9,7 @@ use lib.Dec.{leb, eqb}
 use native.Mathlib.Numerals.{add-one}
 use lib.ListN.{length, get_or, drop, drop_of_length-le}
 use lib.Seq.{drop-cons}
+use Rattle.listing.specs.Lines.{space}
 use Rattle.answers.specs.Shape.{largest}
 use Rattle.std.specs.Prelude.{Ok, Err}
 use Rattle.answers.specs.Readers.{first, is_digit, digits_after, number_in, spaced_number, words_in, expected}
@@ -69,6 +70,21 @@ module _ (v d : ℕ) (rest : List ℕ) (h : d ≤ 9) where
 
 -- what is read of a text by its first byte
 pub ruleset reading_digits = (digits_end, after_zero, too_large, digit_on)
+
+pub after_space : (c : ℕ) (rest : List ℕ) → c ≡ space → spaced_number (c ∷ rest) ≡ number_in rest
+unfolding spaced_number expected
+after_space c rest h = simp (eq-eqb c space h)
+
+pub no_space : (c : ℕ) (rest : List ℕ) → (c ≡ space → ⊥) → spaced_number (c ∷ rest) ≡ Err (c ∷ rest)
+unfolding spaced_number expected
+no_space c rest h = simp (ne_eqb c space h)
+
+pub no_text : (bs : List ℕ) → length bs ≡ 0 → spaced_number bs ≡ Err bs
+unfolding spaced_number expected
+no_text [] h = refl
+no_text (c ∷ cs) h = absurd (omega arith)
+
+pub ruleset reading_spaced = (after_space, no_space, no_text)
 
 pub ruleset reading_numbers = (no_number, number_begins)
 

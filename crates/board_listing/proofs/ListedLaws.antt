@@ -71,7 +71,7 @@ module _ (held : Held) (ws file list : List ℕ) where
 
 -- what a set-up that is not refused has
 pub fits : (n w words : ℕ) {r : Result (Unit {0}) Refusal} → number_told r ≡ set_up_number n w 16 words w → ((x : Refusal) → r ≡ Err x → ⊥) → Accepted n w words w
-fits n w words {r} e no = set_up_fits n w 16 words w (not_refused r e no)
+fits n w words {r} e h = set_up_fits n w 16 words w (not_refused r e h)
 
 -- the set-up
 pub lent : {all : List Process} (list : List ℕ) → all ≡ gathered (take 16 all) no_process 16 → room_needed false ≤ length list → Lending 16 all list

@@ -1,7 +1,7 @@
 -- A record is carried out as an entry of a run that has done none: what it comes to is `BoardListing`'s, counted anew.
 use mathlib.Core.Path.{◌≡◌, refl, sym, ap, subst, ◌∙◌}
 use mathlib.Core.Bool.{Bool, true, false, cond}
-use mathlib.Core.List.{List, [], ◌∷◌, ◌++◌}
+use mathlib.Core.List.{List, [], ◌++◌}
 use Prim.Native.Nat.{ℕ, zero, suc, ◌+◌, ◌-◌, ◌≤◌}
 use native.Mathlib.Omega.{arith}
 use lib.Dec.{eqb, ltb, leb}
@@ -18,7 +18,7 @@ use Rattle.notation.specs.Grammar.{largest}
 use Rattle.boards.specs.Files.{BoardRecord}
 use Rattle.text_runs.specs.TextRun.{most_entries, room_needed, process_of, order_of, value_of}
 use Rattle.text_runs.specs.TextRun as TR
-use Rattle.semantics.specs.TextRun.{figure2, Progress, stopped, lines_of, trace_line, counted, commanded, single, carry, carry_all}
+use Rattle.semantics.specs.TextRun.{figure2, Progress, stopped, lines_of, trace_line, counted, commanded, single, carry}
 use Rattle.text_runs.proofs.SingleEntries.{outcome}
 use Rattle.entry.specs.RunState.{RunState, progress, Ready, Small, answer_line}
 use Rattle.entry.proofs.WordLaws.{Below}
@@ -160,3 +160,6 @@ module _ (r : BoardRecord) (small : r.process ≤ largest) where
 
   pub is_vl : (r.order ≡ 0 → ⊥) → (r.order ≡ 1 → ⊥) → (r.order ≡ 2 → ⊥) → (StartVl r.process ≡ entry_of r) × Small (StartVl r.process)
   is_vl a b c = (simp (ne_eqb r.order 0 a, ne_eqb r.order 1 b, ne_eqb r.order 2 c), small)
+
+-- what `entry_of` rests on
+pub ruleset entry_laws = (is_step_is, is_ll_is, is_sc, is_vl)

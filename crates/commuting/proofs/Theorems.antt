@@ -7,8 +7,6 @@ use Prim.Native.Nat.{ℕ, ◌<◌}
 use lib.Dec.{eqb}
 use borrow.Author.Tests.{eqb-true, eqb-false}
 use Rattle.model.specs.declared.Reply.{Reply}
-use Rattle.model.specs.declared.Reply.TheVariants.{Accepted}
-use Rattle.llsc.specs.Rows.{first}
 use Rattle.station.specs.declared.StationProcess.{StationProcess}
 use Rattle.station.specs.Station.{StationMemory}
 use Rattle.station.specs.StationRefusals.{StationOrder}

@@ -1,9 +1,8 @@
 -- CR 13, the statements: what an accepted command depends on, what it alters, and when two may change places.
-use Rattle.std.specs.Prelude.{◌≡◌, ◌≢◌, ◌⊎◌, ℕ, ◌<◌, List, true}
+use Rattle.std.specs.Prelude.{◌≡◌, ◌≢◌, ℕ, ◌<◌, List}
 use Rattle.llsc.specs.declared.ProcessNumber.{ProcessNumber}
 use Rattle.model.specs.declared.Reply.{Reply}
 use Rattle.llsc.specs.Answers.{Said}
-use Rattle.station.specs.declared.StationProcess.{StationProcess}
 use Rattle.station.specs.Station.{StationMemory}
 use Rattle.station.specs.StationRefusals.{StationOrder, StationShaped}
 use Rattle.station.specs.StationCommand.{station_refusal, station_command}

@@ -1,7 +1,7 @@
 -- What an act that only looks leaves: the values, and every link but its own. So another process sees the same after
 -- it, and two looks change places.
 use mathlib.Core.Path.{◌≡◌, refl, sym, ap, ◌∙◌}
-use mathlib.Core.Logic.{◌≢◌, ◌⊎◌, inl, inr}
+use mathlib.Core.Logic.{◌≢◌, inl, inr}
 use mathlib.Core.Bool.{Bool, true, false, cond}
 use Prim.Native.Nat.{ℕ, ◌+◌, ◌^◌}
 use native.Mathlib.Omega.{arith}

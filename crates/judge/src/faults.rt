@@ -20,19 +20,24 @@ pub(crate) fn lacks_n_and_w(to: &mut impl Write, count: usize) -> io::Result<()>
 
 // The fault, and how many numbers were read before it.
 pub(crate) fn tell(to: &mut impl Write, fault: Fault, count: usize, text: &[u8]) -> io::Result<()> {
-    let place = Place::of(text, number_places::number_place(text, count));
     match fault {
         Fault::StrayByte => stray(to, text),
         Fault::TooLarge => {
-            saying::position(to, place)?;
+            number(to, text, count)?;
             write!(to, ": a number of 2^64 or more")
         }
         Fault::TooMany => {
-            saying::position(to, place)?;
+            number(to, text, count)?;
             write!(to, ": the text has more than 65,536 numbers")
         }
     }?;
     writeln!(to, "; nothing was judged")
+}
+
+// Where the number of this index stands.
+fn number(to: &mut impl Write, text: &[u8], index: usize) -> io::Result<()> {
+    let place = number_places::number_place(text, index);
+    saying::position(to, Place::of(text, place))
 }
 
 fn stray(to: &mut impl Write, text: &[u8]) -> io::Result<()> {

@@ -1,12 +1,11 @@
 -- Row 9 refuses nothing: process numbers below N, counts and word places in range; with no bound on the successes.
 use mathlib.Core.Path.{◌≡◌, refl, subst}
-use mathlib.Core.List.{List, [], ◌∷◌}
 use Prim.Native.Nat.{ℕ, suc, ◌<◌}
 use lib.Dec.{ltb, eqb}
 use Rattle.laws.proofs.Updates.{by_test}
 use Rattle.moir_model.specs.Points.{Point, idle, ll10, ll2, ll4, ll5, ll6, ll7, sc14, sc17, sc19, sc2, sc4, sc5, sc6, sc7, vl13}
 use Rattle.moir_linearization.proofs.GhostMachine.{Local, Shared, State, noisy, begin, prev, eq_pair, step, step_at}
-use Rattle.moir_linearization.proofs.GhostRuns.{Cmd, exec, execs, number_after, started, set_up}
+use Rattle.moir_linearization.proofs.GhostRuns.{Cmd, exec, started, set_up}
 use Rattle.moir_linearization.proofs.Frame.{Holds, frame}
 use Rattle.moir_linearization.proofs.Numbers.{ProcessNumbers, SharedNumbers, Numbers, numbers_later, numbers_later_all}
 use Rattle.moir_linearization.proofs.NumberSteps.{n_wll, n_vl, n_sc}
@@ -123,7 +122,3 @@ module _ (N M W : ℕ) where
     counts = λ q. refl;
     ranges = record { all = h_n; each = λ q. record { x_low = h_n; old_low = h_n; new_low = h_n; h_low = h_n } };
   }
-
-  pub run_sound : 0 < W → (n : ℕ) (cs : List Cmd) (s : State) → Sound n s → Sound (number_after n cs) (execs N M W n cs s)
-  run_sound h_w n [] s i = i
-  run_sound h_w n (c ∷ cs) s i = run_sound h_w (suc n) cs (exec N M W n c s) (exec_sound h_w n s c i)

@@ -1,22 +1,21 @@
 -- What an accepted command found.
-use mathlib.Core.Path.{◌≡◌, refl, sym, ap, subst, ◌∙◌}
-use mathlib.Core.Bool.{Bool, true, false, not, ◌&&◌, ◌||◌, cond}
+use mathlib.Core.Path.{◌≡◌, refl, ap, subst}
+use mathlib.Core.Bool.{Bool, true, false, not, ◌&&◌, cond}
 use mathlib.Core.List.{List, [], ◌∷◌}
-use Prim.Native.Nat.{ℕ, zero, suc, ◌+◌, ◌*◌, ◌≤◌, ◌<◌}
+use Prim.Native.Nat.{ℕ, zero, suc, ◌+◌, ◌≤◌, ◌<◌}
 use native.Mathlib.Omega.{arith}
-use lib.Dec.{eqb, ltb, leb}
+use lib.Dec.{ltb, leb}
 use borrow.Author.Tests.{ltb-true, ltb-false, leb-false, eqb-true, eq-eqb, ne_eqb, not-false}
 use lib.ListN.{length, get_or, take}
 use lib.Seq.{get_or-take, length-take-le}
 use Rattle.model.specs.declared.Reply.TheVariants.{Refused}
 use Rattle.llsc.specs.Rows.{every, is_start, needs_ll, brings_value}
-use Rattle.model.specs.Refusals.{process_ok, bench_ok}
+use Rattle.model.specs.Refusals.{bench_ok}
 use Rattle.model.specs.SetUp.{numbers}
 use Rattle.laws.proofs.Updates.{contra}
 use Rattle.serving.proofs.RefusalFacts.{and_true, or_false, no_row, none_holds, inside}
-use Rattle.station.specs.declared.StationProcess.{StationProcess}
 use Rattle.station.specs.Station.{StationMemory, station_words, no_station_process, process_at, holding_at}
-use Rattle.station.specs.Projection.{bench_of, process_of, at_rest, embed}
+use Rattle.station.specs.Projection.{bench_of, at_rest, embed}
 use Rattle.station.specs.StationRefusals.{StationOrder, record_for, station_rows, station_in_range, station_process_ok, called_ok}
 use Rattle.station.specs.StationCommand.{station_refusal, station_command, obeyed_on}
 

@@ -8,7 +8,7 @@ use borrow.Author.Tests.{le-leb}
 use Rattle.model.specs.Sizes.{halves}
 use Rattle.model.specs.Machine.{Memory, Shaped}
 use Rattle.llsc.specs.Rows.{is_start}
-use Rattle.model.specs.Command.{command, refusal}
+use Rattle.model.specs.Command.{refusal}
 use Rattle.model.specs.SetUp.{set_up}
 use Rattle.llsc.specs.Answers.{Said, refused}
 use Rattle.llsc.specs.History.{Command}

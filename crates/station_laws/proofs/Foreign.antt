@@ -10,7 +10,6 @@ use lib.ListN.{length}
 use lib.Seq.{get_or-set_other}
 use Rattle.model.specs.declared.Process.{Process}
 use Rattle.model.specs.declared.Moved.{Moved}
-use Rattle.model.specs.Points.{idle}
 use Rattle.model.specs.Sizes.{halves}
 use Rattle.model.specs.Words.{one_record, word_of, half}
 use Rattle.model.specs.Records.{record_at}

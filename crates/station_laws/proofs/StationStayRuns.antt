@@ -1,7 +1,7 @@
 -- The definitions of `specs/StationChanges` and `specs/StationWordsStay` on a run, computed: a success on record 1
 -- changes its own X alone; after 2N changes of it the set-up value is written over there, and stands in record 0.
 use mathlib.Core.Path.{◌≡◌, refl}
-use Prim.Native.Nat.{ℕ, ◌+◌}
+use Prim.Native.Nat.{ℕ}
 use mathlib.Core.List.{List, [], ◌∷◌, ◌++◌}
 use Rattle.station.specs.Station.{StationMemory, buffer_of}
 use Rattle.station.specs.StationRefusals.{StationOrder, station_in_range}

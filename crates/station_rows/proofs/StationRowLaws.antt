@@ -13,7 +13,8 @@ use Rattle.station.specs.Station.{station_words}
 use Rattle.station.specs.StationRefusals.{row23, row3of}
 use Rattle.laws.proofs.AndLaws.{left, right}
 use Rattle.rows.proofs.RowLaws.{over, cleared, n_in, w_in, neither}
-use Rattle.station_rows.specs.StationCommandRows.{station_lent_number, station_ranges_ok, station_memory_number, station_number, station_late_number}
+use Rattle.station_rows.specs.StationCommandRows.{station_ranges_ok, station_memory_number, station_number, station_late_number}
+use Rattle.llsc.proofs.RefusalNumbers.{number_some}
 
 -- what row 23 leaves
 pub r_in : (r : ℕ) → (row23 r).holds ≡ false → (0 < r) × (r ≤ 8)
@@ -49,10 +50,6 @@ module _ (n w r processes words : ℕ) where
       answers (row1 n).holds 0 _ _ (answers (row2 w).holds 1 _ _
       (answers (row23 r).holds 22 _ _ (answers (row3of n w r processes words).holds 2 x y f)))
 
-  pub lent_answers : (rest : ℕ) → (station_lent_number n w r processes words ≡ 0 → ⊥) → station_lent_number n w r processes words ≡ lent_then rest
-  unfolding station_lent_number
-  lent_answers rest = then_answers 0 rest (λ h. absurd (h refl))
-
   pub record LentPassed (rest : ℕ) : Type 0 where
     pub row_1 : (row1 n).holds ≡ false
     pub row_2 : (row2 w).holds ≡ false
@@ -75,10 +72,6 @@ module _ (n w r processes words : ℕ) where
       let l = none_of_four x e in
       over _ 1 l.row_1 (over _ 2 l.row_2 (over _ 23 l.row_23 (over _ 3 l.row_3 h)))
 
-  pub lent_passed : {k rest : ℕ} → station_lent_number n w r processes words ≡ 0 → k ≡ rest → k ≡ lent_then rest
-  unfolding station_lent_number
-  lent_passed e h = then_passed 0 e h
-
   passed_lent : {rest : ℕ} → LentPassed rest → StationLent n w r processes words
   passed_lent l =
       let few = neither (ltb words (station_words n w r)) (ltb processes n) l.row_3 in
@@ -94,10 +87,6 @@ module _ (n w r processes words : ℕ) where
   -- where no row holds of a list that begins with them
   pub begins_lent : (rest : ℕ) → lent_then rest ≡ 0 → StationLent n w r processes words × (rest ≡ 0)
   begins_lent rest e = let l = none_of_four rest e in (passed_lent l, l.others)
-
-  pub is_lent : station_lent_number n w r processes words ≡ 0 → StationLent n w r processes words
-  unfolding station_lent_number
-  is_lent e = (begins_lent 0 e).0
 
   -- two lists that begin with them, and then say the same where none of them holds
   pub same_then : (x y : ℕ) → (StationLent n w r processes words → x ≡ y) → lent_then x ≡ lent_then y
@@ -132,3 +121,6 @@ module _ (s : Station) (list : List StationProcess) (len words : ℕ) where
     late_decides e =
         let rest = (begins_lent s.n s.w s.r len words (cond bad 9 0) e).1 in
         then_passed s.n s.w s.r len words (cond bad 9 0) e (over bad 9 (cleared bad 8 0 rest).0 refl)
+
+-- what `refusal` rests on
+pub ruleset refusal_laws = (number_some, memory_lent, memory_answers, late_decides)

@@ -41,6 +41,7 @@ pub fn memory_refusal(lent: Gathered, words: usize) -> Result<(), Refusal>
 }
 
 // The first row that holds, for a value of so many words.
+#[tactic(auto, using(crate::proofs::StationRowLaws::refusal_laws))]
 pub fn refusal(lent: Gathered, command: Command, value: usize, words: usize) -> Result<(), Refusal>
     ensures { number_told result
         ≡ station_number lent.station lent.all lent.len command.process (order_in command.order) (number_in command.order) value words }

@@ -7,7 +7,9 @@ use Rattle.model.specs.declared.Process.{Process}
 use Rattle.llsc.specs.declared.Order.{Order}
 use Rattle.model.specs.Sizes.{buffers, halves}
 use Rattle.llsc.specs.Rows.{brings_value}
+use Rattle.model.specs.Words.{offer_in}
 use Rattle.words.specs.declared.layouts.FirstRows.{FirstRows}
+use Rattle.words.specs.Layouts.{layout_from}
 use Rattle.taken.specs.Ranges.{Ready}
 
 -- the 3N buffers, the N return areas and the N offer areas are lent
@@ -25,6 +27,10 @@ pub record ObeyableIn (f : FirstRows) (o : Order) (p : ProcessNumber) (v : List 
   pub ready_in : ReadyIn f b.n q p ws
   pub w_is : f.w ≡ b.w
   pub value : brings_value o ≡ true → length v ≡ b.w
+
+-- the words that an order brings fit into p's offer area
+abbrev pub Offered : FirstRows → Order → ProcessNumber → List ℕ → List ℕ → Type 0
+Offered f o p v ws = brings_value o ≡ true → offer_in (layout_from f) f.w p 0 + length v ≤ length ws
 
 -- a half word moves from the word at `source` to the word at `target`
 pub record Moves (w : ℕ) (q : Process) (source target : ℕ) (ws : List ℕ) : Type 0 where

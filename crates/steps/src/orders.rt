@@ -4,7 +4,7 @@ ghost use Rattle.std.specs.Prelude.{◌≡◌};
 ghost use Rattle.model.specs.Machine.{obey_in};
 ghost use Rattle.words.specs.Layouts.{layout_from};
 ghost use Rattle.taken.specs.Ranges.{Ready};
-ghost use Rattle.steps.specs.Layouts.{ReadyIn, ObeyableIn};
+ghost use Rattle.steps.specs.Layouts.{ReadyIn, ObeyableIn, Offered};
 ghost use Rattle.steps.specs.Steps.{offered_in, obey_on, obey_on_in};
 
 use crate::step;
@@ -61,11 +61,9 @@ fn offer(
     order: Order,
     p: ProcessNumber,
     value: &[u64],
-    bench: Bench,
-    process: Process,
     words: &mut [u64],
 )
-    requires { ObeyableIn rows order p value.now bench process words.old }
+    requires { Offered rows order p value.now words.old }
     ensures { words.new ≡ offered_in (layout_from rows) order p rows.w value.now words.old }
 {
     if let Order::StartSc = order {
@@ -86,7 +84,7 @@ pub fn obey_in(
     requires { ObeyableIn rows order p value.now bench process words.old }
     ensures { (result, words.new) ≡ obey_in (layout_from rows) order p value.now bench process words.old }
 {
-    offer(rows, order, p, value, bench, process, words);
+    offer(rows, order, p, value, words);
     let n = bench.n;
     let i = taken::bank_index(n, process);
     let j = taken::help_index(n, p, process);

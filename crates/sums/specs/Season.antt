@@ -63,6 +63,7 @@ pub record NotTaken : Type 0 where
   pub number : ℕ
   pub at : Option ℕ
 
+-- adding a listing: the sums with it, or why it is not added, by the first row that strikes it
 unfoldable pub added : Sums → List ℕ → Result Sums NotTaken
 added s bs =
     let number : ℕ = add_refusal s bs in

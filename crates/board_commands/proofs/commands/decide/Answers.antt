@@ -1,28 +1,14 @@
 -- `board_commands::commands::decide` meets its contract.
 use mathlib.Core.Path.{◌≡◌, ap, ◌∙◌}
 use Rattle.board_commands.specs.BoardRun.{order_of}
-use borrow.Author.Rules.{rules}
 use Rattle.board_commands.specs.ByValue.{at_most64}
 use Prim.Native.Nat.{◌≤◌}
 use native.Mathlib.Omega.{arith}
-use lib.ListN.{length, take, length-replicate}
+use lib.ListN.{take}
 use Rattle.boards.specs.Files.{record_of}
-use Rattle.entry.proofs.WordLaws.{prefix_length}
 use Rattle.station_machine.proofs.OrderLaws.{same_decided}
 use Rattle.board_commands.proofs.CommandLaws.{at_most, record_decided}
 use Rattle.board_commands.proofs.commands.decide.Goals as goal
-
-pub slice_bounds-value-end : goal.slice_bounds-value-end
-slice_bounds-value-end c =
-    let v = c.repeated-value in
-    omega (arith, c.min-w.ensures, ap length v.ensures, length-replicate 64 c.value.result)
-
-pub slice_bounds-decide-end : goal.slice_bounds-decide-end
-slice_bounds-decide-end c =
-    let w = c.min-w in let v = c.repeated-value in
-    let same : w.result ≡ at_most64 c.args.lent.station.w = search rules in
-    let few : w.result ≤ 64 = omega (arith, same, at_most c.args.lent.station.w) in
-    prefix_length few v.ensures
 
 pub returns : goal.returns
 returns c =
