@@ -9,13 +9,8 @@ use Rattle.std.specs.Prelude.{Ok, Err}
 use Rattle.llsc.specs.Refusals.{refusal_number}
 use Rattle.llsc.proofs.RefusalNumbers.{number_some}
 use Rattle.text_runs.specs.Carrying.{in_run, done_after, turn_number}
-<<<<<<< HEAD
-use Rattle.entry.specs.RunState.{state_with, Sound}
-use Rattle.run.specs.Carried.{lent_state}
-=======
 use Rattle.entry.specs.RunState.{state_with}
-use Rattle.carrying.specs.Carried.{lent_state}
->>>>>>> 8fd752fad29ea810f4afacd378c9e486c62528cc
+use Rattle.run.specs.Carried.{lent_state}
 use Rattle.board_listing.specs.declared.ending.Stopped.{Stopped}
 use Rattle.board_listing.specs.ListedRun.{fresh_state}
 use Rattle.board_listing.proofs.LoopLaws.{Obeying, turned_becomes, not_stopped, in_list, refused, goes_on, all_done}

@@ -1,6 +1,5 @@
 -- `moir_run::texts::run_text`: the generic run, on a memory of its own.
-use mathlib.Core.Path.{◌≡◌, subst}
-use Rattle.moir_model.specs.Machine.{Memory}
+use mathlib.Core.Path.{◌≡◌}
 use Rattle.moir_run.specs.TextRan.{at_start}
 use Rattle.moir_run.specs.RunState.{memory_of}
 use Rattle.moir_run.proofs.SetUpLaws.{text_ran}

@@ -1,9 +1,8 @@
 -- `moir_run::starter::HeldStarter::set_up`: refused by the lengths of what is lent, or done (`SetUpLaws`).
-use mathlib.Core.Path.{refl, sym, ap, subst, ◌∙◌}
+use mathlib.Core.Path.{ap, subst}
 use Prim.Native.Nat.{ℕ}
 use native.Mathlib.Omega.{arith}
 use lib.ListN.{length, length-replicate}
-use lib.Seq.{length-sets}
 use Rattle.std.proofs.lemmas.Result.{err_from_is_err_and}
 use Rattle.moir_machine.specs.SetUpByValue.{Accepted}
 use Rattle.moir_run.specs.RunState.{memory_of}
