@@ -14,7 +14,7 @@ pub mod on_bank;
 pub mod on_help;
 pub mod on_words;
 pub mod on_x;
-mod texts;
+pub mod texts;
 mod trace_lines;
 
 // A shared item with the values that are read or written there: two of X and of a place of Help, one of a place of Bank
