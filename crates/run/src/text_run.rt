@@ -23,7 +23,7 @@ use text_runs::{entry_loop, limits, lists, reports, runs};
 
 // "then 1, 2, 3, then the set-up, then the entries": those of the list. The value is looked at only where
 // W is in its range.
-// Kept: the run takes `held` and `traced` with it, and not `len`, so that a struct of the three would be taken apart here.
+// Kept: `held`, `len` and `traced` one by one: the set-up makes another `held`, so that a struct would be built anew.
 fn started(
     held: Held,
     len: usize,
@@ -70,7 +70,7 @@ fn started(
 }
 
 // "then 10 and 11 over the whole text": its items are read once, into the list of its entries.
-// Kept: text ends here, words and list go on to the loop; a struct of three borrows would be taken apart by this function.
+// Kept: text ends here, words and list go on to the loop; a struct of three borrows would be taken apart here.
 fn checked(
     held: Held,
     len: usize,
