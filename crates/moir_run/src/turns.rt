@@ -21,6 +21,7 @@ use text_runs::entry_loop::Carrier;
 use text_runs::{limits, lists, traces};
 
 // What a run holds: bench and records.
+// Kept: beside `entry`'s own, as one for both would have a type parameter for each field.
 #[derive(Clone, Copy)]
 pub struct Held {
     pub bench: Bench,

@@ -30,6 +30,7 @@ pub trait Carrier: Copy {
 
     // One entry of a run that goes on, after so many: refused, or carried out with its lines; and then whether it stays, as
     // `!` does until its call answers.
+    // Kept: `traced` and `done` by value beside it: over `&mut Run` `schedule` took 17.0 million instructions, not 13.4.
     fn turn(
         &mut self,
         traced: bool,
