@@ -22,6 +22,7 @@ fn left_with(station: Station, all: [StationProcess; 16], number: u8, done: usiz
     }
 }
 
+#[tactic(auto, using(crate::proofs::RunLaws::goes_on, crate::proofs::RunLaws::ended))]
 fn run_records(lent: Gathered, records: &[Record], words: &mut [u64]) -> RunLeft
     ensures { (result, words.new)
         ≡ records_run 0 (read records.now) lent.station lent.all lent.len words.old }

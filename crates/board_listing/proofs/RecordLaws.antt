@@ -160,3 +160,6 @@ module _ (r : BoardRecord) (small : r.process ≤ largest) where
 
   pub is_vl : (r.order ≡ 0 → ⊥) → (r.order ≡ 1 → ⊥) → (r.order ≡ 2 → ⊥) → (StartVl r.process ≡ entry_of r) × Small (StartVl r.process)
   is_vl a b c = (simp (ne_eqb r.order 0 a, ne_eqb r.order 1 b, ne_eqb r.order 2 c), small)
+
+-- what `entry_of` rests on
+pub ruleset entry_laws = (is_step_is, is_ll_is, is_sc, is_vl)

@@ -8,6 +8,7 @@ use boards::records::{self, Record};
 use notation::Entry;
 
 // The entry of a record.
+#[tactic(auto, using(crate::proofs::RecordLaws::entry_laws))]
 pub fn entry_of(bytes: &Record) -> Entry
     ensures { (result ≡ entry_of (record_of bytes.now)) × (Small result) }
 {

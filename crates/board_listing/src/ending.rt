@@ -18,6 +18,7 @@ pub struct Stopped {
 }
 
 // "The last line is `end E` or `refused C E`".
+#[tactic(auto, using(text_runs::proofs::LastLaws::with_written_lem, crate::proofs::LineLaws::closable_room))]
 pub fn close(stopped: Stopped, list: &mut [u8]) -> Stopped
     requires { Closable stopped list.old }
     ensures { (result, list.new) ≡ closed stopped list.old }

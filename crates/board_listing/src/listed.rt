@@ -20,6 +20,7 @@ use text_runs::{limits, lists};
 
 // A run that is refused before its first command.
 // Kept: the room is a fact on a lent list, tested once in `run_listed`; a struct for it would be undone at each line.
+#[tactic(auto, using(crate::proofs::ListedLaws::refused_closable))]
 fn refused(held: Held, cause: Refusal, list: &mut [u8]) -> Stopped
     requires { (refusal_number cause ≤ 99) × (room_needed false ≤ length list.old) }
     ensures { (result, list.new) ≡ closed (refused_with held cause) list.old }
@@ -35,6 +36,7 @@ fn refused(held: Held, cause: Refusal, list: &mut [u8]) -> Stopped
 
 // The file on a run that has done nothing: "25 and 26 also before a run".
 // Kept: file, words and list come from the caller one by one, and go on so to three crates.
+#[tactic(auto, using(crate::proofs::ListedLaws::file_small))]
 fn run_file(held: Held, file: &[u8], words: &mut [u64], list: &mut [u8]) -> Stopped
     requires { (Between (fresh_state held words.old list.old)) × (room_needed false ≤ length list.old) }
     ensures { RunsFile held words.old file.now list.old result words.new list.new }
@@ -49,6 +51,7 @@ fn run_file(held: Held, file: &[u8], words: &mut [u64], list: &mut [u8]) -> Stop
 }
 
 // The set-up, refused or done, and then the file.
+#[tactic(auto, using(run::proofs::StartLaws::number_small))]
 fn set_up_and_run(
     held: Held,
     n: usize,
@@ -82,6 +85,7 @@ fn set_up_and_run(
 // it was refused, if it was, the commands done and the bytes written, all memory after it and the listing.
 // Ruled out: a refused command counted as done, a listing without its last line, the value in word 0 alone, 12 after
 // 60,000 commands.
+#[tactic(auto, using(crate::proofs::ListedLaws::no_room, crate::proofs::ListedLaws::with_room))]
 pub fn run_listed(
     held: Held,
     n: usize,

@@ -12,6 +12,7 @@ use listing::Writer;
 use text_runs::entry_loop::Carrier;
 
 // Each record is an entry of a run that has done none; the commands done are counted here.
+#[tactic(auto, using(crate::proofs::LoopLaws::first_record))]
 pub fn obey_records(held: Held, records: &[Record], words: &mut [u64], list: &mut [u8]) -> Stopped
     requires { (Between (fresh_state held words.old list.old)) × (length records.now ≤ 9999999) }
     ensures { Obeys (read records.now) (fresh_state held words.old list.old) (stopped_state result words.new list.new) }

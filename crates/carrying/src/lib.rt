@@ -11,6 +11,7 @@ use entry::state::Held;
 use entry::{entries, refusals, turn};
 use listing::Writer;
 use llsc::refusals::Refusal;
+use model::Process;
 use notation::Entry;
 use text_runs::entry_loop::Carrier;
 use text_runs::{entries as text_entries, limits};
@@ -63,7 +64,12 @@ impl Carrier for LentHeld {
         self.held.bench.x = turn.taken.x;
         self.held.bench.bank[tables::bank_place(i)] = turn.taken.bank;
         self.held.bench.help[tables::help_place(j)] = turn.taken.help;
-        self.held.all[k.record_place()] = turn.process;
-        Ok(entries::stays(e, turn.process.line))
+        // Field by field: a record copied whole takes its padding along, at each entry.
+        let line = turn.process.line;
+        self.held.all[k.record_place()] = Process {
+            line,
+            ..turn.process
+        };
+        Ok(entries::stays(e, line))
     }
 }

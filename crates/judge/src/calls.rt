@@ -152,6 +152,7 @@ pub(crate) fn width(numbers: &[u64]) -> usize
 
 // The index of a call's first number.
 // Kept: 0, where no call begins, keeps the product in range, as `first_of` says: a text has no call above 65,536.
+#[tactic(auto, using(crate::proofs::CallLaws::first_number))]
 pub(crate) fn first_of(numbers: &[u64], call: usize) -> usize
     ensures upper_bound { result ≤ 5000000 }
     ensures value { result ≡ first_of numbers.now call }

@@ -48,6 +48,7 @@ pub(crate) fn remark(to: &mut impl Write, log: Log) -> io::Result<()> {
     writeln!(to, "; a call of W = {w} has {}", 6 + w)
 }
 
+#[tactic(auto, using(crate::proofs::LineLaws::one_further, crate::proofs::LineLaws::last_line))]
 fn looked(text: &[u8], w: usize) -> Lines
     requires { w ≤ 64 }
     ensures { result ≡ lines_in text.now w }

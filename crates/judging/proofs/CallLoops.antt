@@ -140,3 +140,6 @@ pub lacks_none : (all : List Entry) (e : Head) → (e.kind ≡ 1 → ⊥)
     → (r : Option ℕ) → r ≡ first_from (λ f. leads e (head f)) 0 all → (b : Bool) → is_some r ≡ not b → b ≡ lacks_ll all e
 lacks_none all e ne r z b h =
     found_none (λ f. leads e (head f)) 0 all r z b h ∙ sym (ap (λ c. not (c || some (λ f. leads e (head f)) all)) (ne_eqb e.kind 1 ne))
+
+-- what `first` rests on
+pub ruleset first_laws = (first_stop, first_go, first_end)

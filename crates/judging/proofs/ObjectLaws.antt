@@ -1,19 +1,19 @@
 -- Figure 1's object as the code holds it.
 use mathlib.Core.Path.{◌≡◌, refl, sym, ap, ap₂, subst, ◌∙◌, fun_ext}
-use Prim.Native.Nat.{ℕ, suc, ◌+◌, ◌*◌, ◌<◌}
+use Prim.Native.Nat.{ℕ, suc, ◌+◌, ◌<◌}
 use mathlib.Core.List.{List, [], ◌∷◌}
 use mathlib.Core.Bool.{Bool, true, false, ◌&&◌, ◌||◌, cond}
 use native.Mathlib.Omega.{arith}
 use native.Mathlib.Decide.{ℕ_discrete}
 use lib.Dec.{eqb, leb}
 use lib.Pointwise.{pointwise}
-use lib.ListN.{length, get_or, set, take, drop}
-use lib.Seq.{drop-cons, drop-drop, get_or-set_same, get_or-set_other}
+use lib.ListN.{length, get_or, set, drop}
+use lib.Seq.{drop-cons, get_or-set_same, get_or-set_other}
 use borrow.Author.Tests.{eq-eqb, ne_eqb, leb-false}
 use Rattle.std.specs.Prelude.{Option, Some}
 use Rattle.llsc.specs.Answers.{ll_words, sc_truth, vl_truth}
 use Rattle.llsc.specs.Object.{ll, sc, vl, Object, fresh, set_at, tell, feed}
-use Rattle.verdicts.specs.Log.{Entry, width}
+use Rattle.verdicts.specs.Log.{Entry}
 use Rattle.verdicts.specs.declared.Fault.{Fault}
 use Rattle.verdicts.specs.declared.Fault.TheVariants.{Answer}
 use Rattle.verdicts.specs.Verdicts.{same_words, answers_alike}
@@ -24,11 +24,6 @@ use Rattle.judging.specs.Heads.{head, entry_at}
 use Rattle.judging.specs.Orders.{count, numbered_at, Fits}
 use Rattle.judging.specs.Objects.{words_held, object_of, Sane, told_alike, MovedOn, shown_at, not_alike_at}
 use Rattle.judging.proofs.CallLoops.{none_of}
-
--- the words of a call, read at their place
-pub words_at_place : (w k : ℕ) (log : List ℕ) (n at : ℕ) → n ≡ w → at ≡ k * width w + 6 → take n (drop at log) ≡ (entry_at w log k).words
-words_at_place w k log n at e z =
-    ap₂ (λ n at. take n (drop at log)) e (z ∙ (let y : k * width w + 6 ≡ k * width w + 6 = refl in y)) ∙ ap (take w) (sym (drop-drop 6 (k * width w) log))
 
 -- slices are compared word by word
 same_words_is : (xs ys : List ℕ) → pointwise eqb xs ys ≡ same_words xs ys

@@ -72,6 +72,7 @@ impl<'a> Calls<'a> {
 
     // The first call that passes a test, of those from an index on.
     // Kept: tried by `find`: its closure, which calls `head` and a test handed in, would need a `requires` of its own.
+    #[tactic(auto, using(crate::proofs::CallLoops::first_laws))]
     pub fn first<F: Fn(Head) -> bool>(&self, from: usize, passes: F) -> Option<usize>
         requires { F.IsAlwaysCallable passes }
         ensures { (f : Head → Bool) → Decides (F.post passes) f
@@ -86,6 +87,7 @@ impl<'a> Calls<'a> {
     }
 
     // The first call that can't stand beside a later one, and the first of those.
+    #[tactic(auto, using(crate::proofs::CallLoops::two_end))]
     pub fn first_two<F: Fn(Head, Head) -> bool>(&self, clash: F) -> Option<(usize, usize)>
         requires { F.IsAlwaysCallable clash }
         ensures { (r : Head → Head → Bool) → DecidesTwo (F.post clash) r
@@ -116,6 +118,7 @@ impl<'a> Calls<'a> {
 
 impl Admitted<'_> {
     // The call of an index, without its words: its process has one of sixteen links.
+    #[tactic(auto, using(crate::proofs::ObjectLaws::low_process))]
     pub(crate) fn head(&self, k: usize) -> Head
         requires { k < length self.now.calls.log.now / width self.now.calls.w }
         ensures value { result ≡ head (entry_at self.now.calls.w self.now.calls.log.now k) }

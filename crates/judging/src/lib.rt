@@ -63,6 +63,7 @@ fn earns(admitted: &Admitted, value: &[u64]) -> bool
 // The judge: N, W, the value with which the object begins, and the log, 6 + W numbers for each call.
 // Ruled out: a moment at its start's place, two moments that are one, an SC or VL with no LL before it, links that a
 // success leaves, 17 before 16, 513 calls.
+#[tactic(auto, using(crate::proofs::RefusalLaws::taken))]
 pub fn judge(n: usize, w: usize, value: &[u64], log: &[u64]) -> Verdict
     ensures { result ≡ judged n w value.now log.now }
 {

@@ -32,6 +32,7 @@ fn words_held<'a>(calls: &Calls<'a>, value: &'a [u64], held: &Held) -> &'a [u64]
 // Whether the object answers a call as the call says.
 // Kept: `k < count` is asked by the three functions that get an index: one of its own type would hold its log, as at
 // `Calls::head`.
+#[tactic(auto, using(crate::proofs::ObjectLaws::told_ll))]
 fn alike<'a>(admitted: &Admitted<'a>, value: &'a [u64], held: &Held, k: usize) -> bool
     requires call { k < count admitted.now.calls.w admitted.now.calls.log.now }
     requires sane { Sane admitted.now.calls.w admitted.now.calls.log.now held.now }
@@ -76,6 +77,7 @@ fn shown(admitted: &Admitted, held: &Held, k: usize) -> Shown
 }
 
 // The first call, in the order of the moments, that the object, begun with the value, does not answer alike.
+#[tactic(auto, using(crate::proofs::ObjectLaws::serve_go))]
 pub fn first_unlike<'a>(admitted: &Admitted<'a>, value: &'a [u64], order: &Order) -> Option<Fault>
     requires { SortedBy admitted.now.calls.w admitted.now.calls.log.now order.now }
     ensures { let es = entries admitted.now.calls.w admitted.now.calls.log.now in

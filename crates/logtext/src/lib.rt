@@ -99,6 +99,7 @@ fn byte(r: Reading, b: u8, numbers: &mut [u64]) -> Reading
 }
 
 // The numbers of a text, as many as there is room for; what lies behind them in the lent list stays.
+#[tactic(auto, using(crate::proofs::ReadingLaws::read_begin, crate::proofs::ReadingLaws::read_go))]
 pub fn read(text: &[u8], numbers: &mut [u64]) -> Reading
     ensures { (result, numbers.new) ≡ text_into text.now numbers.old }
 {
@@ -117,6 +118,7 @@ pub fn read(text: &[u8], numbers: &mut [u64]) -> Reading
 }
 
 // What the judge says of the numbers of a text, and why.
+#[tactic(auto, using(crate::proofs::ReadingLaws::judged_whole, crate::proofs::ReadingLaws::judged_short))]
 pub fn judge_numbers(numbers: &[u64]) -> Judgement
     requires { 2 ≤ length numbers.now }
     ensures { result ≡ judged_numbers numbers.now }

@@ -10,6 +10,7 @@ fn is_stray(b: u8) -> bool
 
 // The place at which the number of this index, from 0 on, begins: at a digit that comes after none.
 // Kept: `index` counts numbers and not bytes, so that the text can't be cut there before this has found the place.
+#[tactic(auto, using(crate::proofs::PlaceLaws::place_stop, crate::proofs::PlaceLaws::place_end))]
 pub fn number_place(text: &[u8], index: usize) -> usize
     ensures { result ≡ place_of index text.now }
 {

@@ -14,6 +14,7 @@ use verdicts::Judgement;
 // N, W, the value with which the object begins, and the log, 6 + W numbers for each call.
 // Ruled out: a no without a reason, a reason beside a yes, a later condition or a later call in place of the first, and
 // what the object answers once it has served the call.
+#[tactic(auto, using(judging::proofs::RefusalLaws::taken))]
 pub fn judge_with_reason(n: usize, w: usize, value: &[u64], log: &[u64]) -> Judgement
     ensures { result ≡ judged_with_reason n w value.now log.now }
 {

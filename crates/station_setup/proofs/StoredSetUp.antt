@@ -21,6 +21,7 @@ use Rattle.station_records.proofs.StoredLaws.{stored_firsts}
 use Rattle.station_setup.specs.StationSetUpByValue.{process_for, station_set_up_number, station_prepared}
 use Rattle.station_setup.proofs.StationSetUpLaws.{set_up_fits, set_up_law, prepared_number}
 use Rattle.station_setup.specs.SetUpGathered.{with_processes, set_up_gathered, stored_up}
+use Rattle.llsc.proofs.RefusalNumbers.{number_some}
 
 -- for a process of a set-up, the record is the set-up's
 for_process : (n r i : ℕ) (q : StationProcess) → n ≤ 16 → r ≤ 8 → i ≤ 16 → process_for n r i q ≡ station_process_at_set_up n r i q
@@ -87,3 +88,6 @@ set_up_same s ps ws n w r v =
     let a = set_up_fits n w r (length ps) (length ws) (length v) e in
     (a.n_most, (a.r_most, enough n w r (length ps) (length ws) (length v) e))))
     ∙ set_up_law s ps ws n w r v
+
+-- what `set_up_gathered` rests on
+pub ruleset gathered_laws = (number_some, few, all_stay, prepared_n)

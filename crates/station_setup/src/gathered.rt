@@ -7,7 +7,7 @@ use station_records::gathered::Gathered;
 use station_records::left::Left;
 
 // The set-up by value, but for the lent words, which it writes.
-#[tactic(auto, using(llsc::proofs::RefusalNumbers::number_some, crate::proofs::StoredSetUp::few, crate::proofs::StoredSetUp::all_stay))]
+#[tactic(auto, using(crate::proofs::StoredSetUp::gathered_laws))]
 pub fn set_up_gathered(
     lent: Gathered,
     n: usize,

@@ -2,18 +2,11 @@
 use mathlib.Core.Path.{sym, ap, ◌∙◌}
 use mathlib.Core.Bool.{cond}
 use Rattle.verdicts.specs.declared.Verdict.TheVariants.{Yes, No}
-use Rattle.judging.proofs.RefusalLaws.{taken}
 use Rattle.judging.proofs.JudgeLaws.{judged_refused, judged_as}
 use Rattle.judging.proofs.judge.Goals as goal
 
 pub returns-in-Err : goal.returns-in-Err
 returns-in-Err c = let a = c.args in judged_refused a.n a.w a.value.now a.log.now _ _ c.refusal.ensures c.in-Err.ensures
-
-pub invariant_of-calls : goal.invariant_of-calls
-invariant_of-calls c = let a = c.args in record { narrow = (taken a.n a.w a.value.now a.log.now (sym c.in_default.ensures)).narrow }
-
-pub invariant_of-admitted : goal.invariant_of-admitted
-invariant_of-admitted c = let a = c.args in record { fits = (taken a.n a.w a.value.now a.log.now (sym c.in_default.ensures)).fits }
 
 pub returns-then-earns : goal.returns-then-earns
 returns-then-earns c =

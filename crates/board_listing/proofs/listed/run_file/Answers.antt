@@ -1,14 +1,6 @@
 -- `board_listing::listed::run_file`: refused by its rows, or run.
-use mathlib.Core.Path.{sym}
-use native.Mathlib.Omega.{arith}
-use Rattle.board_listing.proofs.ListedLaws.{file_small, file_refused, file_run_is}
+use Rattle.board_listing.proofs.ListedLaws.{file_refused, file_run_is}
 use Rattle.board_listing.proofs.listed.run_file.Goals as goal
-
-pub refused-requires : goal.refused-requires
-refused-requires c = (file_small c.args.file.now (sym c.in-Err.ensures), c.requires.1)
-
-pub obey_records-done-requires : goal.obey_records-done-requires
-obey_records-done-requires c = (c.requires.0, omega (arith, c.in-Ok.ensures.few))
 
 pub returns-in-Ok : goal.returns-in-Ok
 returns-in-Ok c =

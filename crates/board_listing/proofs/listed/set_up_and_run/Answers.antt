@@ -10,14 +10,9 @@ use Rattle.run.specs.Finished.{memory_of}
 use Rattle.setup.specs.SetUpByValue.{Accepted}
 use Rattle.notation.specs.Grammar.{largest}
 use Rattle.entry.proofs.WordLaws.{prefix_length}
-use Rattle.run.proofs.StartLaws.{number_small, first_state_is}
+use Rattle.run.proofs.StartLaws.{first_state_is}
 use Rattle.board_listing.proofs.ListedLaws.{fits, lent, set_up_refused, begun_between, set_up_run}
 use Rattle.board_listing.proofs.listed.set_up_and_run.Goals as goal
-
-pub refused-requires : goal.refused-requires
-refused-requires c =
-    let x = c.args in
-    (omega (arith, c.in-Err.ensures, number_small x.n x.w 16 (length x.words.now) x.w), c.requires.1)
 
 pub returns-in-Err : goal.returns-in-Err
 returns-in-Err c =

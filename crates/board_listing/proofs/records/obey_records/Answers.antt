@@ -1,5 +1,5 @@
 -- `board_listing::records::obey_records`: the loop over a file's records.
-use mathlib.Core.Path.{◌≡◌, refl, sym, subst, ◌∙◌}
+use mathlib.Core.Path.{◌≡◌, subst, ◌∙◌}
 use mathlib.Core.Bool.{false}
 use Prim.Native.Nat.{ℕ, ◌+◌}
 use native.Mathlib.Omega.{arith}
@@ -9,20 +9,12 @@ use Rattle.std.specs.Prelude.{Ok, Err}
 use Rattle.llsc.specs.Refusals.{refusal_number}
 use Rattle.llsc.proofs.RefusalNumbers.{number_some}
 use Rattle.text_runs.specs.Carrying.{in_run, done_after, turn_number}
-use Rattle.entry.specs.RunState.{state_with, Sound}
+use Rattle.entry.specs.RunState.{state_with}
 use Rattle.carrying.specs.Carried.{lent_state}
 use Rattle.board_listing.specs.declared.ending.Stopped.{Stopped}
 use Rattle.board_listing.specs.ListedRun.{fresh_state}
-use Rattle.board_listing.proofs.LoopLaws.{Obeying, first_record, turned_becomes, not_stopped, in_list, refused, goes_on, all_done}
+use Rattle.board_listing.proofs.LoopLaws.{Obeying, turned_becomes, not_stopped, in_list, refused, goes_on, all_done}
 use Rattle.board_listing.proofs.records.obey_records.Goals as goal
-
-pub loop-done-init : goal.loop-done-init
-loop-done-init c = record { obeying = first_record c.args.records.now (fresh_state c.args.held c.args.words.now c.args.list.now) c.requires.0; lent = refl; same = refl }
-
-pub turn-requires : goal.turn-requires
-turn-requires c =
-    let l = c.loop-done in
-    (subst (λ (j : ℕ). Sound j (lent_state (in_run l.lent 0 false) 0 l.words l.to)) (sym l.invariant.lent) l.invariant.obeying.between.sound, c.entry_of-e.ensures.1)
 
 pub returns-in-Err : goal.returns-in-Err
 returns-in-Err c =

@@ -2,15 +2,10 @@
 use mathlib.Core.Path.{◌≡◌}
 use mathlib.Core.Bool.{false, not, ◌&&◌}
 use native.Mathlib.Omega.{arith}
-use Rattle.logtext.proofs.PlaceLaws.{place_stop, place_first, place_other, place_end}
+use Rattle.logtext.proofs.PlaceLaws.{place_first, place_other}
 use Rattle.logtext.proofs.number_places.number_place.Goals as goal
 use Rattle.logtext.proofs.number_places.number_place.Goals.{then-digit+then-not-inside+else-is_last, else-digit}
 use Rattle.logtext.proofs.number_places.number_place.Goals.{else-digit-via-then-digit+else-not-inside, else-digit-via-else-digit}
-
-pub returns-then-is_last : goal.returns-then-is_last
-returns-then-is_last c =
-    place_stop _ _ _ _ _ c.loop-i.invariant (omega arith) _ c.is_ascii_digit-digit.ensures.value
-    c.if-digit.true c.if-not-inside.true c.if-is_last.true
 
 pub loop-i-preserved : goal.loop-i-preserved
 loop-i-preserved c =
@@ -27,6 +22,3 @@ loop-i-preserved c =
           ] in
           place_other _ _ _ _ _ c.loop-i.invariant (omega arith) _ digit.ensures.value none _ _ w.left-is w.inside-is
     ]
-
-pub returns : goal.returns
-returns c = place_end _ _ _ _ _ c.loop-i.invariant (omega (arith, c.loop-i-test.false))

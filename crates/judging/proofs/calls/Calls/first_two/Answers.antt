@@ -1,7 +1,7 @@
 -- `judging::calls::Calls::first_two` meets its contract.
 use mathlib.Core.Path.{◌∙◌}
 use Rattle.judging.specs.Heads.{head, entry_at}
-use Rattle.judging.proofs.CallLoops.{two_stop, two_go, two_end}
+use Rattle.judging.proofs.CallLoops.{two_stop, two_go}
 use borrow.Author.Rules.{rules}
 use Rattle.judging.proofs.calls.Calls.first_two.Goals as goal
 
@@ -16,8 +16,3 @@ loop-k-preserved g c r d =
     let a = c.args.self.now in
     two_go a.w a.log.now (λ e f. r (head e) (head f)) c.loop-k.k (search rules)
     (c.in_default.ensures (r (head (entry_at a.w a.log.now c.loop-k.k))) (λ f b p. search rules)) ∙ c.loop-k.invariant r d
-
-pub returns : goal.returns
-returns g c r d =
-    let a = c.args.self.now in
-    two_end a.w a.log.now (λ e f. r (head e) (head f)) c.loop-k.k (search rules) ∙ c.loop-k.invariant r d
