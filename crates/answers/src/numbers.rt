@@ -31,17 +31,16 @@ fn digits_after(value: u64, text: &[u8]) -> Read<'_, u64>
     requires { value ≤ largest }
     ensures { GivesNumber result (digits_after value text.now) }
 {
-    let Some((digit, rest)) = digit(text) else {
-        return Ok((value, text));
-    };
-    if value == 0 {
-        return Err(text);
+    match digit(text) {
+        None => Ok((value, text)),
+        Some((digit, rest)) => {
+            if value == 0 || LARGEST < value * 10 + digit {
+                Err(text)
+            } else {
+                digits_after(value * 10 + digit, rest)
+            }
+        }
     }
-    let more = value * 10 + digit;
-    if LARGEST < more {
-        return Err(text);
-    }
-    digits_after(more, rest)
 }
 
 // A number.
