@@ -18,7 +18,7 @@ use Rattle.model.specs.declared.Process.{Process}
 use Rattle.lent.specs.Gathered.{gathered}
 use Rattle.setup.specs.SetUpByValue.{set_up_number, Accepted}
 use Rattle.setup.proofs.SetUpLaws.{set_up_fits}
-use Rattle.carrying.proofs.TurnLaws.{not_refused}
+use Rattle.run.proofs.TurnLaws.{not_refused}
 use Rattle.notation.specs.Grammar.{largest}
 use Rattle.boards.specs.Files.{decode, good_trailer, good_records, file_number}
 use Rattle.boards.specs.Places.{read, RightFile, WrongFile}
@@ -59,7 +59,7 @@ module _ (held : Held) (ws file list : List ℕ) where
   }
 
   pub file_run_is : {bs : List (List ℕ)} → RightFile file bs → {done out : Stopped} {ws' list' last : List ℕ}
-      → Obeys (read bs) (fresh_state held ws list) (stopped_state done ws' list')
+      → Obeys (read bs) (fresh_state held ws list 0) (stopped_state done ws' list')
       → ◌≡◌ {A = Stopped × List ℕ} (out, last) (closed done list') → RunsFile held ws file list out ws' last
   unfolding run_listed
   file_run_is {bs} f {done} {ws' = ws'} {list' = list'} o c = record {
@@ -99,7 +99,7 @@ module _ {list : List ℕ} (held : Held) (ws file : List ℕ) (x : Lending 16 he
     abbrev begins : RunState
     begins = first false held ws x n w k small (sym e ∙ z)
 
-    pub begun_between : Shaped before → {after : Held} {ws₁ : List ℕ} → fresh_state after ws₁ list ≡ begins → Between (fresh_state after ws₁ list)
+    pub begun_between : Shaped before → {after : Held} {ws₁ : List ℕ} → fresh_state after ws₁ list 0 ≡ begins → Between (fresh_state after ws₁ list 0)
     begun_between s q = subst Between (sym q) (record {
       sound = begun_sound false held ws x n w k small (sym e ∙ z) s;
       goes = refl;
@@ -108,7 +108,7 @@ module _ {list : List ℕ} (held : Held) (ws file : List ℕ) (x : Lending 16 he
       room = omega (arith, x.room);
     })
 
-    pub set_up_run : {after : Held} {out : Stopped} {ws₁ ws' list' : List ℕ} → fresh_state after ws₁ list ≡ begins → RunsFile after ws₁ file list out ws' list'
+    pub set_up_run : {after : Held} {out : Stopped} {ws₁ ws' list' : List ℕ} → fresh_state after ws₁ list 0 ≡ begins → RunsFile after ws₁ file list out ws' list'
         → end_of out ws' list' ≡ after_set_up before file list (set_up before n w v)
     unfolding set_up
     set_up_run q o =

@@ -21,9 +21,9 @@ use Rattle.board_listing.specs.BoardListing.{obey_all, run_listed, after_set_up}
 abbrev pub recounted : ℕ → Progress → Progress
 recounted k s = record { memory = s.memory; listing = s.listing; written = s.written; entries = k; stop = s.stop; traced = s.traced }
 
--- a run that has done none and written nothing
-abbrev pub fresh_state : Held → List ℕ → List ℕ → RunState
-fresh_state held ws list = state_with (fresh_run held false) 0 ws list 0
+-- a run that has done none, with so many bytes written
+abbrev pub fresh_state : Held → List ℕ → List ℕ → ℕ → RunState
+fresh_state held ws list written = state_with (fresh_run held false) 0 ws list written
 
 -- a run that has stopped
 abbrev pub stopped_state : Stopped → List ℕ → List ℕ → RunState

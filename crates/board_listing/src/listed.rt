@@ -38,12 +38,12 @@ fn refused(held: Held, cause: Refusal, list: &mut [u8]) -> Stopped
 // Kept: file, words and list come from the caller one by one, and go on so to three crates.
 #[tactic(auto, using(crate::proofs::ListedLaws::file_small))]
 fn run_file(held: Held, file: &[u8], words: &mut [u64], list: &mut [u8]) -> Stopped
-    requires { (Between (fresh_state held words.old list.old)) × (room_needed false ≤ length list.old) }
+    requires { (Between (fresh_state held words.old list.old 0)) × (room_needed false ≤ length list.old) }
     ensures { RunsFile held words.old file.now list.old result words.new list.new }
 {
     match right_records(file) {
         Ok(records) => {
-            let done = records::obey_records(held, records, words, list);
+            let done = records::obey_records(held, records, words, list, 0);
             ending::close(done, list)
         }
         Err(cause) => refused(held, cause, list),
@@ -51,6 +51,7 @@ fn run_file(held: Held, file: &[u8], words: &mut [u64], list: &mut [u8]) -> Stop
 }
 
 // The set-up, refused or done, and then the file.
+// Kept: the set-up as `run`'s `started` has it: one for both would promise these four, and that a refusal leaves all.
 #[tactic(auto, using(run::proofs::StartLaws::number_small))]
 fn set_up_and_run(
     held: Held,

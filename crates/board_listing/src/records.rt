@@ -6,19 +6,25 @@ ghost use Rattle.board_listing.specs.ListedRun.{fresh_state, stopped_state, Betw
 use crate::commands;
 use crate::ending::Stopped;
 use boards::records::Record;
-use carrying::LentHeld;
+use run::carrying::LentHeld;
 use entry::state::Held;
 use listing::Writer;
 use text_runs::entry_loop::Carrier;
 
-// Each record is an entry of a run that has done none; the commands done are counted here.
+// Behind the bytes that are written already. Each record is an entry of a run that has done none; the commands done are counted here.
 #[tactic(auto, using(crate::proofs::LoopLaws::first_record))]
-pub fn obey_records(held: Held, records: &[Record], words: &mut [u64], list: &mut [u8]) -> Stopped
-    requires { (Between (fresh_state held words.old list.old)) × (length records.now ≤ 9999999) }
-    ensures { Obeys (read records.now) (fresh_state held words.old list.old) (stopped_state result words.new list.new) }
+pub fn obey_records(
+    held: Held,
+    records: &[Record],
+    words: &mut [u64],
+    list: &mut [u8],
+    written: usize,
+) -> Stopped
+    requires { (Between (fresh_state held words.old list.old written)) × (length records.now ≤ 9999999) }
+    ensures { Obeys (read records.now) (fresh_state held words.old list.old written) (stopped_state result words.new list.new) }
 {
     let mut lent = LentHeld { held, len: 16 };
-    let mut to = Writer { list, written: 0 };
+    let mut to = Writer { list, written };
     for (done, bytes) in records.iter().enumerate() {
         let e = commands::entry_of(bytes);
         if let Err(cause) = lent.turn(false, 0, e, words, &mut to) {

@@ -84,6 +84,7 @@ module _ {traced : Bool} {k n w : ℕ} {e : Entry} {t : Taken} {q : Process} {ws
         turn_made w₂ = record {
           taken = ap (λ (x : Stepped). x.taken) same_stepped;
           process = ap (λ (x : Stepped). x.process) same_stepped;
+          reply = ap (λ (x : Stepped). x.reply) same_stepped;
           words = same_words_lem;
           wrote = writes_then wrote_shown (writes_same (sym same_answer) w₂);
         }

@@ -1,5 +1,5 @@
 -- One entry carried out on the places taken out for it, as the code does it.
--- Inner: `EntryLaws` proves that such an entry is `single` of `semantics/specs/TextRun`; crate `carrying` has the loop.
+-- Inner: `EntryLaws` proves that such an entry is `single` of `semantics/specs/TextRun`; `run::carrying` is a turn of the loop.
 use Rattle.std.specs.Prelude.{ℕ, ◌≡◌, List, [], ◌∷◌, ◌++◌, Bool, false, not, Option, Some, None, cond, eqb, ltb, leb, length}
 use Rattle.llsc.specs.declared.ProcessNumber.{ProcessNumber}
 use Rattle.model.specs.declared.Process.{Process}
@@ -56,6 +56,7 @@ pub record Turnable (traced : Bool) (k : ℕ) (e : Entry) (n w : ℕ) (t : Taken
 pub record Turns (traced : Bool) (k : ℕ) (e : Entry) (n w : ℕ) (t : Taken) (q : Process) (ws : List ℕ) (to : Writer) (r : Stepped) (ws' : List ℕ) (to' : Writer) : Type 0 where
   pub taken : r.taken ≡ (turned e n w t q ws).0.taken
   pub process : r.process ≡ (turned e n w t q ws).0.process
+  pub reply : r.reply ≡ (turned e n w t q ws).0.reply
   pub words : ws' ≡ (turned e n w t q ws).1
   pub wrote : Writes to (turn_lines traced k e n w t q ws) to'
 

@@ -11,7 +11,7 @@ use notation::Entry;
 use words::{word_places, word_runs};
 
 // The process whose record is looked at for a number of a text: process 0 where there is no such record.
-// Kept: no Option: the loop takes a record out before row 4 is looked at; one that row 4 refuses is not used.
+// Kept: no Option: a turn takes a record out before row 4 is looked at; one that row 4 refuses is not used.
 pub fn process_number(p: u64) -> ProcessNumber
     ensures { result ≡ record { 0 = place_of p } }
 {

@@ -6,16 +6,18 @@ use mathlib.Core.Bool.{Bool, true, false, not, ◌&&◌, cond}
 use lib.Dec.{eqb}
 use Rattle.std.specs.Prelude.{Option, Some, None, Ok, Err}
 use Rattle.std.specs.Option.{is_some}
+use Rattle.llsc.specs.Object.{fresh}
 use Rattle.llsc.specs.Rows.{every}
 use Rattle.llsc.specs.declared.refusals.Refusal.{Refusal}
 use Rattle.verdicts.specs.declared.Verdict.TheVariants.{Refused, Yes, No}
+use Rattle.verdicts.specs.declared.Fault.{Fault}
 use Rattle.verdicts.specs.declared.LogRefusal.{LogRefusal}
 use Rattle.verdicts.specs.Log.{Entry, entries}
 use Rattle.verdicts.specs.Verdicts.{each_two, kind_known, apart, differ, inside, served_alike, ll_before, earns_yes, said_of, judged}
-use Rattle.verdicts.specs.Reasons.{cause_of, log_refused}
-use Rattle.verdicts.proofs.ReasonLaws.{across, and_true, none, one_none, cause_told, checked_is}
+use Rattle.verdicts.specs.Reasons.{cause_of, log_refused, two_at_fault, not_alike, in_value, numbered_in_order}
+use Rattle.verdicts.proofs.ReasonLaws.{across, and_true, none, one_none, two_none, served_none, cause_told, checked_is}
 use Rattle.judging.specs.declared.heads.Head.{Head}
-use Rattle.judging.specs.Heads.{first_from}
+use Rattle.judging.specs.Heads.{head, first_from, first_unled}
 use Rattle.judging.proofs.CallLoops.{from_0, twice}
 use Rattle.judging.specs.Heads.{known as Heads·known, inside as Heads·inside, apart as Heads·apart}
 
@@ -49,16 +51,34 @@ abbrev pub clash : Head → Head → Bool
 clash e f = not (Heads·apart e f && not (eqb e.moment f.moment))
 
 -- the conditions in the order in which the code looks
-pub earns_is : (value : List ℕ) (es : List Entry) → earns_yes value es
+pub in_order : (value : List ℕ) (es : List Entry) → earns_yes value es
     ≡ (every (λ e. kind_known e && inside e) es && (each_two (λ e f. apart e f && differ e f) es && (every (ll_before es) es && served_alike value es)))
 unfolding earns_yes
-earns_is value es =
+in_order value es =
     sort_out (every kind_known es) (each_two apart es) (each_two differ es) (every inside es) (served_alike value es) (every (ll_before es) es)
     ∙ ap₂ (λ x y. x && (y && (every (ll_before es) es && served_alike value es))) (join_every kind_known inside es) (join_two apart differ es)
 
 -- none is found where each passes
 pub first_none : (f : Entry → Bool) (es : List Entry) → none (first_from (λ e. not (f e)) 0 es) ≡ every f es
 first_none f es = ap none (from_0 (λ e. not (f e)) es) ∙ one_none f es
+
+-- the same as the code looks for them, for the opposite: a first entry is found where one is at fault
+module _ (value : List ℕ) (es : List Entry) where
+  abbrev first_wrong : Option ℕ
+  first_wrong = first_from (λ e. wrong (head e)) 0 es
+
+  abbrev first_clash : Option (ℕ × ℕ)
+  first_clash = two_at_fault (λ e f. clash (head e) (head f)) 0 es
+
+  abbrev first_unlike : Option Fault
+  first_unlike = not_alike (fresh value) in_value (numbered_in_order es)
+
+  pub earns_is : earns_yes value es ≡ (none first_wrong && (none first_clash && (none (first_unled es) && none first_unlike)))
+  earns_is =
+      in_order value es
+      ∙ ap₂ (λ x y. x && (y && (every (ll_before es) es && served_alike value es)))
+      (sym (first_none (λ e. kind_known e && inside e) es)) (sym (two_none (λ e f. apart e f && differ e f) 0 es))
+      ∙ ap₂ (λ x y. none first_wrong && (none first_clash && (x && y))) (sym (first_none (ll_before es) es)) (sym (served_none value es))
 
 pub none_found : {A : Type 0} (r R : Option A) → r ≡ R → (b : Bool) → is_some r ≡ not b → {y : Bool} → none R ≡ y → b ≡ y
 none_found r R e b h v = twice b b refl ∙ ap not (sym h) ∙ sym (none_not r) ∙ ap none e ∙ v

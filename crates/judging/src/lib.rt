@@ -49,7 +49,7 @@ fn served_alike(admitted: &Admitted, value: &[u64]) -> bool
 }
 
 // Whether the log earns a yes, where nothing refuses it.
-#[tactic(auto, using(crate::proofs::JudgeLaws::earns_is))]
+#[tactic(auto, using(crate::proofs::JudgeLaws::in_order))]
 fn earns(admitted: &Admitted, value: &[u64]) -> bool
     ensures { result ≡ earns_yes value.now (entries admitted.now.calls.w admitted.now.calls.log.now) }
 {

@@ -48,7 +48,7 @@ ended_with s ps r ws list =
     record { number = number_told r.outcome; entries = r.entries; written = r.written; memory = left_stored s ps ws r.held; listing = list }
 
 -- what a text run answers where `all` holds the first sixteen of `len` lent process records: stored back, the run of
--- `station_run_text`
+-- `station_run_text`; where it stopped is not told
 pub record StationRan (s : Station) (all : List StationProcess) (len : ℕ) (ws text list : List ℕ) (r : Finished (Option Left)) (ws' list' : List ℕ) : Type 0 where
   pub stored : (ps : List StationProcess) → all ≡ gathered ps empty_process 16 → len ≡ length ps
       → ended_with s ps r ws' list' ≡ station_run_text (station_memory s ps ws) text list

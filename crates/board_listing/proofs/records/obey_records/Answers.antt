@@ -10,7 +10,7 @@ use Rattle.llsc.specs.Refusals.{refusal_number}
 use Rattle.llsc.proofs.RefusalNumbers.{number_some}
 use Rattle.text_runs.specs.Carrying.{in_run, done_after, turn_number}
 use Rattle.entry.specs.RunState.{state_with}
-use Rattle.carrying.specs.Carried.{lent_state}
+use Rattle.run.specs.Carried.{lent_state}
 use Rattle.board_listing.specs.declared.ending.Stopped.{Stopped}
 use Rattle.board_listing.specs.ListedRun.{fresh_state}
 use Rattle.board_listing.proofs.LoopLaws.{Obeying, turned_becomes, not_stopped, in_list, refused, goes_on, all_done}
@@ -35,7 +35,7 @@ loop-done-preserved c =
     let after = lent_state (in_run new.self (done_after r 0) false) (turn_number r) new.words new.to in
     let made = turned_becomes (lent_state (in_run l.lent 0 false) 0 l.words l.to) after l.invariant.lent t.kept.1 t.is t.sound t.kept.0.words t.kept.0.listing in
     record {
-      obeying = subst (λ (k : ℕ). Obeying c.args.records.now (fresh_state c.args.held c.args.words.now c.args.list.now)
+      obeying = subst (λ (k : ℕ). Obeying c.args.records.now (fresh_state c.args.held c.args.words.now c.args.list.now c.args.written)
           (state_with (in_run new.self.held 0 false) k new.words new.to.list.now new.to.written) (l.done + 1)) z
           (goes_on l.invariant.obeying (omega (arith, c.loop-done-test.true)) c.entry_of-e.ensures.0 c.entry_of-e.ensures.1 made z);
       lent = t.kept.1 ∙ l.invariant.lent;
