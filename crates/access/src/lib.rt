@@ -19,6 +19,7 @@ mod trace_lines;
 
 // A shared item with the values that are read or written there: two of X and of a place of Help, one of a place of Bank
 // and of a half word.
+// Kept: beside `doings::Item`: its variants with what each holds, so that item and values can't disagree.
 #[derive(Clone, Copy)]
 pub enum Values {
     X(XContent),
@@ -68,6 +69,7 @@ impl Act {
 }
 
 // An access: the line of Figure 2, and the act.
+// Kept: the line as a number, since a trace shows it as Figure 2 numbers its lines, and nothing chooses by it.
 #[derive(Clone, Copy)]
 pub struct Access {
     pub line: u8,

@@ -9,6 +9,7 @@ use model::{BufferNumber, Process};
 use words::word_places;
 
 // The half of place k of BUF[f], with that half of the word that lies at `from`.
+// Kept: a place in all words, here and in `write`, as `word_runs` has it.
 fn half_of(f: BufferNumber, k: usize, from: usize, words: &[u64]) -> Values
     requires { from < length words.now }
     ensures { result ≡ Values.Half f k (half k (get_or words.now from 0)) }

@@ -20,6 +20,7 @@ pub struct Sum {
 }
 
 // No answers.
+// Kept: no derived `Default`: `NO_SUM` says that nothing was answered, where `Sum::default()` would not.
 pub const NO_SUM: Sum = Sum {
     successes: 0,
     scs: 0,

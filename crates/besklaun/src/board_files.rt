@@ -31,6 +31,7 @@ pub struct BoardRun {
 // Kept: N, W, the initial number and the file one by one, as the C library's header declares them.
 // Wrong programs that this rules out: one that runs the file before its set-up is looked at; one that counts a refused
 // command as done; one that stops after 60,000 commands.
+#[tactic(auto, using(run::proofs::RecordLaws::fillers))]
 pub fn besklaun_run_board(
     n: usize,
     w: usize,

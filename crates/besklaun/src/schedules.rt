@@ -46,6 +46,7 @@ fn write(schedule: Schedule, turns: &mut [u8])
 // Kept: a, b and the number or the turns one by one, as the C library's header declares them.
 // Wrong programs that this rules out: one that writes a part of the turns where the bytes are too few; one that blanks
 // the bytes behind them.
+#[tactic(auto, using(enumeration::proofs::CountLaws::found_counted))]
 pub fn besklaun_schedule_for(a: usize, b: usize, number: u64, turns: &mut [u8]) -> FoundTurns
     ensures { (result, turns.new) ≡ schedule_into (found_for a b number) turns.old }
 {
@@ -81,6 +82,7 @@ pub fn besklaun_number_for(a: usize, b: usize, turns: &[u8]) -> TurnsNumber
 // The schedule after the one in the bytes lent, in its place.
 // Kept: a, b and the turns one by one, as the C library's header declares them.
 // Wrong program that this rules out: one that changes the turns of the last schedule.
+#[tactic(auto, using(enumeration::proofs::CountLaws::following_counted))]
 pub fn besklaun_schedule_after(a: usize, b: usize, turns: &mut [u8]) -> TurnsAfter
     ensures { (result, turns.new) ≡ after_into (following_for a b turns.old) turns.old }
 {

@@ -7,6 +7,7 @@ use entry::state::Held;
 pub use text_runs::returned::TextRun;
 
 // A run on a bench of its own, of its listing or, where `traced`, of its trace.
+#[tactic(auto, using(run::proofs::RecordLaws::fillers))]
 fn own_run(traced: bool, text: &[u8], into: &mut [u8]) -> TextRun
     ensures { (result, into.new) ≡ text_run traced text.now into.old }
 {

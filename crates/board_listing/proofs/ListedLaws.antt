@@ -18,7 +18,7 @@ use Rattle.model.specs.declared.Process.{Process}
 use Rattle.lent.specs.Gathered.{gathered}
 use Rattle.setup.specs.SetUpByValue.{set_up_number, Accepted}
 use Rattle.setup.proofs.SetUpLaws.{set_up_fits}
-use Rattle.carrying.proofs.TurnLaws.{not_refused}
+use Rattle.run.proofs.TurnLaws.{not_refused}
 use Rattle.notation.specs.Grammar.{largest}
 use Rattle.boards.specs.Files.{decode, good_trailer, good_records, file_number}
 use Rattle.boards.specs.Places.{read, RightFile, WrongFile}

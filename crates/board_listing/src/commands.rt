@@ -14,6 +14,7 @@ pub fn entry_of(bytes: &Record) -> Entry
 {
     let p = records::process(bytes) as u64;
     let value = records::value(bytes) as u64;
+    // Kept: numbers, as `records::order` gives any byte; the definition `entry_of` says which entry each is.
     match records::order(bytes) {
         0 => Entry::Step(p),
         1 => Entry::StartLl(p),

@@ -51,6 +51,7 @@ fn run_file(held: Held, file: &[u8], words: &mut [u64], list: &mut [u8]) -> Stop
 }
 
 // The set-up, refused or done, and then the file.
+// Kept: the set-up as `run`'s `started` has it: one for both would promise these four, and that a refusal leaves all.
 #[tactic(auto, using(run::proofs::StartLaws::number_small))]
 fn set_up_and_run(
     held: Held,

@@ -6,7 +6,7 @@ ghost use Rattle.board_listing.specs.ListedRun.{fresh_state, stopped_state, Betw
 use crate::commands;
 use crate::ending::Stopped;
 use boards::records::Record;
-use carrying::LentHeld;
+use run::carrying::LentHeld;
 use entry::state::Held;
 use listing::Writer;
 use text_runs::entry_loop::Carrier;

@@ -1,5 +1,5 @@
 -- One entry carried out on the places taken out for it, as the code does it.
--- Inner: `EntryLaws` proves that such an entry is `single` of `semantics/specs/TextRun`; crate `carrying` has the loop.
+-- Inner: `EntryLaws` proves that such an entry is `single` of `semantics/specs/TextRun`; `run::carrying` is a turn of the loop.
 use Rattle.std.specs.Prelude.{ℕ, ◌≡◌, List, [], ◌∷◌, ◌++◌, Bool, false, not, Option, Some, None, cond, eqb, ltb, leb, length}
 use Rattle.llsc.specs.declared.ProcessNumber.{ProcessNumber}
 use Rattle.model.specs.declared.Process.{Process}

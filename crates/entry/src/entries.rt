@@ -11,7 +11,7 @@ use notation::Entry;
 use words::{word_places, word_runs};
 
 // The process whose record is looked at for a number of a text: process 0 where there is no such record.
-// Kept: no Option: the loop takes a record out before row 4 is looked at; one that row 4 refuses is not used.
+// Kept: no Option: a turn takes a record out before row 4 is looked at; one that row 4 refuses is not used.
 pub fn process_number(p: u64) -> ProcessNumber
     ensures { result ≡ record { 0 = place_of p } }
 {
@@ -27,6 +27,7 @@ pub fn stays(e: Entry, line: u8) -> bool
 }
 
 // "The value k has k in all W words": those of a start of SC into the offer area. No other entry has any.
+#[tactic(auto, using(words::proofs::WordLaws::row_lies))]
 pub fn offer(e: Entry, n: usize, w: usize, p: ProcessNumber, words: &mut [u64])
     requires { Lent n w p words.old }
     ensures { words.new ≡ offered (order_of e) p n w (value_of w e) words.old }

@@ -1,5 +1,5 @@
 // One entry of a text run, by value, on the places taken out for it. Every function is inner; the loop over them is in
-// `carrying`.
+// `text_runs`.
 
 #![tactic(auto)]
 

@@ -8,7 +8,7 @@ use std::env::{Env, FillError};
 const LARGEST: u64 = 4294967295;
 
 // How many arguments the program was started with, its own name among them.
-// Kept: `usize::MAX` stands for none: where each argument below it is there, there are so many.
+// Kept: no Option: where each argument below `usize::MAX` is there, there are so many.
 pub(crate) fn count(rt: &impl Env) -> usize {
     let mut first = [0u8; 1];
     for i in 0..usize::MAX {

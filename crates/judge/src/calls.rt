@@ -122,6 +122,7 @@ impl fmt::Display for Words<'_> {
 }
 
 // The W numbers from an index on, as far as there are so many.
+// Kept: a place beside the numbers: `first_of` tells where a call's words begin, and may be past the end.
 fn words_from<'a>(numbers: &'a [u64], from: usize) -> Words<'a>
     ensures { result.0.now ≡ words_in numbers.now from }
 {
@@ -130,7 +131,7 @@ fn words_from<'a>(numbers: &'a [u64], from: usize) -> Words<'a>
 }
 
 // A number of the text, 0 where there is none.
-// Kept: one expression of std; 0 where the text lacks the number, as `part_of` says: a fault is of calls in the text.
+// Kept: 0 for a number that the text lacks, as `part_of` says: a fault's calls are in the text, so none is shown.
 pub(crate) fn at(numbers: &[u64], i: usize) -> u64
     ensures { result ≡ get_or numbers.now i 0 }
 {

@@ -35,6 +35,7 @@ pub(crate) fn tell(to: &mut impl Write, fault: Fault, count: usize, text: &[u8])
 }
 
 // Where the number of this index stands.
+// Kept: `index` counts numbers and not bytes, as at `number_place`, so that no text is cut there.
 fn number(to: &mut impl Write, text: &[u8], index: usize) -> io::Result<()> {
     let place = number_places::number_place(text, index);
     saying::position(to, Place::of(text, place))

@@ -30,8 +30,7 @@ fn words_held<'a>(calls: &Calls<'a>, value: &'a [u64], held: &Held) -> &'a [u64]
 }
 
 // Whether the object answers a call as the call says.
-// Kept: `k < count` is asked by the three functions that get an index: one of its own type would hold its log, as at
-// `Calls::head`.
+// Kept: `k < count` is asked: an index of a type of its own would have to hold the log it is of (`Calls::head`).
 #[tactic(auto, using(crate::proofs::ObjectLaws::told_ll))]
 fn alike<'a>(admitted: &Admitted<'a>, value: &'a [u64], held: &Held, k: usize) -> bool
     requires call { k < count admitted.now.calls.w admitted.now.calls.log.now }

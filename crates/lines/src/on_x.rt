@@ -1,5 +1,5 @@
 // The lines of Figure 2 that touch X. p is the process that steps.
-// Kept: p, the place and the process one by one, for Help too: they are a command's, a bench's and a process's.
+// Kept: p, the place and the process one by one, for Help too: a struct of the three would be made for one call alone.
 ghost use Rattle.std.specs.Prelude.{◌≡◌, cond};
 ghost use Rattle.model.specs.Places.{linked};
 ghost use Rattle.model.specs.Records.{to_line};
@@ -45,6 +45,7 @@ pub fn do_line_7(p: ProcessNumber, x: XPlace, process: Process) -> LineStep<XPla
 }
 
 // The VL(X) of line 12: only a process whose link is good banks x.buf.
+// Kept: a function for each VL(X) within a call, as each is a definition of 01; what they share is `valid`.
 pub fn do_line_12_valid(p: ProcessNumber, x: XPlace, process: Process) -> LineStep<XPlace>
     requires { Stepping p process }
     ensures { result ≡ do_line12_valid p x process }

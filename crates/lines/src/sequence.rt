@@ -1,7 +1,7 @@
 // The arithmetic of sequence numbers.
 ghost use Rattle.std.specs.Prelude.{◌≡◌, ◌%◌, ◌<◌, ◌≤◌};
 ghost use Rattle.model.specs.Tables.{next, helped};
-// Kept: `Sized n` is a clause, as n stands in a lent bench record, which may hold any number until row 1 is seen.
+// Kept: `Sized n` is a clause, as n comes from a lent record: a type would be made of it at each step, and here undone.
 ghost use Rattle.lines.specs.Ranges.{Sized};
 
 use llsc::ProcessNumber;

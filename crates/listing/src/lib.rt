@@ -11,6 +11,7 @@ ghost use Rattle.listing.specs.Writing.{Fits, Writes};
 const MOST_DIGITS: usize = 20;
 
 // Lent bytes that are written from the front on, and how many of them are written: the place of the next.
+// Kept: the bytes and how many are written: a reply tells that number, which the rest alone would not.
 #[derive(Drop)]
 pub struct Writer<'a> {
     pub list: &'a mut [u8],

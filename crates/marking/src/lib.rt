@@ -10,8 +10,7 @@ pub mod reading;
 
 // A shared item as a trace names it: X, a place of Bank or Help, or a half word of BUF, by its buffer, its word and which
 // half it is.
-// Kept: beside `doings::Item`, whose numbers are of declared kinds, as a trace's text may name any number, and names a
-// half of BUF by three numbers where an `Item` has two.
+// Kept: beside `doings::Item`: a trace's text may name any number, and a half of BUF by three, where an `Item` has two.
 #[derive(Clone, Copy, PartialEq, Eq)]
 pub enum NamedItem {
     X,

@@ -6,6 +6,7 @@ use Rattle.std.specs.Prelude.{Option}
 use Rattle.messages.specs.declared.calls.Call.{Call}
 use Rattle.messages.specs.declared.calls.Method.{Method}
 use Rattle.messages.specs.OpenLines.{open_line, open_lines}
+use Rattle.messages.proofs.Appending.{appends_none, appends_on}
 
 -- one line more
 pub lines_more : (m : Method) (p : ℕ) (cs : List (Option Call)) (c : Option Call)
@@ -25,3 +26,6 @@ lines_on m cs i d h =
     ap (open_lines m 0) (take_more cs i d h)
     ∙ lines_more m 0 (take i cs) (get_or cs i d)
     ∙ ap (λ k. open_lines m 0 (take i cs) ++ open_line m k (get_or cs i d)) all
+
+-- what `open_below` rests on
+pub ruleset below_laws = (appends_none, appends_on, lines_on)

@@ -12,7 +12,7 @@ use std::io::Write;
 const ORDER_MARK: [u8; 3] = [0xEF, 0xBB, 0xBF];
 
 // The fault at a place of the text, and where that is.
-// Kept: the place beside its text, which is where the run reports that it stopped; it is cut there once.
+// Kept: the place beside its text, as a run reports by a number where it stopped; the text is cut there here.
 pub(crate) fn at(
     to: &mut impl Write,
     refusal: Refusal,

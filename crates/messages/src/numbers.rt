@@ -18,6 +18,7 @@ pub(crate) fn out_of_range(to: &mut impl Write, refusal: Refusal, sizes: Sizes) 
 }
 
 // The column after a number at the beginning of a text and one space. Numbers are written one way only.
+#[tactic(auto, using(listing::proofs::FilledLaws::most))]
 fn column_after(n: u64) -> usize
     ensures { result ≡ length (decimal n) + 2 }
 {

@@ -28,6 +28,7 @@ pub(crate) fn still_open<W: Write>(to: &mut W, report: StopReport, left: &Left) 
 }
 
 // A line for each process below N that has an open call.
+#[tactic(auto, unfolding(crate::specs::OpenLines::open_lines), using(crate::proofs::LineLaws::below_laws))]
 fn open_below<W: Write>(to: &mut W, sizes: Sizes, left: &Left) -> io::Result<()>
     ensures { OnOk result (Appends (W.contents to.old) (W.contents to.new)
         (open_below left.now sizes)) }

@@ -169,7 +169,7 @@ pub fn process_at_set_up(mybuf: u8) -> Process
 }
 
 // The number of a refusal, 0 for none.
-// Kept: 01's table says that the number is what is returned, and users compare it.
+// Kept: 01's table says that the number is what is returned, and users compare it; Moir's Reply is a type of its own.
 pub fn number_of(reply: Reply) -> u8
     ensures { result ≡ number_of reply }
 {

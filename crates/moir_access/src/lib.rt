@@ -38,6 +38,7 @@ pub enum Act {
 }
 
 // An access: the line of Figure 6, the item, the act.
+// Kept: the line as a number, since a trace shows it as Figure 6 numbers its lines, and nothing chooses by it.
 #[derive(Clone, Copy)]
 pub struct Access {
     pub line: u8,

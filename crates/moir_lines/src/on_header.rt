@@ -1,4 +1,5 @@
 // The lines of Figure 6 that touch the header.
+// Kept: a bound of the count as a clause: a type would be remade where a line hands on a changed record.
 ghost use Rattle.std.specs.Prelude.{◌≡◌, ◌<◌};
 ghost use Rattle.moir_model.specs.Lines.{gone_on, do_line10, saves, do_line13, do_line14, cas_header, do_line19};
 ghost use Rattle.moir_lines.specs.Answers.{answered_by};

@@ -14,7 +14,7 @@ pub mod setting_up;
 
 // `all` holds the first sixteen lent records, with a filler where there are fewer; `len` is how many were lent. The caller
 // stores the record of an order that is obeyed.
-// Kept: p, order and value one by one: `refusal` takes any p and the value's length, `obey` a `ProcessNumber` and words.
+// Kept: p, order and value one by one: `refusal` takes any p and a length, `obey` a `ProcessNumber` and words.
 #[tactic(auto, using(crate::proofs::ObeyLaws::process_lent, crate::proofs::ObeyLaws::obeyable))]
 pub fn decide(
     bench: Bench,

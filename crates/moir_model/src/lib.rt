@@ -65,6 +65,7 @@ pub enum Reply {
 }
 
 // What a line makes of its own process, with its reply.
+// Kept: beside `model`'s `WordStep`, as each bench has its own process and reply.
 #[derive(Clone, Copy)]
 pub struct LineStep {
     pub process: Process,
@@ -107,7 +108,7 @@ pub fn process_at_set_up() -> Process
 }
 
 // The number of a refusal, 0 for none.
-// Kept: 01's table says that the number is what is returned, and users compare it.
+// Kept: 01's table says that the number is what is returned, and users compare it; `model`'s Reply is another type.
 pub fn number_of(reply: Reply) -> u8
     ensures { result ≡ number_of reply }
 {

@@ -12,6 +12,7 @@ pub fn lent_words(count: Processes, width: Width) -> usize
 }
 
 // The highest count of a busy process.
+// Kept: beside `model`'s own, as 01 and CR 8 give each bench a most of its own.
 pub fn busy_most(width: Width) -> usize
     ensures { result ≡ busy_most width.w }
 {

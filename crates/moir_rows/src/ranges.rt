@@ -42,7 +42,7 @@ pub fn line_ok(process: Process) -> bool
 }
 
 // An idle process has count 0, a busy one at most 6W+1.
-// Kept: beside `rows`' own, whose most is 8W+6: one over idle, count and most would leave each its call and its contract.
+// Kept: beside `rows`' own, whose most is 8W+6: one over idle, count and most would leave each its call and contract.
 pub fn count_ok(width: Width, process: Process) -> bool
     ensures { result ≡ count_ok width.w process }
 {
@@ -77,7 +77,7 @@ pub fn records_ok(count: Processes, width: Width, all: [Process; 16]) -> bool
 }
 
 // Row 9, over the bench and the records.
-// Kept: N's and W's bounds as a clause. The bench is lent, with any numbers; rows 1 and 2, which come first, ask for these.
+// Kept: N's and W's bounds as a clause: the bench is lent, with any numbers; rows 1 and 2 come first and ask for them.
 #[tactic(auto, unfolding(moir_model::specs::Refusals::in_range))]
 pub fn in_range(bench: Bench, all: [Process; 16]) -> bool
     requires { (bench.n ≤ 16) × (bench.w ≤ 64) }

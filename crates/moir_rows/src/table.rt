@@ -12,7 +12,7 @@ use rows::causes;
 use rows::table::Lent;
 
 // Rows 1, 2, 3, with which a command and a set-up begin: the first that holds.
-// Kept: beside `rows`' own, as the words that are needed are Moir's, and `lent_words` asks that rows 1 and 2 don't hold.
+// Kept: beside `rows`' own, as the words needed are Moir's, and `lent_words` asks that rows 1 and 2 don't hold.
 #[tactic(auto, unfolding(crate::specs::CommandRows::lent_number))]
 pub fn lent_refusal(lent: Lent) -> Result<(), Refusal>
     ensures { number_told result ≡ lent_number lent.n lent.w lent.records lent.words }

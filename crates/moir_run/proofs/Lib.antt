@@ -1,4 +1,3 @@
-pub mod FarLaws
 pub mod EntryLaws
 pub mod TurnLaws
-pub mod StartLaws
+pub mod SetUpLaws

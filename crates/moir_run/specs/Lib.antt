@@ -1,4 +1,3 @@
 pub mod TextRan
 pub mod RunState
 pub mod Turned
-pub mod Finished

@@ -5,11 +5,16 @@ use Rattle.notation.specs.declared.Entry.{Entry}
 use Rattle.text_runs.specs.TextRun.{most_entries, lines_of}
 use Rattle.text_runs.specs.Runs.{last_room}
 use Rattle.text_runs.proofs.SingleEntries.{outcome}
+use Rattle.moir_model.specs.Machine.{Memory}
 use Rattle.moir_semantics.specs.TextRun.{figure6, Progress}
 use Rattle.moir_semantics.proofs.SmallWords.{Small}
 use Rattle.listing.specs.declared.Writer.{Writer}
 use Rattle.text_runs.specs.declared.runs.Run.{Run}
 use Rattle.moir_run.specs.declared.turns.Held.{Held}
+
+-- its memory, with the lent words
+abbrev pub memory_of : Held → List ℕ → Memory
+memory_of held ws = record { bench = held.bench; records = held.all; words = ws }
 
 -- the run, with the number that it stops with, 0 while it goes on, the lent words and where its listing goes
 abbrev pub progress : Run Held → ℕ → List ℕ → Writer → Progress

@@ -4,6 +4,7 @@
 #![tactic(auto)]
 
 mod entries;
+mod starter;
 pub mod texts;
 mod turns;
 mod written_lines;

@@ -5,7 +5,7 @@ ghost use Rattle.text_runs.specs.Carrying.{in_run};
 ghost use Rattle.moir_model.specs.Machine.{obey};
 ghost use Rattle.moir_steps.specs.Ranges.{Obeyable};
 ghost use Rattle.moir_semantics.specs.TextRun.{figure6};
-ghost use Rattle.moir_run.specs.RunState.{progress, Sound, Free};
+ghost use Rattle.moir_run.specs.RunState.{memory_of, progress, Sound, Free};
 
 use crate::{entries, written_lines};
 use listing::Writer;
@@ -21,6 +21,7 @@ use text_runs::entry_loop::Carrier;
 use text_runs::{limits, lists, traces};
 
 // What a run holds: bench and records.
+// Kept: beside `entry`'s own, as one for both would have a type parameter for each field.
 #[derive(Clone, Copy)]
 pub struct Held {
     pub bench: Bench,
@@ -72,6 +73,8 @@ fn accepted(
 
 impl Carrier for Held {
     ghost machine = { figure6 };
+
+    ghost memory = { λ held ws. memory_of held ws };
 
     ghost progress = { λ r k ws to. progress r k ws to };
 

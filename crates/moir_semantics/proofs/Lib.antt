@@ -4,3 +4,4 @@ pub mod LineLengths
 pub mod TableLengths
 pub mod TraceTruth
 pub mod Theorems
+pub mod FarLaws

@@ -13,7 +13,7 @@ use moir_lines::{on_array, on_header, on_segment, records};
 use moir_model::{Bench, Moved, Process};
 
 // Lines 2 and 3.
-// Kept: beside `step_6`, for one function over both would take the line as a closure, and a clause for what it computes.
+// Kept: beside `step_6`: one function over both would take the line as a closure, and a clause for what it computes.
 pub fn step_2(copy: CopyOf, before: &Before<'_>) -> Moved
     ensures { (result, before.now.words.now) ≡ step2 (copy_line copy 4) (copy_line copy 7) (copy_header copy before.now.process) before.now.bench.now before.now.process before.now.words.now }
 {

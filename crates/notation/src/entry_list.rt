@@ -4,6 +4,7 @@ ghost use Rattle.std.specs.Prelude.{[], ◌∷◌, ◌≤◌, length};
 use crate::{Entry, entry_words, turns};
 
 // How many of the numbers are entries.
+// Kept: the list and a count: a group's entries are copied within it, which the rest alone could not give.
 #[derive(Drop)]
 pub struct EntryList<'a> {
     pub list: &'a mut [u64],

@@ -39,7 +39,6 @@ fn broken(place: usize) -> Fault
 
 // Kept: a reader, a depth and a list go apart through three readers, since the depth is each level's own.
 // Kept: `Placeable` is asked, and no fact of each `Reader`, since a first line is read from a text of any length.
-
 // A group with `n` turns, read from its `(` on, where groups may stand `depth` deep.
 #[cycle(read_group_read_item_read_items)]
 #[tactic(auto, using(crate::proofs::CursorLaws::group_laws))]

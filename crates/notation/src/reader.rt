@@ -6,6 +6,7 @@ ghost use Rattle.notation.specs.Grammar.{largest, digit_ok, count_ok};
 use crate::{Entry, Follow, Kind, Start, class, entry_of};
 
 // The text, and the place up to which it is read.
+// Kept: the text and a place, not the rest of it: an entry keeps its item's place, and a fault tells its own.
 #[derive(Drop)]
 pub struct Reader<'a> {
     pub text: &'a [u8],

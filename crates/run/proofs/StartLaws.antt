@@ -93,7 +93,7 @@ module _ {len : ℕ} {list : List ℕ} (t : Bool) (held : Held) (ws : List ℕ) 
         begun t (record { bench = bench_at_set_up held.bench n w; records = l; words = words_at_set_up ws n w (replicate w k) }) list 0)
         (take_sets len held.all 0 new_records in_lent)
 
-    set_up_done : set_up (memory_of held len ws) n w (replicate w k) ≡ (0, at_set_up (memory_of held len ws) n w (replicate w k))
+    pub set_up_done : set_up (memory_of held len ws) n w (replicate w k) ≡ (0, at_set_up (memory_of held len ws) n w (replicate w k))
     unfolding set_up
     set_up_done = let e : set_up_refusal (memory_of held len ws) n w (replicate w k) ≡ 0 = sym (set_up_same held len ws n w k x.few x.filled) ∙ z in rw e
 

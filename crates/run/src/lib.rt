@@ -3,5 +3,7 @@
 
 #![tactic(auto)]
 
+pub mod carrying;
 pub mod set_up;
+mod starter;
 pub mod text_run;

@@ -6,6 +6,8 @@
 use entry::state::Held;
 use std::process::ExitCode;
 
+// Kept: alike in five programs but for the run and the rooms, which stand between what they share.
+#[tactic(auto, using(run::proofs::RecordLaws::fillers))]
 fn main(rt: HostRuntime) -> ExitCode {
     let mut text = [0; 16385];
     let got = console::read_full(&mut rt.stdin(), &mut text);

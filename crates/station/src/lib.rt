@@ -31,6 +31,7 @@ pub struct Holding {
 
 // A process: what it holds of each record, and its one open call, with that call's record number, 0 when idle.
 // Its return area and its offer area lie in the lent words.
+// Kept: `count` is of the call's steps, not of `holdings`; `called` is 0 when idle, as row 9 asks of a lent record.
 #[derive(Clone, Copy, Default)]
 pub struct StationProcess {
     pub holdings: [Holding; 8],
@@ -63,6 +64,7 @@ pub struct Station {
 }
 
 // The tables of a record before any set-up.
+// Kept: written out: tried as a derived `Default`, which the check does not find equal to the definition.
 fn empty_tables() -> Tables
     ensures { result ≡ empty_tables }
 {
@@ -74,6 +76,7 @@ fn empty_tables() -> Tables
 }
 
 // A station record before any set-up, for a program to lend.
+// Kept: written out, as `empty_tables`.
 pub fn empty_station() -> Station
     ensures { result ≡ empty_station }
 {

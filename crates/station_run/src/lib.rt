@@ -71,6 +71,7 @@ fn processes_ran(
 }
 
 // Nothing is left to store where the run was refused before its set-up: its bench is then not set up, and has N = 0.
+// Kept: N = 0 tells it, which only a bench that `bench_before` made has: a run hands back what it was lent.
 #[tactic(auto, unfolding(crate::specs::TextByValue::put_back), using(run::proofs::RecordLaws::sixteen_most))]
 fn put_back(station: Station, all: [StationProcess; 16], held: Held) -> Option<Left>
     ensures { result ≡ put_back station all held }

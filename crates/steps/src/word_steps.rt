@@ -35,6 +35,7 @@ pub fn read_word(
 }
 
 // Line 11: a half word of the return area into BUF[mybuf].
+// Kept: a function for each area that is read or written; what is alike is `copy_half` and `halves`.
 pub fn step_11(rows: FirstRows, p: ProcessNumber, process: Process, words: &mut [u64]) -> WordStep
     requires { Moves rows.w process (return_in (layout_from rows) rows.w p (word_of process.word)) (buffer_in (layout_from rows) rows.w process.mybuf (word_of process.word)) words.old }
     ensures { (result, words.new) ≡ written_word (layout_from rows) rows.w (return_in (layout_from rows) rows.w p (word_of process.word)) (do_line11 (halves rows.w) process) process words.old }

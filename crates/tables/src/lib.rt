@@ -11,6 +11,7 @@ use llsc::ProcessNumber;
 use model::{BankPlace, Bench, HelpPlace, SequenceNumber, XPlace};
 
 // The place in Bank that a sequence number names.
+// Kept: no `usize::from` of each kind, by which either table could be asked by the other's numbers.
 pub fn bank_place(i: SequenceNumber) -> usize
     ensures { result ≡ i.0 }
 {

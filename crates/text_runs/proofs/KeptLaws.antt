@@ -7,7 +7,6 @@ use native.Mathlib.Omega.{arith}
 use lib.Dec.{eqb, ltb, leb}
 use lib.ListN.{length, take}
 use borrow.Author.Tests.{eqb-true, eqb-false, leb-false, ne_eqb}
-use Rattle.llsc.specs.declared.Order.{Order}
 use Rattle.notation.specs.declared.Entry.{Entry}
 use Rattle.notation.specs.declared.Entry.TheVariants.{StartLl, StartVl, StartSc, Step, Finish}
 use Rattle.notation.specs.EntryWords.{kept_process, kept_entry}
@@ -15,18 +14,13 @@ use Rattle.text_runs.specs.Machines.{Machine}
 use Rattle.text_runs.specs.TextRun.{most_entries, room_needed, process_of, order_of, value_of}
 use Rattle.text_runs.specs.TextRun.{Progress, stopped, replied, commanded, single, unanswered, steps, finish, carry, carry_all}
 use Rattle.text_runs.specs.StopPlaces.{stop_index}
+use Rattle.text_runs.specs.Whole.{FarRefused}
 use Rattle.text_runs.proofs.SingleEntries.{outcome}
 
 -- what holds of both arms of a test, each where it is taken
 pub either : {A : Type 0} (P : A → Type 0) (t : Bool) {a b : A} → (t ≡ true → P a) → (t ≡ false → P b) → P (cond t a b)
 either P true f g = f refl
 either P false f g = g refl
-
--- A process number above 15 is none of N: on this memory its commands are all refused, and with one number.
-pub record FarRefused (M : Machine) (m : M.Memory) : Type 0 where
-  pub number : ℕ
-  pub some : number ≡ 0 → ⊥
-  pub refused : (p : ℕ) (o : Order) (v : List ℕ) → 16 ≤ p → M.number_of (M.command m p o v).0 ≡ number
 
 module _ (M : Machine) where
   -- what holds of a run that goes on after an entry that is one command: it went on before, fewer than 60,000 entries were done, and the command left it so

@@ -8,6 +8,7 @@ pub mod MiddleLaws
 pub mod LoopLaws
 pub mod TextLaws
 pub mod StopLaws
+pub mod WholeLaws
 pub mod FaultLaws
 pub mod LastLaws
 pub mod TraceLengths

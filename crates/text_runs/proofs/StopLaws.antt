@@ -28,7 +28,8 @@ use Rattle.text_runs.specs.Machines.{Machine}
 use Rattle.text_runs.specs.TextRun.{Progress, process_of, room_needed, longest_text, begun, carry, carry_all}
 use Rattle.text_runs.specs.StopPlaces.{reported_process, sizes, at_no_item, at_entry, stop_index, item_report, started_report, StopInText, StopsAt}
 use Rattle.text_runs.specs.KeptEntries.{entries_in, places_in, word_report, said_with, report_with}
-use Rattle.text_runs.proofs.KeptLaws.{FarRefused, kept_run, kept_index}
+use Rattle.text_runs.proofs.KeptLaws.{kept_run, kept_index}
+use Rattle.text_runs.specs.Whole.{FarRefused}
 use Rattle.text_runs.specs.Carrying.{Over}
 
 -- two reports of items are the same if they are where the run is stopped

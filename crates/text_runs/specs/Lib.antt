@@ -7,3 +7,4 @@ pub mod Parts
 pub mod Runs
 pub mod Carrying
 pub mod Returned
+pub mod Whole

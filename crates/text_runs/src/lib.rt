@@ -10,4 +10,5 @@ pub mod lists;
 pub mod reports;
 pub mod returned;
 pub mod runs;
+pub mod texts;
 pub mod traces;

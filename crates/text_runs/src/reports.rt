@@ -21,6 +21,7 @@ fn word_item(word: u64) -> Item
 }
 
 // The item that stopped a run at a place of its list; none where none did.
+// Kept: `at` is a place of `kept` where the run was refused, as `carry_out` leaves it, and is not looked at else.
 pub fn stop_report(
     n: u64,
     w: u64,

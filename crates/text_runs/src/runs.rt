@@ -12,6 +12,7 @@ use llsc::refusals::Refusal;
 use positions::StopReport;
 
 // A run in progress: what its bench holds, the entries done, and whether it writes a trace. Its lines go to a writer.
+// Kept: `traced` is what the user asked for, and no field hangs on it.
 #[derive(Clone, Copy)]
 pub struct Run<H> {
     pub held: H,
@@ -33,6 +34,7 @@ impl<H: Copy> Run<H> {
 }
 
 // The run after its list, its place in it, that of the entry that was refused, or the end; and why it was refused.
+// Kept: `at` beside `outcome`: it is a place at the end too, as `Over` says (`stop_index`).
 #[derive(Clone, Copy)]
 pub struct Carried<H> {
     pub run: Run<H>,

@@ -15,6 +15,7 @@ pub struct NextCall {
 }
 
 // The reply of the command that the turn gave, or a pass.
+// Kept: no `Option<Reply>`: 02, CR 5 answers "the command's reply, or pass", and users match on these two names.
 #[derive(Clone, Copy)]
 pub enum TurnReply {
     Replied(Reply),

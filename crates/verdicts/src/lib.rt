@@ -84,6 +84,7 @@ impl LogRefusal {
 }
 
 // The verdict, with why it is no, or with what a refusal is about.
+// Kept: three verdicts, as `Verdict`; each with what is told of it.
 #[derive(Clone, Copy, PartialEq, Eq)]
 pub enum Judgement {
     Refused(LogRefusal),

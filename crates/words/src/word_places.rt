@@ -17,6 +17,7 @@ pub fn buffer_word(w: usize, b: BufferNumber, k: usize) -> usize
 }
 
 // Where word k of p's return area lies.
+// Kept: beside `offer_word`, as 01 names both areas; what they share is `FirstRows`.
 pub fn return_word(n: usize, w: usize, p: ProcessNumber, k: usize) -> usize
     requires { (n ≤ 16) × ((w ≤ 64) × (k < 64)) }
     ensures { result ≡ return_word n w p k }
@@ -58,6 +59,7 @@ pub fn with_half(k: usize, u: u64, v: u64) -> u64
 }
 
 // One half of a word is copied. Both words are places that the functions above give.
+// Kept: two places in all words, as `word_runs` has them.
 pub fn copy_half(words: &mut [u64], k: usize, from: usize, to: usize)
     requires { (from < length words.old) × (to < length words.old) }
     ensures { words.new ≡ copied_half words.old k from to }

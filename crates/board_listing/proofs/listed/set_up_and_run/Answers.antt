@@ -4,7 +4,7 @@ use mathlib.Core.Bool.{false}
 use Prim.Native.Nat.{ℕ, ◌≤◌}
 use native.Mathlib.Omega.{arith}
 use lib.ListN.{length, length-replicate}
-use Rattle.carrying.proofs.TurnLaws.{not_refused}
+use Rattle.run.proofs.TurnLaws.{not_refused}
 use Rattle.model.specs.Machine.{Shaped}
 use Rattle.run.specs.Finished.{memory_of}
 use Rattle.setup.specs.SetUpByValue.{Accepted}

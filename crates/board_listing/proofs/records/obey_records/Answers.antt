@@ -10,7 +10,7 @@ use Rattle.llsc.specs.Refusals.{refusal_number}
 use Rattle.llsc.proofs.RefusalNumbers.{number_some}
 use Rattle.text_runs.specs.Carrying.{in_run, done_after, turn_number}
 use Rattle.entry.specs.RunState.{state_with}
-use Rattle.carrying.specs.Carried.{lent_state}
+use Rattle.run.specs.Carried.{lent_state}
 use Rattle.board_listing.specs.declared.ending.Stopped.{Stopped}
 use Rattle.board_listing.specs.ListedRun.{fresh_state}
 use Rattle.board_listing.proofs.LoopLaws.{Obeying, turned_becomes, not_stopped, in_list, refused, goes_on, all_done}

@@ -2,7 +2,7 @@
 use mathlib.Core.Path.{sym, ap, ◌∙◌}
 use lib.ListN.{take}
 use Rattle.moir_run.proofs.EntryLaws.{value_some}
-use Rattle.moir_run.proofs.StartLaws.{prefix_length}
+use Rattle.moir_run.proofs.SetUpLaws.{prefix_length}
 use Rattle.moir_run.proofs.turns.obeyed.Goals as goal
 
 pub slice_bounds-obey-end : goal.slice_bounds-obey-end

@@ -1,6 +1,0 @@
--- `schedule::main`: the records that it hands over are fillers.
-use Rattle.run.proofs.RecordLaws.{fillers}
-use Rattle.schedule.proofs.main.Goals as goal
-
-pub run_by_value-out-requires : goal.run_by_value-out-requires
-run_by_value-out-requires c = fillers c.empty-held.result c.empty-held.ensures
