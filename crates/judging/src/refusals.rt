@@ -54,6 +54,7 @@ fn not_after_start(calls: &Calls) -> Option<usize>
 }
 
 // Refuses for the first cause that holds.
+// Kept: an `if` for each: for `or_else` each flag and place would first be made an Option of a refusal, in a closure.
 #[tactic(auto, unfolding(verdicts::specs::Reasons::log_refused))]
 pub fn checked(n: usize, w: usize, value: &[u64], log: &[u64]) -> Result<(), LogRefusal>
     ensures { result ≡ log_refused n w value.now log.now }

@@ -46,6 +46,7 @@ fn outside(calls: &Calls) -> Option<Fault>
 }
 
 // The first condition that fails, where nothing refuses the log.
+// Kept: an `if let` for each: tried by `or_else`, where the check does not find what the chain of closures answers.
 #[tactic(auto, unfolding(verdicts::specs::Reasons::reason_of_no))]
 pub fn reason_of_no(admitted: &Admitted, value: &[u64]) -> Option<Fault>
     ensures { result ≡ reason_of_no value.now (entries admitted.now.calls.w admitted.now.calls.log.now) }
