@@ -1,4 +1,4 @@
-// What access a step makes, and its line of a trace. All functions are inner: the trace is made of them.
+// What access a step makes, and what a trace shows of it. All functions are inner: the trace is made of them.
 
 #![tactic(auto)]
 

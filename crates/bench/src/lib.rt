@@ -15,7 +15,7 @@ use llsc::Order;
 use llsc::refusals::number_of;
 use model::Reply;
 use station::{Station, StationProcess};
-use station_records::gathered::{Gathered, gather};
+use station_records::gathered::gather;
 use station_rows::commands::{Command, Ordered};
 use station_setup::gathered::set_up_gathered;
 pub use text_runs::returned::TextRun;
@@ -104,12 +104,8 @@ pub fn run_text(
     }
         ≡ station_run_text (station_memory station.old processes.old words.old) text.now listing.old }
 {
-    let Gathered {
-        station: s,
-        all,
-        len,
-    } = gather(*station, processes);
-    let out = station_run::run_by_value(s, all, len, words, text, listing);
+    let gathered = gather(*station, processes);
+    let out = station_run::run_by_value(gathered, words, text, listing);
     if let Some(left) = out.held {
         left.store(station, processes);
     }

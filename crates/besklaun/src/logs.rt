@@ -15,22 +15,24 @@ pub struct Judgement {
     pub yes: bool,
 }
 
-fn judgement_of(verdict: Verdict) -> Judgement
-    ensures { result ≡ judgement_of verdict }
-{
-    match verdict {
-        Verdict::Refused(refusal) => Judgement {
-            number: refusal.number(),
-            yes: false,
-        },
-        Verdict::Yes => Judgement {
-            number: 0,
-            yes: true,
-        },
-        Verdict::No => Judgement {
-            number: 0,
-            yes: false,
-        },
+impl From<Verdict> for Judgement {
+    ghost from_gives = { λ verdict told. told ≡ judgement_of verdict };
+
+    fn from(verdict: Verdict) -> Judgement {
+        match verdict {
+            Verdict::Refused(refusal) => Judgement {
+                number: refusal.number(),
+                yes: false,
+            },
+            Verdict::Yes => Judgement {
+                number: 0,
+                yes: true,
+            },
+            Verdict::No => Judgement {
+                number: 0,
+                yes: false,
+            },
+        }
     }
 }
 
@@ -42,14 +44,14 @@ fn judgement_of(verdict: Verdict) -> Judgement
 pub fn besklaun_judge(n: usize, w: usize, value: &[u64], log: &[u64]) -> Judgement
     ensures { result ≡ judgement_of (judged n w value.now log.now) }
 {
-    judgement_of(judging::judge(n, w, value, log))
+    Judgement::from(judging::judge(n, w, value, log))
 }
 
 // The same with the reason: the first condition that fails, 0 for none, the calls at fault by their index, and what the
 // object would have answered; of a refusal the call that it is about. 0 and false where they mean nothing.
 // Kept: no enum crosses to C.
 #[repr(C)]
-#[derive(Clone, Copy)]
+#[derive(Clone, Copy, Default)]
 pub struct Reasoned {
     pub number: u8,
     pub yes: bool,
@@ -64,67 +66,61 @@ pub struct Reasoned {
 fn plain_no() -> Reasoned
     ensures { result ≡ plain_no }
 {
-    Reasoned {
-        number: 0,
-        yes: false,
-        condition: 0,
-        given: false,
-        truth: false,
-        call: 0,
-        other: 0,
-    }
+    Reasoned::default()
 }
 
-fn fault_of(fault: Fault) -> Reasoned
-    ensures { result ≡ fault_of fault }
-{
-    let no = plain_no();
-    match fault {
-        Fault::Unknown(call) => Reasoned {
-            condition: 1,
-            call,
-            ..no
-        },
-        Fault::Overlap(call, other) => Reasoned {
-            condition: 2,
-            call,
-            other,
-            ..no
-        },
-        Fault::Moment(call, other) => Reasoned {
-            condition: 3,
-            call,
-            other,
-            ..no
-        },
-        Fault::Outside(call) => Reasoned {
-            condition: 4,
-            call,
-            ..no
-        },
-        Fault::Answer(call, Shown::Value) => Reasoned {
-            condition: 5,
-            call,
-            given: true,
-            ..no
-        },
-        Fault::Answer(call, Shown::WordsOf(other)) => Reasoned {
-            condition: 5,
-            call,
-            other,
-            ..no
-        },
-        Fault::Answer(call, Shown::Truth(truth)) => Reasoned {
-            condition: 5,
-            call,
-            truth,
-            ..no
-        },
-        Fault::Unled(call) => Reasoned {
-            condition: 6,
-            call,
-            ..no
-        },
+impl From<Fault> for Reasoned {
+    ghost from_gives = { λ fault told. told ≡ fault_of fault };
+
+    fn from(fault: Fault) -> Reasoned {
+        let no = plain_no();
+        match fault {
+            Fault::Unknown(call) => Reasoned {
+                condition: 1,
+                call,
+                ..no
+            },
+            Fault::Overlap(call, other) => Reasoned {
+                condition: 2,
+                call,
+                other,
+                ..no
+            },
+            Fault::Moment(call, other) => Reasoned {
+                condition: 3,
+                call,
+                other,
+                ..no
+            },
+            Fault::Outside(call) => Reasoned {
+                condition: 4,
+                call,
+                ..no
+            },
+            Fault::Answer(call, Shown::Value) => Reasoned {
+                condition: 5,
+                call,
+                given: true,
+                ..no
+            },
+            Fault::Answer(call, Shown::WordsOf(other)) => Reasoned {
+                condition: 5,
+                call,
+                other,
+                ..no
+            },
+            Fault::Answer(call, Shown::Truth(truth)) => Reasoned {
+                condition: 5,
+                call,
+                truth,
+                ..no
+            },
+            Fault::Unled(call) => Reasoned {
+                condition: 6,
+                call,
+                ..no
+            },
+        }
     }
 }
 
@@ -145,18 +141,20 @@ fn refused_of(number: u8, place: Option<Place>) -> Reasoned
     }
 }
 
-fn reasoned_of(said: verdicts::Judgement) -> Reasoned
-    ensures { result ≡ reasoned_of said }
-{
-    match said {
-        verdicts::Judgement::Refused(refusal) => {
-            refused_of(refusal.refusal().number(), refusal.place())
+impl From<verdicts::Judgement> for Reasoned {
+    ghost from_gives = { λ said told. told ≡ reasoned_of said };
+
+    fn from(said: verdicts::Judgement) -> Reasoned {
+        match said {
+            verdicts::Judgement::Refused(refusal) => {
+                refused_of(refusal.refusal().number(), refusal.place())
+            }
+            verdicts::Judgement::Yes => Reasoned {
+                yes: true,
+                ..plain_no()
+            },
+            verdicts::Judgement::No(fault) => Reasoned::from(fault),
         }
-        verdicts::Judgement::Yes => Reasoned {
-            yes: true,
-            ..plain_no()
-        },
-        verdicts::Judgement::No(fault) => fault_of(fault),
     }
 }
 
@@ -164,5 +162,5 @@ fn reasoned_of(said: verdicts::Judgement) -> Reasoned
 pub fn besklaun_judge_with_reason(n: usize, w: usize, value: &[u64], log: &[u64]) -> Reasoned
     ensures { result ≡ reasoned_of (judged_with_reason n w value.now log.now) }
 {
-    reasoned_of(reasons::judge_with_reason(n, w, value, log))
+    Reasoned::from(reasons::judge_with_reason(n, w, value, log))
 }

@@ -11,7 +11,8 @@ use listing::Writer;
 use run::carrying::LentHeld;
 use text_runs::entry_loop::Carrier;
 
-// Behind the bytes that are written already. Each record is an entry of a run that has done none; the commands done are counted here.
+// Behind the bytes that are written already. Each record is an entry of a run that has done none; the commands done are
+// counted here.
 #[tactic(auto, using(crate::proofs::LoopLaws::first_record))]
 pub fn obey_records(
     held: Held,

@@ -31,7 +31,7 @@ pub fn read_full<R: Read>(from: &mut R, room: &mut [u8]) -> usize
     ensures bytes { Consumes (R.remaining from.old) (R.remaining from.new) (take result room.new) }
 {
     let mut done = 0;
-    // Kept: a while: each read says how far it came, and `read_exact` would not tell how much of a shorter input it read.
+    // Kept: a while: each read says how far it came; `read_exact` would not tell how much of a shorter input it read.
     while done < room.len() {
         match from.read(&mut room[done..]) {
             Ok(0) | Err(_) => break,

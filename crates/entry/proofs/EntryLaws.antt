@@ -146,9 +146,6 @@ module _ {len : ℕ} {h : RunState} (e : Entry) (small : Small e) (s : Sound len
       pub place_same : place_of p ≡ p
       place_same = simp (lt-ltb p 16 process_small)
 
-      pub seen_own : seen ≡ q
-      seen_own = ap (λ (k : ℕ). get_or list k no_process) place_same
-
       pub one_more_small : h.run.entries + 1 ≤ 60000
       one_more_small = omega (arith, free.entries)
 

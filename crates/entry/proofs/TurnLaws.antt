@@ -3,8 +3,6 @@ use mathlib.Core.Path.{◌≡◌, sym, ap, ◌∙◌}
 use mathlib.Core.Bool.{Bool}
 use mathlib.Core.List.{List}
 use Prim.Native.Nat.{ℕ}
-use native.Mathlib.Omega.{arith}
-use lib.ListN.{length}
 use Rattle.std.specs.Prelude.{Option}
 use Rattle.model.specs.declared.Process.{Process}
 use Rattle.llsc.specs.declared.Order.{Order}
@@ -14,13 +12,13 @@ use Rattle.steps.specs.Steps.{offered, obey_on}
 use Rattle.notation.specs.declared.Entry.{Entry}
 use Rattle.listing.specs.declared.Writer.{Writer}
 use Rattle.listing.specs.Writing.{Fits, Writes}
-use Rattle.listing.proofs.WritingLaws.{writes_then, writes_same, fits_same, fits_first, fits_then}
+use Rattle.listing.proofs.WritingLaws.{writes_then, writes_same, fits_same, fits_first}
 use Rattle.access.specs.declared.Access.{Access}
 use Rattle.access.specs.TraceLines.{access_text}
 use Rattle.text_runs.specs.Parts as P
 use Rattle.text_runs.specs.TextRun.{process_of, order_of, value_of}
 use Rattle.semantics.specs.TextRun.{answers}
-use Rattle.entry.specs.RunState.{answer_line, Listable, shown_line}
+use Rattle.entry.specs.RunState.{answer_line, shown_line}
 use Rattle.entry.specs.Turned.{number_of, turned, access_seen, Turnable, Turns}
 
 module _ {traced : Bool} {k n w : ℕ} {e : Entry} {t : Taken} {q : Process} {ws : List ℕ} {to : Writer} (f : Turnable traced k e n w t q ws to) where
@@ -67,17 +65,6 @@ module _ {traced : Bool} {k n w : ℕ} {e : Entry} {t : Taken} {q : Process} {ws
       module _ {to₁ : Writer} (w₁ : Writes to (P.shown_line access_text k a e answered) to₁) where
         wrote_shown : Writes to shown to₁
         wrote_shown = writes_same (sym is_shown) w₁
-
-        pub answer_listable : Listable st.reply p n w ws₂ to₁
-        answer_listable =
-            let l = f.ready.lent in
-            record {
-              process = omega (arith, ep, l.process);
-              n_most = l.n_most;
-              w_most = l.w_most;
-              lent = omega (arith, l.words, ap length same_words_lem, f.lent);
-              room = fits_same (sym same_answer) (fits_then answer f.fits wrote_shown);
-            }
 
         pub turn_made : {to₂ : Writer} → Writes to₁ (answer_line n w ws₂ p st.reply) to₂
             → Turns traced k e n w t q ws to st ws₂ to₂

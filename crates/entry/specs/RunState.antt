@@ -1,5 +1,5 @@
 -- The run as the code holds it, what holds of it at every moment, and what its inner functions promise of it.
--- Inner: `progress` gives `TextRun`'s run of it, and `RunLaws` (crate `run`) puts the promises together to that run.
+-- Inner: `progress` gives `TextRun`'s run of it, and `TurnLaws` (crate `run`) proves that an entry of it is `single`.
 use Rattle.std.specs.Prelude.{◌≡◌, ℕ, ◌+◌, ◌≤◌, ◌<◌, List, [], Option, length, get_or, take, replicate}
 use Rattle.model.specs.declared.Process.{Process}
 use Rattle.model.specs.declared.Reply.{Reply}

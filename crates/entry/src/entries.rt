@@ -27,6 +27,7 @@ pub fn stays(e: Entry, line: u8) -> bool
 }
 
 // "The value k has k in all W words": those of a start of SC into the offer area. No other entry has any.
+#[tactic(auto, using(words::proofs::WordLaws::row_lies))]
 pub fn offer(e: Entry, n: usize, w: usize, p: ProcessNumber, words: &mut [u64])
     requires { Lent n w p words.old }
     ensures { words.new ≡ offered (order_of e) p n w (value_of w e) words.old }

@@ -12,6 +12,7 @@ use taken::{Stepped, Taken};
 use text_runs::{entries as text_entries, traces};
 
 // The k-th entry of a run. What a trace shows is seen in the places before the step, and is the very step that is made.
+#[tactic(auto, using(text_runs::proofs::ShownLaws::shown_if, crate::proofs::TurnLaws::turn_made))]
 pub fn carry(
     traced: bool,
     k: usize,

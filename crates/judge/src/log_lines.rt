@@ -1,9 +1,10 @@
 // The line of a log, written a call to a line, that has another number of numbers: what is at fault where one is lost.
-ghost use Rattle.std.specs.Prelude.{◌≡◌, ◌≤◌};
+ghost use Rattle.std.specs.Prelude.{◌≡◌};
 ghost use Rattle.judge.specs.LogLines.{more_by, together_of, is_odd_line, ended_line, on_byte, lines_in};
 
 use crate::calls;
 use crate::calls::Log;
+use llsc::counts::Width;
 use std::io;
 use std::io::Write;
 
@@ -33,7 +34,7 @@ pub(crate) fn remark(to: &mut impl Write, log: Log) -> io::Result<()> {
     if w == 0 {
         return Ok(());
     }
-    let seen = looked(log.text, w);
+    let seen = looked(log.text, Width { w });
     let odd = match seen.odd {
         Some(odd) if seen.calls > 0 => odd,
         _ => return Ok(()),
@@ -49,9 +50,8 @@ pub(crate) fn remark(to: &mut impl Write, log: Log) -> io::Result<()> {
 }
 
 #[tactic(auto, using(crate::proofs::LineLaws::one_further, crate::proofs::LineLaws::last_line))]
-fn looked(text: &[u8], w: usize) -> Lines
-    requires { w ≤ 64 }
-    ensures { result ≡ lines_in text.now w }
+fn looked(text: &[u8], width: Width) -> Lines
+    ensures { result ≡ lines_in text.now width.w }
 {
     let mut s = Lines {
         line: 1,
@@ -62,18 +62,17 @@ fn looked(text: &[u8], w: usize) -> Lines
         odd: None,
     };
     for b in text {
-        s = on_byte(s, *b, w);
+        s = on_byte(s, *b, width);
     }
-    ended(s, w)
+    ended(s, width)
 }
 
 #[tactic(auto, unfolding(crate::specs::LogLines::on_byte))]
-fn on_byte(s: Lines, b: u8, w: usize) -> Lines
-    requires { w ≤ 64 }
-    ensures { result ≡ on_byte s b w }
+fn on_byte(s: Lines, b: u8, width: Width) -> Lines
+    ensures { result ≡ on_byte s b width.w }
 {
     if b == b'\n' {
-        return ended(s, w);
+        return ended(s, width);
     }
     let digit = positions::is_digit(b);
     Lines {
@@ -85,9 +84,8 @@ fn on_byte(s: Lines, b: u8, w: usize) -> Lines
 
 // The line ends here.
 #[tactic(auto, unfolding(crate::specs::LogLines::ended_line))]
-fn ended(s: Lines, w: usize) -> Lines
-    requires { w ≤ 64 }
-    ensures { result ≡ ended_line s w }
+fn ended(s: Lines, width: Width) -> Lines
+    ensures { result ≡ ended_line s width.w }
 {
     let odd = Odd {
         line: s.line,
@@ -99,8 +97,8 @@ fn ended(s: Lines, w: usize) -> Lines
         before: together(s.before, s.here),
         here: 0,
         inside: false,
-        calls: more(s.calls, s.here == 6 + w),
-        odd: if is_odd(s, w) { Some(odd) } else { s.odd },
+        calls: more(s.calls, s.here == 6 + width.w),
+        odd: if is_odd(s, width) { Some(odd) } else { s.odd },
     }
 }
 
@@ -121,10 +119,10 @@ fn together(a: usize, b: usize) -> usize
 }
 
 // Whether the line is the first that has numbers, but not those of a call, nor of N, W and the value alone.
-fn is_odd(s: Lines, w: usize) -> bool
-    requires { w ≤ 64 }
-    ensures { result ≡ is_odd_line s w }
+fn is_odd(s: Lines, width: Width) -> bool
+    ensures { result ≡ is_odd_line s width.w }
 {
+    let w = width.w;
     if s.odd.is_some() || s.here == 0 {
         false
     } else if s.before < 2 + w {

@@ -13,7 +13,7 @@ pub enum Moves {
     Halves,
 }
 
-// Kept: `place` beside `moves`, not in it: the record has a word place at each line; the words of a message alone choose.
+// Kept: `place` beside `moves`, not in it: the record has a place at each line; the words of a message alone choose.
 #[derive(Clone, Copy, PartialEq, Eq)]
 pub struct Call {
     pub kind: Kind,

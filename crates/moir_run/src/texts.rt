@@ -1,5 +1,4 @@
-// A whole text: "A text run takes 14 at its start, then 12 for length, then 10 and 11 over the whole text, then 1, 2, 3, then
-// the set-up, then the entries".
+// The text run on Moir's bench, on a memory of its own: the run of `text_runs` on that.
 ghost use Rattle.std.specs.Prelude.{◌≡◌, replicate};
 ghost use Rattle.moir_model.specs.Records.{no_process};
 ghost use Rattle.moir_run.specs.TextRan.{TextRan};

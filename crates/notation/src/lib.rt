@@ -3,10 +3,10 @@
 
 #![tactic(auto)]
 
-mod entry_list;
+pub mod entry_list;
 pub mod entry_words;
 pub mod items;
-mod reader;
+pub mod reader;
 mod turns;
 
 ghost use Rattle.std.specs.Prelude.{◌≡◌};

@@ -11,7 +11,7 @@ pub const MOST_PROCESSES: usize = 16;
 pub const MOST_WORDS: usize = 64;
 
 // Row 1.
-// Kept: beside row 2's, and row 23's in `station_rows`: one comparison each, which a row's name says to its callers.
+// Kept: beside row 2's, and row 23's in `station_rows`: one range each, which a row's name says to its callers.
 pub fn n_out_of_range(n: usize) -> bool
     ensures { result ≡ (row1 n).holds }
 {

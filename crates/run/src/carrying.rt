@@ -1,4 +1,5 @@
-// The entries of a text carried out on the bench of Figure 2, one after the other.
+// One entry of a text on the bench of Figure 2: refused, or carried out where bench and records stand. The loop is
+// `text_runs`'.
 
 ghost use Rattle.std.specs.Prelude.{refl};
 ghost use Rattle.semantics.specs.TextRun.{figure2};

@@ -16,8 +16,8 @@ use rows::table::Lent;
 use text_runs::lists;
 use text_runs::texts::Starter;
 
-// Bench and records at the set-up. An array has as many places as its type says, which a caller learns here of a bench behind
-// a reference.
+// Bench and records at the set-up. An array has as many places as its type says, which a caller learns here of a bench
+// behind a reference.
 fn at_set_up(held: Held, count: Processes, w: usize) -> Held
     ensures is { result ≡ record { bench = bench_at_set_up held.bench count.n w; all = records_at_set_up held.all count.n } }
     ensures shaped { Shaped (memory_of held 0 []) }

@@ -1,5 +1,4 @@
-// A whole text run (01, "When the bench says no"): "A text run takes 14 at its start, then 12 for length, then 10 and
-// 11 over the whole text, then 1, 2, 3, then the set-up, then the entries".
+// The text run on this bench by value: what is lent to it, and the run of `text_runs` on that.
 ghost use Rattle.std.specs.Prelude.{◌≡◌, take};
 ghost use Rattle.model.specs.Records.{no_process};
 ghost use Rattle.lent.specs.Gathered.{gathered};

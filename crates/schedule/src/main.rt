@@ -6,7 +6,7 @@
 use entry::state::Held;
 use std::process::ExitCode;
 
-// Kept: alike in five programs but for the run and the rooms, which stand between what they share.
+// Kept: alike in five programs but for the run, the rooms and swaps' marks, which stand between what they share.
 #[tactic(auto, using(run::proofs::RecordLaws::fillers))]
 fn main(rt: HostRuntime) -> ExitCode {
     let mut text = [0; 16385];

@@ -13,6 +13,7 @@ use entry::state::Held;
 use model::{Bench, Process};
 use run::text_run;
 use station::{RecordNumber, Station, StationProcess, Tables};
+use station_records::gathered::Gathered;
 use station_records::left::Left;
 use text_runs::runs::Finished;
 
@@ -89,20 +90,19 @@ fn put_back(station: Station, all: [StationProcess; 16], held: Held) -> Option<L
     })
 }
 
-// `all` holds the first sixteen of `len` lent process records, with a filler where there are fewer.
+// What is lent, gathered: `all` holds the first sixteen of `len` process records, with a filler where there are fewer.
 #[tactic(auto, using(crate::proofs::StoredRun::run_put_back))]
 pub fn run_by_value(
-    station: Station,
-    all: [StationProcess; 16],
-    len: usize,
+    lent: Gathered,
     words: &mut [u64],
     text: &[u8],
     listing: &mut [u8],
 ) -> Finished<Option<Left>>
-    requires { LentProcesses all len }
-    ensures { StationRan station all len words.old text.now listing.old
+    requires { LentProcesses lent.all lent.len }
+    ensures { StationRan lent.station lent.all lent.len words.old text.now listing.old
         result words.new listing.new }
 {
+    let Gathered { station, all, len } = lent;
     let held = Held {
         bench: bench_before(station),
         all: records_before(all),

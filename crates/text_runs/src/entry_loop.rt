@@ -16,8 +16,8 @@ use notation::{Entry, entry_words};
 
 // What a bench holds of a run, with which it carries out one entry after the other.
 pub trait Carrier: Copy {
-    // Its machine; its memory with the lent words; what a run is on it, with the number of the refusal that stopped it; what
-    // holds at every moment; and how many records are lent.
+    // Its machine; its memory with the lent words; what a run is on it, with the number of the refusal that stopped it;
+    // what holds at every moment; and how many records are lent.
     ghost machine: { Machine };
 
     ghost memory: { Self → List ℕ → machine.Memory };
@@ -30,7 +30,7 @@ pub trait Carrier: Copy {
 
     // One entry of a run that goes on, after so many: refused, or carried out with its lines; and then whether it stays, as
     // `!` does until its call answers.
-    // Kept: `traced` and `done` by value beside it: over `&mut Run` `schedule` took 17.0 million instructions, not 13.4.
+    // Kept: `traced` and `done` by value: over `&mut Run` `schedule` took 17.0 million instructions, not 13.4.
     fn turn(
         &mut self,
         traced: bool,

@@ -1,4 +1,4 @@
-// What a text run is, over any machine, and the parts of one that every bench has. Every function is inner.
+// What a text run is, over any machine, and the run by value, over what a bench does of it. Every function is inner.
 
 #![tactic(auto)]
 

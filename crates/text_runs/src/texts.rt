@@ -39,6 +39,7 @@ pub trait Starter: Carrier {
 }
 
 // "then 1, 2, 3, then the set-up, then the entries": those of the list.
+// Kept: `held` and `traced` one by one, here and in `checked`: a run that is refused hands back `held` alone.
 fn started<B: Starter>(
     held: B,
     traced: bool,
@@ -71,7 +72,7 @@ fn started<B: Starter>(
 }
 
 // "then 10 and 11 over the whole text": its items are read once, into the list of its entries.
-// Kept: text ends here, words and list go on to the loop; a struct of three borrows would be taken apart by this function.
+// Kept: text ends here, words and list go on to the loop: a struct of the three would be taken apart by this function.
 fn checked<B: Starter>(
     held: B,
     traced: bool,

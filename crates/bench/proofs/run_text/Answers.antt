@@ -17,7 +17,7 @@ returns c =
     let ps = a.processes.now in
     let out = c.run_by_value-out in
     let ws = out.new.words in
-    let gathered = c.gather-len.ensures in
+    let gathered = c.gather-gathered.ensures in
     let back : station_memory c.match-out.station c.match-out.processes ws ≡ left_stored a.station.now ps ws out.result.held =
     elim c.match-out.branch [ in-Some w ↦ left_is a.station.now ps ws w.in-Some.left w.in-Some.is (w.station-is ∙ w.store.ensures.station) (w.processes-is ∙ w.store.ensures.processes) | in_default w ↦ none_left a.station.now ps ws w.in_default.is w.station-is w.processes-is ] in
     ap₂ (λ (t : TextRun) (m : StationMemory). record { number = t.number; entries = t.entries; written = t.written; memory = m; listing = out.new.listing })

@@ -1,4 +1,4 @@
--- `gather`: each element is the record lent there, or the other one.
+-- `lent::gather`: each element is the record lent there, or the other one.
 use borrow.Author.Rules.{rules}
 use native.Mathlib.Omega.{arith}
 use lib.ListN.{get_or}

@@ -4,4 +4,4 @@ use Rattle.station_run.proofs.run_by_value.Goals as goal
 
 pub run_by_value-out-requires : goal.run_by_value-out-requires
 run_by_value-out-requires c =
-    records_again c.args.all c.args.len c.requires c.records_before.result c.records_before.ensures
+    records_again c.args.lent.all c.args.lent.len c.requires c.records_before.result c.records_before.ensures
