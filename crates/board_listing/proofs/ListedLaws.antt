@@ -4,32 +4,27 @@ use mathlib.Core.List.{List}
 use mathlib.Core.Bool.{Bool, true, false, not, cond}
 use Prim.Native.Nat.{ℕ, ◌≤◌, ◌<◌}
 use native.Mathlib.Omega.{arith}
-use lib.ListN.{length, take, replicate}
+use lib.ListN.{length, replicate}
 use borrow.Author.Tests.{eq-eqb, ne_eqb, lt-ltb, le-ltb}
-use Rattle.std.specs.Prelude.{Result, Err}
+use Rattle.std.specs.Prelude.{Ok, Err}
 use Rattle.llsc.specs.declared.refusals.Refusal.{Refusal}
-use Rattle.llsc.specs.Refusals.{refusal_number, number_told}
+use Rattle.llsc.specs.Refusals.{refusal_number}
 use Rattle.llsc.proofs.RefusalNumbers.{number_some}
 use Rattle.board_listing.specs.declared.ending.Stopped.{Stopped}
-use Rattle.model.specs.Records.{no_process}
-use Rattle.model.specs.Machine.{Memory, Shaped}
-use Rattle.model.specs.SetUp.{at_set_up, set_up_refusal, set_up}
-use Rattle.model.specs.declared.Process.{Process}
-use Rattle.lent.specs.Gathered.{gathered}
-use Rattle.setup.specs.SetUpByValue.{set_up_number, Accepted}
-use Rattle.setup.proofs.SetUpLaws.{set_up_fits}
-use Rattle.run.proofs.TurnLaws.{not_refused}
-use Rattle.notation.specs.Grammar.{largest}
+use Rattle.model.specs.Machine.{Memory}
+use Rattle.model.specs.SetUp.{set_up}
 use Rattle.boards.specs.Files.{decode, good_trailer, good_records, file_number}
 use Rattle.boards.specs.Places.{read, RightFile, WrongFile}
 use Rattle.text_runs.specs.TextRun.{room_needed}
-use Rattle.semantics.specs.TextRun.{Progress, Ended, ended, begun}
+use Rattle.notation.specs.declared.First.{First}
+use Rattle.text_runs.specs.Whole.{Prepared}
+use Rattle.semantics.specs.TextRun.{figure2, Ended, ended, begun}
 use Rattle.entry.specs.declared.state.Held.{Held}
-use Rattle.entry.specs.RunState.{RunState, progress}
+use Rattle.entry.specs.RunState.{progress, Sound}
 use Rattle.entry.proofs.FilledLaws.{gathered_filled}
-use Rattle.run.specs.Finished.{memory_of, Lending}
-use Rattle.run.proofs.StartLaws.{set_up_same, first, begun_same, begun_sound}
-use Rattle.text_runs.proofs.TextLaws.{not_begun, is_begun}
+use Rattle.run.specs.declared.carrying.LentHeld.{LentHeld}
+use Rattle.run.specs.Carried.{lent_memory}
+use Rattle.run.specs.Finished.{memory_of}
 use Rattle.board_listing.specs.BoardListing.{obey_all, run_listed, after_set_up, board_listed}
 use Rattle.board_listing.specs.ListedRun.{fresh_state, stopped_state, Between, Obeys, Closable, refused_with, closed, end_of, RunsFile}
 
@@ -69,53 +64,43 @@ module _ (held : Held) (ws file list : List ℕ) where
     words = o.words;
   }
 
--- what a set-up that is not refused has
-pub fits : (n w words : ℕ) {r : Result (Unit {0}) Refusal} → number_told r ≡ set_up_number n w 16 words w → ((x : Refusal) → r ≡ Err x → ⊥) → Accepted n w words w
-fits n w words {r} e h = set_up_fits n w 16 words w (not_refused r e h)
+-- the set-up, refused or done
+abbrev prepared : First → Memory → ℕ × Memory
+prepared f before = set_up before f.n f.w (replicate f.w f.initial)
 
--- the set-up
-pub lent : {all : List Process} (list : List ℕ) → all ≡ gathered (take 16 all) no_process 16 → room_needed false ≤ length list → Lending 16 all list
-lent {all} list g l = record { few = omega arith; filled = gathered_filled 16 all g; room = l }
+module _ {f : First} (file list : List ℕ) where
+  pub set_up_refused : {held : Held} {ws : List ℕ} {cause : Refusal} {m' : Memory} → Prepared figure2 f (memory_of held 16 ws) (Err cause) m'
+      → {out : Stopped} {list' : List ℕ} → ◌≡◌ {A = Stopped × List ℕ} (out, list') (closed (refused_with held cause) list)
+      → end_of out m'.words list' ≡ after_set_up (memory_of held 16 ws) file list (prepared f (memory_of held 16 ws))
+  set_up_refused {held} {ws} {cause} {m'} p c =
+      let before : Memory = memory_of held 16 ws in
+      let told : refusal_number cause ≡ (prepared f before).0 = p.number in
+      let words : m'.words ≡ ws = ap (λ (x : Memory). x.words) p.memory in
+      closed_ends (refused_with held cause) m'.words list c
+      ∙ ap (λ (l : List ℕ). ended (begun false (memory_of held 16 l) list (refusal_number cause))) words
+      ∙ ap (λ (i : ℕ). ended (begun false before list i)) told
+      ∙ sym (simp (ne_eqb (prepared f before).0 0 (λ z. number_some cause (told ∙ z))))
 
-module _ {list : List ℕ} (held : Held) (ws file : List ℕ) (x : Lending 16 held.all list) (n w k : ℕ) {j : ℕ} (e : j ≡ set_up_number n w 16 (length ws) w) where
-  abbrev before : Memory
-  before = memory_of held 16 ws
+  pub set_up_run : {m : Memory} {h : LentHeld} {ws₁ ws' list' : List ℕ} {out : Stopped} → Prepared figure2 f m (Ok tt) (lent_memory h ws₁) → h.len ≡ 16
+      → RunsFile h.held ws₁ file list out ws' list' → end_of out ws' list' ≡ after_set_up m file list (prepared f m)
+  set_up_run {m} {h} {ws₁} p l o =
+      o.same
+      ∙ ap (λ (k : ℕ). run_listed (memory_of h.held k ws₁) file list) (sym l)
+      ∙ ap (λ (x : Memory). run_listed x file list) p.memory
+      ∙ sym (simp (eq-eqb (prepared f m).0 0 (sym p.number)))
 
-  abbrev v : List ℕ
-  v = replicate w k
+pub begun_between : {k : ℕ} {held : Held} {ws list : List ℕ} → k ≡ 16 → room_needed false ≤ length list → Sound k (fresh_state held ws list 0)
+    → Between (fresh_state held ws list 0)
+begun_between {held = held} {ws = ws} {list = list} e l s = record {
+  sound = subst (λ (j : ℕ). Sound j (fresh_state held ws list 0)) e s;
+  goes = refl;
+  none = refl;
+  listed = refl;
+  room = omega (arith, l);
+}
 
-  same_number : j ≡ set_up_refusal before n w v
-  same_number = e ∙ set_up_same held 16 ws n w k x.few x.filled
-
-  pub set_up_refused : (f : Refusal) → j ≡ refusal_number f → {out : Stopped} {list' : List ℕ} → ◌≡◌ {A = Stopped × List ℕ} (out, list') (closed (refused_with held f) list)
-      → end_of out ws list' ≡ after_set_up before file list (set_up before n w v)
-  unfolding set_up
-  set_up_refused f is c =
-      let told : refusal_number f ≡ set_up_refusal before n w v = sym is ∙ same_number in
-      closed_ends (refused_with held f) ws list c ∙ ap (λ (i : ℕ). ended (begun false before list i)) told
-      ∙ sym (not_begun (set_up_refusal before n w v) (λ y. run_listed y file list) (at_set_up before n w v) before _ (λ z. number_some f (told ∙ z)))
-
-  module _ (small : k ≤ largest) (z : j ≡ 0) where
-    abbrev begins : RunState
-    begins = first false held ws x n w k small (sym e ∙ z)
-
-    pub begun_between : Shaped before → {after : Held} {ws₁ : List ℕ} → fresh_state after ws₁ list 0 ≡ begins → Between (fresh_state after ws₁ list 0)
-    begun_between s q = subst Between (sym q) (record {
-      sound = begun_sound false held ws x n w k small (sym e ∙ z) s;
-      goes = refl;
-      none = refl;
-      listed = refl;
-      room = omega (arith, x.room);
-    })
-
-    pub set_up_run : {after : Held} {out : Stopped} {ws₁ ws' list' : List ℕ} → fresh_state after ws₁ list 0 ≡ begins → RunsFile after ws₁ file list out ws' list'
-        → end_of out ws' list' ≡ after_set_up before file list (set_up before n w v)
-    unfolding set_up
-    set_up_run q o =
-        o.same
-        ∙ ap (λ (h : RunState). run_listed (progress 16 h).memory file list) q
-        ∙ ap (λ (s : Progress). run_listed s.memory file list) (begun_same false held ws x n w k small (sym e ∙ z))
-        ∙ sym (is_begun (set_up_refusal before n w v) (λ y. run_listed y file list) (at_set_up before n w v) before _ (sym same_number ∙ z))
+-- what `set_up_and_run` rests on
+pub ruleset set_up_laws = (gathered_filled, set_up_refused, set_up_run)
 
 -- 14 at the start
 module _ (m : Memory) (n w k : ℕ) (file list : List ℕ) where

@@ -12,11 +12,11 @@ use crate::ending::Stopped;
 use crate::{ending, records};
 use board_rows::right_records;
 use entry::state::Held;
-use llsc::counts::Processes;
 use llsc::refusals::Refusal;
-use rows::table::Lent;
-use run::set_up;
-use text_runs::{limits, lists};
+use notation::First;
+use run::carrying::LentHeld;
+use text_runs::limits;
+use text_runs::texts::Starter;
 
 // A run that is refused before its first command.
 // Kept: the room is a fact on a lent list, tested once in `run_listed`; a struct for it would be undone at each line.
@@ -51,8 +51,7 @@ fn run_file(held: Held, file: &[u8], words: &mut [u64], list: &mut [u8]) -> Stop
 }
 
 // The set-up, refused or done, and then the file.
-// Kept: the set-up as `run`'s `started` has it: one for both would promise these four, and that a refusal leaves all.
-#[tactic(auto, using(run::proofs::StartLaws::number_small))]
+#[tactic(auto, using(crate::proofs::ListedLaws::set_up_laws))]
 fn set_up_and_run(
     held: Held,
     n: usize,
@@ -65,21 +64,17 @@ fn set_up_and_run(
     requires { (held.all ≡ gathered (take 16 held.all) no_process 16) × (room_needed false ≤ length list.old) }
     ensures { SetsUp (memory_of held 16 words.old) n w initial file.now list.old (end_of result words.new list.new) }
 {
-    let lent = Lent {
-        n,
-        w,
-        records: 16,
-        words: words.len(),
+    let mut lent = LentHeld { held, len: 16 };
+    let first = First {
+        n: n as u64,
+        w: w as u64,
+        initial: initial as u64,
+        items: 0,
     };
-    if let Err(cause) = setup::set_up_refusal(lent, w) {
+    if let Err(cause) = lent.set_up(first, words) {
         return refused(held, cause, list);
     }
-    let value = lists::repeated(initial as u64);
-    setup::words_at_set_up(words, n, w, &value[..w]);
-    let count = Processes { n };
-    let bench = setup::bench_at_set_up(held.bench, count, w);
-    let all = set_up::records_at_set_up(held.all, count);
-    run_file(Held { bench, all }, file, words, list)
+    run_file(lent.held, file, words, list)
 }
 
 // The run as `board_listed` says, over the bench record, sixteen process records and the words that it is given: why
