@@ -53,6 +53,8 @@ use Rattle.moir_semantics.proofs.LineLengths.{value_small, lines_fit}
 use Rattle.moir_run.specs.RunState.{Sound, Free}
 use Rattle.moir_run.specs.Turned.{words_brought, Listable, answer_line, access_seen, shown_line}
 use Rattle.moir_run.proofs.EntryLaws.{value_count}
+use Rattle.std.proofs.lemmas.Result.{err_from_is_err_and}
+use Rattle.llsc.proofs.RefusalNumbers.{number_some}
 
 -- the number that the code finds is the command's
 pub number_same : (m : Memory) (p : ℕ) (o : Order) (v : List ℕ) {k : ℕ} → length m.records ≡ 16 → k ≡ length v
@@ -455,3 +457,6 @@ module _ {e : Entry} {s : Progress} (f : Free e s) where
                   traced = s.traced;
                 }) records_are
                 ∙ carried is_made g shown_seen (subst (λ (i : ℕ). Writes to₁ (answer_line moved.bench ws i moved.reply) to₂) ep y)
+
+-- what a turn rests on
+pub ruleset turn_laws = (err_from_is_err_and, number_some, turn_before, sound_single)

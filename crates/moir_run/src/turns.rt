@@ -29,6 +29,7 @@ pub struct Held {
 }
 
 // The order of an entry, obeyed with the words that it brings.
+#[tactic(auto, using(crate::proofs::EntryLaws::value_some, crate::proofs::SetUpLaws::prefix_length))]
 fn obeyed(e: Entry, p: ProcessNumber, bench: Bench, process: Process, words: &mut [u64]) -> Moved
     requires { Obeyable (order_of e) p (value_of bench.w e) bench process words.old }
     ensures { (result, words.new) ≡ obey (order_of e) p (value_of bench.w e) bench process words.old }
@@ -88,6 +89,7 @@ impl Carrier for Held {
 
     // "before each entry 12, then 14", then the rows of its command; or it is carried out. "After a refused entry nothing
     // more runs."
+    #[tactic(auto, using(crate::proofs::TurnLaws::turn_laws))]
     fn turn(
         &mut self,
         traced: bool,

@@ -7,6 +7,7 @@ use llsc::counts::Processes;
 use model::Process;
 
 // "mybuf of p = 2N + p"; records from N on stay.
+#[tactic(auto, using(crate::proofs::SetUpLaws::records_again))]
 pub fn records_at_set_up(all: [Process; 16], count: Processes) -> [Process; 16]
     ensures { result ≡ records_at_set_up all count.n }
 {

@@ -19,6 +19,7 @@ pub fn records_seen(len: usize) -> usize
 // The text run, with its listing or, where `traced`, its trace: why it was refused, if it was, the entries done, the bytes
 // written, where it stopped, and all memory after it.
 // `held` has the first sixteen of `len` lent records, with a filler where there are fewer.
+#[tactic(auto, using(crate::proofs::RunLaws::lendable_sixteen))]
 pub fn run_by_value(
     held: Held,
     len: usize,

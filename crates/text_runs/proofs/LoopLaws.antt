@@ -81,3 +81,6 @@ module _ (M : Machine) {kept : List ℕ} {at : ℕ} {first s : Progress M} (t : 
 
   pub turn_further : s'.stop ≡ 0 → gone_on M e s' ≡ true → Turning M kept first at s'
   turn_further z q = record { middle = middle_further M t.middle t.goes inside (entry_in 0) is_single (goes_on ∙ q); goes = z }
+
+-- what the loop rests on
+pub ruleset turning_laws = (kept_as, turning_none, turning_all)

@@ -51,6 +51,7 @@ pub trait Carrier: Copy {
 }
 
 // An entry that is refused stops the run; `!` stays at its place in the list until its call answers.
+#[tactic(auto, using(crate::proofs::LoopLaws::turning_laws))]
 pub fn carry_out<B: Carrier>(
     run: Run<B>,
     kept: &[u64],

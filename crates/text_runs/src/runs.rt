@@ -69,6 +69,7 @@ impl<H: Copy> Finished<H> {
 }
 
 // A run with its last line.
+#[tactic(auto, using(crate::proofs::LastLaws::closable_room))]
 pub fn ended<H: Copy>(
     held: H,
     entries: usize,

@@ -40,6 +40,7 @@ pub trait Starter: Carrier {
 
 // "then 1, 2, 3, then the set-up, then the entries": those of the list.
 // Kept: `held` and `traced` one by one, here and in `checked`: a run that is refused hands back `held` alone.
+#[tactic(auto, using(crate::proofs::StopLaws::stop_within))]
 fn started<B: Starter>(
     held: B,
     traced: bool,
@@ -73,6 +74,8 @@ fn started<B: Starter>(
 
 // "then 10 and 11 over the whole text": its items are read once, into the list of its entries.
 // Kept: text ends here, words and list go on to the loop: a struct of the three would be taken apart by this function.
+// Kept: text ends here, words and list go on to the loop; a struct of three borrows would be taken apart by this function.
+#[tactic(auto, using(crate::proofs::WholeLaws::checked_laws))]
 fn checked<B: Starter>(
     held: B,
     traced: bool,
@@ -106,6 +109,7 @@ fn checked<B: Starter>(
 
 // The text run, with its listing or, where `traced`, its trace: why it was refused, if it was, the entries done, the bytes
 // written, where it stopped, and what the bench holds after it.
+#[tactic(auto, using(crate::proofs::WholeLaws::text_laws))]
 pub fn run_text<B: Starter>(
     held: B,
     traced: bool,

@@ -1,9 +1,6 @@
 -- `run::text_run::run_by_value`: the generic run, on at most sixteen of the lent records.
-use Rattle.run.proofs.RunLaws.{lendable_sixteen, text_ran}
+use Rattle.run.proofs.RunLaws.{text_ran}
 use Rattle.run.proofs.text_run.run_by_value.Goals as goal
-
-pub run_text-out-requires : goal.run_text-out-requires
-run_text-out-requires c = lendable_sixteen c.args.len c.args.held c.records_seen.ensures c.requires
 
 pub returns : goal.returns
 returns c =

@@ -1,22 +1,12 @@
 -- `text_runs::entry_loop::carry_out`: a turn of the loop is an entry made, refused or not yet over (`LoopLaws`).
-use mathlib.Core.Path.{refl, sym, ◌∙◌}
+use mathlib.Core.Path.{sym, ◌∙◌}
 use Prim.Native.Nat.{◌+◌}
 use native.Mathlib.Omega.{arith}
 use Rattle.llsc.specs.Refusals.{refusal_number}
 use Rattle.llsc.proofs.RefusalNumbers.{number_some}
 use Rattle.text_runs.specs.Carrying.{in_run}
-use Rattle.text_runs.proofs.LoopLaws.{kept_as, kept_then, turning_none, turning_all, turn_more, turn_ends, turn_over, turn_further}
+use Rattle.text_runs.proofs.LoopLaws.{kept_then, turn_more, turn_ends, turn_over, turn_further}
 use Rattle.text_runs.proofs.entry_loop.carry_out.Goals as goal
-
-pub loop-at-init : goal.loop-at-init
-loop-at-init g c = record {
-  turning = turning_none g.B.Carrier.machine c.args.kept.now (g.B.Carrier.progress c.args.run 0 c.args.words.now c.args.to.now) (g.met.B.Carrier.stops c.args.run 0 c.args.words.now c.args.to.now);
-  sound = c.requires;
-  kept = (record { words = refl; listing = refl; same = refl }, refl);
-}
-
-pub turn-requires : goal.turn-requires
-turn-requires g c = (c.loop-at.invariant.sound, kept_as c.entry_in-e.result _ c.entry_in-e.ensures)
 
 pub overflow_add-entries : goal.overflow_add-entries
 overflow_add-entries g c =
@@ -74,6 +64,3 @@ returns-in-Err-clause-over g c =
     let stop = g.met.B.Carrier.stops after (refusal_number c.in-Err.refusal) c.turn.new.words c.turn.new.to in
     turn_ends g.B.Carrier.machine c.loop-at.invariant.turning c.loop-at-test.true c.entry_in-e.ensures c.in-Err.ensures.is.same
     (λ z. number_some c.in-Err.refusal (sym stop ∙ z))
-
-pub returns-clause-over : goal.returns-clause-over
-returns-clause-over g c = turning_all g.B.Carrier.machine c.loop-at.invariant.turning c.loop-at-test.false

@@ -2,21 +2,10 @@
 use mathlib.Core.Path.{◌∙◌}
 use Rattle.std.specs.Prelude.{Err}
 use Rattle.notation.proofs.ItemsLaws.{items_as}
-use Rattle.text_runs.proofs.FaultLaws.{broken_small}
-use Rattle.text_runs.proofs.TextLaws.{broken_says, closed_says, kept_says}
+use Rattle.text_runs.proofs.TextLaws.{kept_says}
 use Rattle.text_runs.proofs.StopLaws.{report_is, broken_stops, closed_stops, kept_stops}
-use Rattle.text_runs.proofs.WholeLaws.{closed_report, refused_ends}
+use Rattle.text_runs.proofs.WholeLaws.{closed_report}
 use Rattle.text_runs.proofs.texts.checked.Goals as goal
-
-pub refused-requires : goal.refused-requires
-refused-requires g c = (broken_small c.in-Err.ensures.are.is, c.requires.1)
-
-pub returns-in-Err-clause-is : goal.returns-in-Err-clause-is
-returns-in-Err-clause-is g c =
-    let a = c.args in
-    let b = g.B.Carrier in
-    refused_ends b.machine b.memory a.words.now a.list.now c.refused.ensures
-    ∙ broken_says b.machine a.traced a.text.now _ _ _ _ (b.memory a.held a.words.now) a.list.now c.in-Err.ensures.are.is
 
 pub returns-in-Err-clause-report : goal.returns-in-Err-clause-report
 returns-in-Err-clause-report g c =
@@ -38,14 +27,6 @@ returns-in-Ended-clause-report g c =
     let b = g.B.Carrier in
     let read = items_as c.in-Ok.ensures c.in-Ended.is in
     kept_stops b.machine g.met.B.Starter.far a.traced (b.memory a.held a.words.now) a.list.now c.empty_list-kept.ensures c.requires.2.line read c.started.ensures.report
-
-pub returns-in-Closed-clause-is : goal.returns-in-Closed-clause-is
-returns-in-Closed-clause-is g c =
-    let a = c.args in
-    let b = g.B.Carrier in
-    let read = items_as c.in-Ok.ensures c.in-Closed.is in
-    refused_ends b.machine b.memory a.words.now a.list.now c.refused-in-Closed.ensures
-    ∙ closed_says b.machine a.traced a.text.now _ _ _ _ (b.memory a.held a.words.now) a.list.now read.read
 
 pub returns-in-Closed-clause-report : goal.returns-in-Closed-clause-report
 returns-in-Closed-clause-report g c =

@@ -1,14 +1,7 @@
 -- `text_runs::texts::started`: the set-up refused, or done and the entries carried out.
-use mathlib.Core.Path.{refl, sym, ◌∙◌}
-use Rattle.text_runs.proofs.StopLaws.{stop_within}
+use mathlib.Core.Path.{refl, sym}
 use Rattle.text_runs.proofs.WholeLaws.{closed_report, report_done}
 use Rattle.text_runs.proofs.texts.started.Goals as goal
-
-pub stop_report-report-requires : goal.stop_report-report-requires
-stop_report-report-requires g c =
-    let law = g.met.B.Carrier in
-    let out = c.carry_out-carried in
-    λ n. stop_within g.B.Carrier.machine c.args.entries.now out.ensures.over (law.stops _ _ _ _) (λ z. n (sym (law.stops _ _ _ _) ∙ z))
 
 pub returns-clause-report : goal.returns-clause-report
 returns-clause-report g c =

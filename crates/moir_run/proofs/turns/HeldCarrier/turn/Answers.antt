@@ -10,26 +10,8 @@ use Rattle.moir_semantics.specs.TextRun.{Progress}
 use Rattle.llsc.proofs.RefusalNumbers.{number_some}
 use Rattle.moir_run.specs.RunState.{progress, Sound}
 use Rattle.moir_run.proofs.EntryLaws.{goes_stays}
-use Rattle.moir_run.proofs.TurnLaws.{number_as, turn_before, turn_through, turn_refused_is, turn_free, turn_made, sound_single, single_words, single_listing}
+use Rattle.moir_run.proofs.TurnLaws.{number_as, turn_through, turn_refused_is, turn_free, turn_made, sound_single, single_words, single_listing}
 use Rattle.moir_run.proofs.turns.HeldCarrier.turn.Goals as goal
-
-pub returns-in_err-before_entry-clause-is : goal.returns-in_err-before_entry-clause-is
-returns-in_err-before_entry-clause-is c =
-    let a = c.args in
-    let p = err_from_is_err_and c.from_residual.result c.from_residual.ensures.1 in
-    let room = length a.to.now.list.now - a.to.now.written in
-    let found = ap number_told c.in_err-before_entry.ensures ∙ ap (λ (n : ℕ). number_told (before_entry a.done room n)) c.room_needed-needed.ensures in
-    let stops = turn_before a.e c.requires.0 refl c.requires.1 found (number_some _) in
-    rw (p.1, p.2) (record { same = stops; stays = tt })
-
-pub returns-in_err-before_entry-clause-sound : goal.returns-in_err-before_entry-clause-sound
-returns-in_err-before_entry-clause-sound c =
-    let a = c.args in
-    let p = err_from_is_err_and c.from_residual.result c.from_residual.ensures.1 in
-    let room = length a.to.now.list.now - a.to.now.written in
-    let found = ap number_told c.in_err-before_entry.ensures ∙ ap (λ (n : ℕ). number_told (before_entry a.done room n)) c.room_needed-needed.ensures in
-    let stops = turn_before a.e c.requires.0 refl c.requires.1 found (number_some _) in
-    rw (p.1, p.2) (subst Sound (sym stops) (sound_single a.e c.requires.0 refl c.requires.1))
 
 pub returns-in_err-refusal-clause-is : goal.returns-in_err-refusal-clause-is
 returns-in_err-refusal-clause-is c =
