@@ -61,6 +61,7 @@ pub fn command(
 // Wrong programs that this rules out: one that gives the value to record 0 alone;
 // one that clears the words and then finds that too few process records are lent;
 // one that sets up every process record that is lent, and not the first N alone.
+#[tactic(auto, using(llsc::proofs::RefusalNumbers::number_some, station_setup::proofs::StoredSetUp::set_up_same))]
 pub fn set_up(
     station: &mut Station,
     processes: &mut [StationProcess],
@@ -88,6 +89,7 @@ pub fn set_up(
 // it are those of `station_run_text`.
 // Wrong programs that this rules out: one that sets the station up and then finds a fault further on in the text;
 // one that blanks the listing after its last line; one that clears what a process holds of another record.
+#[tactic(auto, using(station_records::proofs::StoredLaws::left_is, station_records::proofs::StoredLaws::none_left))]
 pub fn run_text(
     station: &mut Station,
     processes: &mut [StationProcess],

@@ -5,7 +5,8 @@ use mathlib.Core.Bool.{Bool, true, false, not, ◌&&◌, cond}
 use Prim.Native.Nat.{ℕ}
 use Rattle.boards.specs.Files.{good_trailer, good_records, rising, file_number}
 use Rattle.boards.specs.Places.{read, all_good, RecordsOf, RightFile}
-use Rattle.boards.proofs.RefusalLaws.{reads, tests, few}
+use Rattle.boards.proofs.RefusalLaws.{reads, tests, few, no_records, its_records}
+use Rattle.std.proofs.lemmas.Result.{err_from_is_err_and}
 
 module _ (file : List ℕ) where
   rows : (g h : Bool) → good_trailer file ≡ g → good_records file ≡ h → file_number file ≡ cond (not g) 25 (cond (not h) 26 0)
@@ -21,3 +22,6 @@ module _ (file : List ℕ) where
 
     pub right_file : (all_good rs && rising 0 (read rs)) ≡ true → RightFile file rs
     right_file e = record { number = rows true true r.trailer (sym (tests r) ∙ e); reads = reads r; few = few r }
+
+-- what the rows of a file come to
+pub ruleset records_laws = (err_from_is_err_and, no_records, its_records, bad_trailer, bad_record)

@@ -10,6 +10,7 @@ use boards::trailers::records_of;
 use llsc::refusals::Refusal;
 
 // The records of a file. "25 and 26 also before a run": refused for the first of them that holds.
+#[tactic(auto, using(crate::proofs::FileRows::records_laws))]
 pub fn right_records(file: &[u8]) -> Result<&[Record], Refusal>
     ensures { MatchResult result (λ records. RightFile file.now records.now) (WrongFile file.now) }
 {

@@ -14,6 +14,7 @@ use station_records::gathered::gather;
 // memory after it are those of `run_file`.
 // Wrong programs that this rules out: one that begins a file whose last record is bad; one that counts the refused
 // command; one that puts an SC's value into word 0 alone; one that makes a set-up first.
+#[tactic(auto, using(station_records::proofs::StoredLaws::left_is, station_records::proofs::StoredLaws::none_left, board_commands::proofs::StoredRun::stored_file))]
 pub fn run_file(
     station: &mut Station,
     processes: &mut [StationProcess],

@@ -74,7 +74,6 @@ fn started<B: Starter>(
 
 // "then 10 and 11 over the whole text": its items are read once, into the list of its entries.
 // Kept: text ends here, words and list go on to the loop: a struct of the three would be taken apart by this function.
-// Kept: text ends here, words and list go on to the loop; a struct of three borrows would be taken apart by this function.
 #[tactic(auto, using(crate::proofs::WholeLaws::checked_laws))]
 fn checked<B: Starter>(
     held: B,

@@ -17,6 +17,7 @@ use turns_model::{NextCall, Turned};
 // one that keeps a refused call on the list, or drops one at row 9;
 // one that looks at the second process record at N = 1.
 // Kept: `next` beside `left`, though none is looked at where that is 0: users give both (02, CR 5).
+#[tactic(auto, using(turns_machine::proofs::TurnDecisionLaws::turn_law))]
 pub fn turn(
     station: &mut Station,
     processes: &mut [StationProcess],
