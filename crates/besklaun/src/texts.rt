@@ -3,7 +3,6 @@ ghost use Rattle.std.specs.Prelude.{◌≡◌, true, false};
 ghost use Rattle.besklaun.specs.OwnBench.{text_run};
 
 use entry::state::Held;
-
 pub use text_runs::returned::TextRun;
 
 // A run on a bench of its own, of its listing or, where `traced`, of its trace.

@@ -56,13 +56,7 @@ pub fn obey_taken(
 }
 
 // The words of an SC's start into the offer area; no other order brings any.
-fn offer(
-    rows: FirstRows,
-    order: Order,
-    p: ProcessNumber,
-    value: &[u64],
-    words: &mut [u64],
-)
+fn offer(rows: FirstRows, order: Order, p: ProcessNumber, value: &[u64], words: &mut [u64])
     requires { Offered rows order p value.now words.old }
     ensures { words.new ≡ offered_in (layout_from rows) order p rows.w value.now words.old }
 {
