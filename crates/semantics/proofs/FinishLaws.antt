@@ -1,28 +1,26 @@
 -- What a `!` comes to: steps until its call answers, and no more of them than the kind of its call allows.
 use mathlib.Core.Path.{◌≡◌, refl, sym, ap, subst, ◌∙◌}
-use mathlib.Core.Bool.{Bool, true, false, not, cond, ◌&&◌}
+use mathlib.Core.Bool.{Bool, true, false, cond}
 use mathlib.Core.List.{[]}
 use Prim.Native.Nat.{ℕ, zero, suc, ◌+◌, ◌-◌, ◌≤◌, ◌<◌}
 use native.Mathlib.Omega.{arith}
 use lib.Dec.{eqb}
-use borrow.Author.Tests.{eqb-true, eq-eqb, ne_eqb}
+use borrow.Author.Tests.{eq-eqb, ne_eqb}
 use Rattle.llsc.specs.declared.Order.TheVariants as order
-use Rattle.model.specs.Records.{record_at}
 use Rattle.model.specs.Machine.{Memory}
-use Rattle.model.specs.Refusals.{is_idle}
 use Rattle.model.specs.Linearizable.{largest, OpenCounted}
 use Rattle.notation.specs.declared.Entry.TheVariants.{Step}
 use Rattle.semantics.specs.Reached.{Reached}
 use Rattle.text_runs.specs.TextRun.{most_entries}
 use Rattle.text_runs.specs.TextRun as TR
-use Rattle.semantics.specs.TextRun.{figure2, Progress, lines_of, counted, single, unanswered, steps, finish, carry}
+use Rattle.semantics.specs.TextRun.{figure2, Progress, lines_of, counted, single, unanswered, steps, finish}
 use Rattle.semantics.specs.Finishing.{UntilAnswered, FinishBounded}
 use Rattle.semantics.proofs.ReachedLaws.{reached_command}
 use Rattle.semantics.proofs.AcceptedSteps.{unrefused, stepped_busy}
 use Rattle.semantics.proofs.OpenCalls.{Open, open_in, open_fewer, busy_open, reached_n, one_step_more}
 use Rattle.text_runs.proofs.UntilAnswered as R
 use Rattle.text_runs.proofs.UntilAnswered.{busy_after}
-use Rattle.text_runs.proofs.SingleEntries.{outcome, Made, single_made, single_stays, single_entries}
+use Rattle.text_runs.proofs.SingleEntries.{outcome, Made, single_made, single_entries}
 
 -- the run after an accepted step of p
 abbrev next : ℕ → Progress → Progress

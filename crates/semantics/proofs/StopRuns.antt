@@ -24,11 +24,11 @@ use Rattle.listing.specs.Quoted.{quoted}
 use Rattle.text_runs.specs.TextRun.{room_needed, longest_text}
 use Rattle.text_runs.specs.TextRun as TR
 use Rattle.text_runs.specs.StopPlaces as SP
-use Rattle.semantics.specs.TextRun.{single, steps, carry, carry_all, run_with}
+use Rattle.semantics.specs.TextRun.{run_with}
 use Rattle.positions.specs.declared.StopReport.{StopReport}
 use Rattle.positions.specs.declared.StopReport.TheVariants.{AtFault, AtItem}
 use Rattle.text_runs.specs.StopPlaces.{sizes, at_no_item}
-use Rattle.semantics.specs.StopPlaces.{stop_index, started_report, StopInText, StopsAt}
+use Rattle.semantics.specs.StopPlaces.{started_report, StopInText, StopsAt}
 use Rattle.semantics.proofs.BenchRuns.{dirty_x, dirty_bank, dirty_help, dirty_process, lent, dirty_bytes}
 
 -- the report by the reading of the text
