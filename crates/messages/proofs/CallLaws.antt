@@ -3,7 +3,6 @@ use Rattle.std.proofs.Common.{◌≡◌, refl, ℕ, zero, suc, ◌<◌, List, []
 use Rattle.std.proofs.lemmas.List.{ext_get_or, get_or-map, length-map}
 use Rattle.std.specs.Prelude.{None}
 use Rattle.model.specs.declared.Process.{Process}
-use Rattle.model.specs.Records.{no_process}
 use Rattle.messages.specs.OpenCalls.{call_of, call_at}
 
 pub told_at : (p : ℕ) (records : List Process) → get_or (map call_of records) p None ≡ call_at p records
