@@ -45,7 +45,7 @@ pub fn do_line_7(p: ProcessNumber, x: XPlace, process: Process) -> LineStep<XPla
 }
 
 // The VL(X) of line 12: only a process whose link is good banks x.buf.
-// Kept: a function for each VL(X) within a call, as each is a line of Figure 2; what they share is `valid`.
+// Kept: a function for each VL(X) within a call, as each is at a line of its own; what they share is `valid`.
 pub fn do_line_12_valid(p: ProcessNumber, x: XPlace, process: Process) -> LineStep<XPlace>
     requires { Stepping p process }
     ensures { result ≡ do_line12_valid p x process }

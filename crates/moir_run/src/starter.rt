@@ -32,7 +32,7 @@ impl Starter for Held {
 
     ghost far = { far };
 
-    // Kept: beside `run`'s, as each line calls its own bench's: one for both would name each of them once more.
+    // Kept: beside `run`'s, as it calls its own bench's functions: one for both would name each of them once more.
     fn set_up(&mut self, first: First, words: &mut [u64]) -> Result<(), Refusal> {
         let n = first.n as usize;
         let w = first.w as usize;

@@ -109,7 +109,7 @@ fn read_on(reader: &mut Reader, depth: usize, entries: &mut EntryList) -> Result
 }
 
 // The items of a text from a place on; their entries go into the list from its beginning on.
-// Kept: a place beside its text: a first line says where its items begin, and a reader is this crate's own.
+// Kept: a place beside its text: a first line says where its items begin, and its callers hold no reader.
 pub fn read_items(text: &[u8], at: usize, depth: usize, list: &mut [u64]) -> Result<Items, Fault>
     requires { (at ≤ length text.now) × (Placeable text.now) }
     ensures { ItemsSay text.now at depth list.old list.new 0 result }
