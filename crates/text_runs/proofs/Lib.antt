@@ -3,6 +3,7 @@ pub mod SingleEntries
 pub mod UntilAnswered
 pub mod ToldLaws
 pub mod RunCommands
+pub mod EarlyRows
 pub mod KeptLaws
 pub mod MiddleLaws
 pub mod LoopLaws
