@@ -216,6 +216,12 @@ module _ (e : Entry) {s : Progress} (sound : Sound s) (z : s.stop ≡ 0) (se : S
         by false true l r x = absurd (omega (arith, n, x))
         by false false l r x = (leb-false most_entries s.entries l, ltb-false (length s.listing - s.written) (room_needed s.traced) r)
 
+  -- and so where the code finds nothing, with the room that it reckons
+  pub let_through : {room : ℕ} → Ok tt ≡ before_entry s.entries (length s.listing - s.written) room → room ≡ room_needed s.traced
+      → (s.entries < most_entries) × (room_needed s.traced ≤ length s.listing - s.written)
+  let_through found is =
+      turn_through (ap number_told found ∙ ap (λ (n : ℕ). number_told (before_entry s.entries (length s.listing - s.written) n)) is) refl
+
 -- the number that the code finds, by what it finds of the entry
 pub number_as : (e : Entry) {s : Progress} → Sound s → {k p count : ℕ} {o : Order} → k ≡ decision_number s.memory.bench s.memory.records 16 p o count (length s.memory.words)
     → p ≡ process_of e → o ≡ order_of e → count ≡ words_brought e s.memory.bench.w → k ≡ refusal s.memory (process_of e) (order_of e) (value_of s.memory.bench.w e)

@@ -1,25 +1,21 @@
 -- `moir_run::turns::HeldCarrier::turn`: 12, 14, the rows of the command, or the entry carried out.
 use mathlib.Core.Path.{refl, sym, ap, subst, ◌∙◌}
-use Prim.Native.Nat.{ℕ, ◌+◌, ◌-◌}
+use Prim.Native.Nat.{◌+◌}
 use Rattle.text_runs.specs.Carrying.{in_run}
 use lib.ListN.{length}
 use Rattle.std.proofs.lemmas.Result.{err_from_is_err_and}
-use Rattle.llsc.specs.Refusals.{number_told}
-use Rattle.text_runs.specs.Parts.{before_entry}
 use Rattle.moir_semantics.specs.TextRun.{Progress}
 use Rattle.llsc.proofs.RefusalNumbers.{number_some}
 use Rattle.moir_run.specs.RunState.{progress, Sound}
 use Rattle.moir_run.proofs.EntryLaws.{goes_stays}
-use Rattle.moir_run.proofs.TurnLaws.{number_as, turn_through, turn_refused_is, turn_free, turn_made, sound_single, single_words, single_listing}
+use Rattle.moir_run.proofs.TurnLaws.{number_as, let_through, turn_refused_is, turn_free, turn_made, sound_single, single_words, single_listing}
 use Rattle.moir_run.proofs.turns.HeldCarrier.turn.Goals as goal
 
 pub returns-in_err-refusal-clause-is : goal.returns-in_err-refusal-clause-is
 returns-in_err-refusal-clause-is c =
     let a = c.args in
     let p = err_from_is_err_and c.from_residual-in_err-refusal.result c.from_residual-in_err-refusal.ensures.1 in
-    let room = length a.to.now.list.now - a.to.now.written in
-    let found = ap number_told c.in_ok-before_entry.ensures ∙ ap (λ (n : ℕ). number_told (before_entry a.done room n)) c.room_needed-needed.ensures in
-    let free = turn_through a.e c.requires.0 refl c.requires.1 found refl in
+    let free = let_through a.e c.requires.0 refl c.requires.1 c.in_ok-before_entry.ensures c.room_needed-needed.ensures in
     let stops = turn_refused_is a.e c.requires.0 refl c.requires.1 free.0 free.1
     (number_as a.e c.requires.0 c.in_err-refusal.ensures c.process_of-p.ensures c.order_of-order.ensures c.words_of-count.ensures)
     (number_some _) in
@@ -29,9 +25,7 @@ pub returns-in_err-refusal-clause-sound : goal.returns-in_err-refusal-clause-sou
 returns-in_err-refusal-clause-sound c =
     let a = c.args in
     let p = err_from_is_err_and c.from_residual-in_err-refusal.result c.from_residual-in_err-refusal.ensures.1 in
-    let room = length a.to.now.list.now - a.to.now.written in
-    let found = ap number_told c.in_ok-before_entry.ensures ∙ ap (λ (n : ℕ). number_told (before_entry a.done room n)) c.room_needed-needed.ensures in
-    let free = turn_through a.e c.requires.0 refl c.requires.1 found refl in
+    let free = let_through a.e c.requires.0 refl c.requires.1 c.in_ok-before_entry.ensures c.room_needed-needed.ensures in
     let stops = turn_refused_is a.e c.requires.0 refl c.requires.1 free.0 free.1
     (number_as a.e c.requires.0 c.in_err-refusal.ensures c.process_of-p.ensures c.order_of-order.ensures c.words_of-count.ensures)
     (number_some _) in
@@ -40,36 +34,28 @@ returns-in_err-refusal-clause-sound c =
 pub accepted-requires : goal.accepted-requires
 accepted-requires c =
     let a = c.args in
-    let room = length a.to.now.list.now - a.to.now.written in
-    let found = ap number_told c.in_ok-before_entry.ensures ∙ ap (λ (n : ℕ). number_told (before_entry a.done room n)) c.room_needed-needed.ensures in
-    let free = turn_through a.e c.requires.0 refl c.requires.1 found refl in
+    let free = let_through a.e c.requires.0 refl c.requires.1 c.in_ok-before_entry.ensures c.room_needed-needed.ensures in
     turn_free a.e c.requires.0 refl c.requires.1 free.0 free.1
     (sym (number_as a.e c.requires.0 c.in_ok-refusal.ensures c.process_of-p.ensures c.order_of-order.ensures c.words_of-count.ensures))
 
 pub returns-clause-is : goal.returns-clause-is
 returns-clause-is c =
     let a = c.args in
-    let room = length a.to.now.list.now - a.to.now.written in
-    let found = ap number_told c.in_ok-before_entry.ensures ∙ ap (λ (n : ℕ). number_told (before_entry a.done room n)) c.room_needed-needed.ensures in
-    let free = turn_through a.e c.requires.0 refl c.requires.1 found refl in
+    let free = let_through a.e c.requires.0 refl c.requires.1 c.in_ok-before_entry.ensures c.room_needed-needed.ensures in
     let made = c.accepted.ensures.is ∙ turn_made a.e c.requires.0 refl c.requires.1 free.0 free.1 in
     record { same = made; stays = goes_stays a.e (progress (in_run c.accepted.new.held (a.done + 1) a.traced) 0 c.accepted.new.words c.accepted.new.to) refl ∙ sym c.stays.ensures }
 
 pub returns-clause-sound : goal.returns-clause-sound
 returns-clause-sound c =
     let a = c.args in
-    let room = length a.to.now.list.now - a.to.now.written in
-    let found = ap number_told c.in_ok-before_entry.ensures ∙ ap (λ (n : ℕ). number_told (before_entry a.done room n)) c.room_needed-needed.ensures in
-    let free = turn_through a.e c.requires.0 refl c.requires.1 found refl in
+    let free = let_through a.e c.requires.0 refl c.requires.1 c.in_ok-before_entry.ensures c.room_needed-needed.ensures in
     let made = c.accepted.ensures.is ∙ turn_made a.e c.requires.0 refl c.requires.1 free.0 free.1 in
     subst Sound (sym made) (sound_single a.e c.requires.0 refl c.requires.1)
 
 pub returns-clause-kept : goal.returns-clause-kept
 returns-clause-kept c =
     let a = c.args in
-    let room = length a.to.now.list.now - a.to.now.written in
-    let found = ap number_told c.in_ok-before_entry.ensures ∙ ap (λ (n : ℕ). number_told (before_entry a.done room n)) c.room_needed-needed.ensures in
-    let free = turn_through a.e c.requires.0 refl c.requires.1 found refl in
+    let free = let_through a.e c.requires.0 refl c.requires.1 c.in_ok-before_entry.ensures c.room_needed-needed.ensures in
     let made = c.accepted.ensures.is ∙ turn_made a.e c.requires.0 refl c.requires.1 free.0 free.1 in
     let before = (progress (in_run a.self.now a.done a.traced) 0 a.words.now a.to.now) in (
       record {
