@@ -18,7 +18,7 @@ use Rattle.station.specs.Station.{StationMemory, no_tables, process_at, layout_o
 use Rattle.station.specs.Projection.{bench_of, process_of, embed}
 use Rattle.station.specs.StationRefusals.{StationOrder, record_for, called_ok}
 use Rattle.station.specs.StationCommand.{station_command}
-use Rattle.station_laws.proofs.Accepts.{Accepts, accepts, obeys, every_number}
+use Rattle.station_facts.proofs.Accepts.{Accepts, accepts, obeys, every_number}
 use Rattle.doings.specs.declared.Item.{Item}
 use Rattle.doings.specs.Own.{own_in}
 use Rattle.doings.specs.Doings.{Touching, nothing, one, doing, outcome, effect}

@@ -12,7 +12,7 @@ use Rattle.station.specs.declared.Tables.{Tables}
 use Rattle.station.specs.Station.{StationMemory, no_tables}
 use Rattle.station.specs.StationRefusals.{StationShaped}
 use Rattle.station.specs.StationSetUp.{firsts, tables_at_set_up, station_at_set_up, station_set_up_refusal, station_set_up}
-use Rattle.station_laws.proofs.StationSetUpLaws.{firsts_length}
+use Rattle.station_facts.proofs.Firsts.{firsts_length}
 
 -- what `StationShaped` says of the tables
 pub record TableLengths (s : StationMemory) : Type 0 where

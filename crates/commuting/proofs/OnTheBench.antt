@@ -34,7 +34,7 @@ use Rattle.station.specs.StationCommand.{station_refusal, station_command}
 use Rattle.station.specs.StationSetUp.{station_set_up}
 use Rattle.station.specs.StationHistory.{station_says, station_after}
 use Rattle.station_laws.specs.OneRecord.{as_bench, on_the_one}
-use Rattle.station_laws.proofs.Accepts.{accepts}
+use Rattle.station_facts.proofs.Accepts.{accepts}
 use Rattle.station_laws.proofs.StationRuns.{Inv, step_inv}
 use Rattle.station_laws.proofs.StationSetUpLaws.{h_w, set_up_inv}
 use Rattle.station_laws.proofs.OneRecordLaws.{only, one_layout, one_record_lem, one_record_refusal, shown}

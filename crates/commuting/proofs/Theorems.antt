@@ -14,7 +14,7 @@ use Rattle.station.specs.StationCommand.{station_refusal}
 use Rattle.station.specs.StationSetUp.{station_set_up}
 use Rattle.station.specs.StationHistory.{station_after}
 use Rattle.station_laws.specs.StationOwnDoing.{NotLentStation}
-use Rattle.station_laws.proofs.Accepts.{refuses}
+use Rattle.station_facts.proofs.Accepts.{refuses}
 use Rattle.station_laws.proofs.Theorems.{station_never_for_its_own_doing}
 use Rattle.doings.specs.Own.{Own}
 use Rattle.commuting.specs.Parts.{own_of}

@@ -3,8 +3,7 @@
 use mathlib.Core.Path.{◌≡◌, sym, ap₂, ◌∙◌}
 use mathlib.Core.Bool.{Bool}
 use mathlib.Core.List.{List}
-use Prim.Native.Nat.{ℕ, suc, ◌+◌, ◌*◌, ◌≤◌, ◌<◌}
-use native.Mathlib.Nat.{mul-le-mul_right}
+use Prim.Native.Nat.{ℕ, ◌+◌, ◌*◌, ◌<◌}
 use native.Mathlib.Decide.{dec_lt}
 use native.Mathlib.Omega.{arith}
 use Rattle.model.specs.declared.BufferNumber.{BufferNumber}
@@ -21,6 +20,7 @@ use Rattle.station.specs.declared.StationProcess.{StationProcess}
 use Rattle.station.specs.declared.Tables.{Tables}
 use Rattle.station.specs.Station.{StationMemory, tables_at, process_at, station_layout}
 use Rattle.station.specs.Projection.{process_of}
+use Rattle.station_facts.proofs.RecordRows.{below_record}
 use Rattle.station_laws.proofs.Live.{returns, offers, LiveProcess, pr}
 use Rattle.station_laws.proofs.LiveWords.{LiveWords, Rows, Kept, cell}
 
@@ -49,9 +49,6 @@ shape q f l =
     ∙ ap₂ (λ (k : ℕ) (t : Bool). pr f.point (record_of f).mybuf (record_of f).x f.word k t q.b q.c q.d q.e) l.count l.answered
 
 -- the rows of a station, and of one record alone
-pub below_record : (N i j : ℕ) → i < j → i * buffers N + buffers N ≤ j * buffers N
-below_record N i j h = let z : suc i * buffers N ≤ j * buffers N = mul-le-mul_right (buffers N) h in omega arith
-
 pub station_rows_lem : (N R : ℕ) (j : RecordNumber) → j.0 < R → Rows N ((3 * R + 2) * N) (station_layout N R j)
 station_rows_lem N R j hj = let z = below_record N j.0 R hj in record {
   apart = λ i k hi hk e. omega arith;

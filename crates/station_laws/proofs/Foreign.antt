@@ -31,7 +31,7 @@ use Rattle.station.specs.StationRefusals.{StationOrder, record_for}
 use Rattle.station.specs.StationCommand.{station_refusal}
 use Rattle.station_laws.proofs.Live.{On, needs_b, needs_c, needs_d, needs_e, returns, offers, LiveProcess}
 use Rattle.station_laws.proofs.LiveWords.{LiveWords, Kept}
-use Rattle.station_laws.proofs.Accepts.{Accepts, accepts}
+use Rattle.station_facts.proofs.Accepts.{Accepts, accepts}
 use Rattle.station_laws.proofs.PutBack.{tables_other, process_other, process_put}
 use Rattle.station_laws.proofs.Agrees.{station, WordsFor, Agrees, return_stays, offer_stays, buffer_stays}
 

@@ -3,7 +3,6 @@ pub mod Live
 pub mod LiveWords
 pub mod LiveLines
 pub mod OneSide
-pub mod Accepts
 pub mod PutBack
 pub mod Agrees
 pub mod Own

@@ -33,7 +33,7 @@ use Rattle.station.specs.Projection.{bench_of, process_of, at_rest, elsewhere, e
 use Rattle.station.specs.StationRefusals.{StationOrder, record_for, station_in_range, station_process_ok, called_ok}
 use Rattle.station.specs.StationCommand.{station_refusal, station_command, obeyed_on}
 use Rattle.station_laws.specs.OneRecord.{as_bench, OneRecordCommand}
-use Rattle.station_laws.proofs.Accepts.{accepts, obeys, refuses}
+use Rattle.station_facts.proofs.Accepts.{accepts, obeys, refuses}
 use Rattle.station_laws.proofs.PutBack.{process_back, tables_back}
 
 abbrev pub only : RecordNumber

@@ -1,8 +1,8 @@
 -- A set-up for one record is the bench's set-up.
-use mathlib.Core.Path.{◌≡◌, refl, sym, ap, ap₂, ◌∙◌}
+use mathlib.Core.Path.{◌≡◌, sym, ap, ap₂, ◌∙◌}
 use mathlib.Core.Bool.{Bool, cond}
-use mathlib.Core.List.{List, [], ◌∷◌, ◌++◌, map, append_assoc}
-use Prim.Native.Nat.{ℕ, zero, suc, ◌+◌, ◌-◌, ◌*◌, ◌≤◌, ◌<◌}
+use mathlib.Core.List.{List, ◌++◌, map, append_assoc}
+use Prim.Native.Nat.{ℕ, ◌+◌, ◌-◌, ◌*◌, ◌≤◌, ◌<◌}
 use native.Mathlib.Nat.{mul-le-mul_right}
 use native.Mathlib.Decide.{ℕ_discrete, dec_lt}
 use native.Mathlib.Omega.{arith}
@@ -25,15 +25,9 @@ use Rattle.station.specs.Projection.{process_of}
 use Rattle.station.specs.StationRefusals.{StationShaped}
 use Rattle.station.specs.StationSetUp.{firsts, tables_at_set_up, holding_at_set_up, station_process_at_set_up, blocks, station_at_set_up, station_set_up, station_set_up_refusal}
 use Rattle.station_laws.specs.OneRecord.{as_bench, OneRecordSetUp}
-use Rattle.station_laws.proofs.StationSetUpLaws.{holding_only, StationAdmitted, station_admits, firsts_at, firsts_length}
+use Rattle.station_facts.proofs.Firsts.{firsts_at, firsts_length, firsts_later}
+use Rattle.station_laws.proofs.StationSetUpLaws.{holding_only, StationAdmitted, station_admits}
 use Rattle.station_laws.proofs.OneRecordLaws.{only, shown}
-
--- elements past the first c stay
-firsts_past : {A : Type 0} (f : ℕ → A → A) (a c : ℕ) (xs : List A) (i : ℕ) (d : A) → c ≤ i → get_or (firsts f a c xs) i d ≡ get_or xs i d
-firsts_past f a zero xs i d h = refl
-firsts_past f a (suc c) [] i d h = refl
-firsts_past f a (suc c) (x ∷ xs) zero d h = absurd (omega arith)
-firsts_past f a (suc c) (x ∷ xs) (suc i) d h = firsts_past f (suc a) c xs i d (omega arith)
 
 module _ (s : StationMemory) (shaped : StationShaped s) (n w : ℕ) (value : List ℕ) where
   number_same : station_set_up_refusal s n w 1 value ≡ set_up_refusal (as_bench s) n w value
@@ -77,7 +71,7 @@ module _ (s : StationMemory) (shaped : StationShaped s) (n w : ℕ) (value : Lis
             ∙ sym (sets_front new (map (process_of only) s.processes) i no_process (let x = new_length in omega arith)
             (let x = new_length in let y = length-map s.processes (process_of only) in let z = a.processes in omega arith))
         each i (no h) =
-            ap (process_of only) (firsts_past (station_process_at_set_up n 1) 0 n s.processes i no_station_process (omega arith)) ∙ sym (shown s.processes i)
+            ap (process_of only) (firsts_later (station_process_at_set_up n 1) 0 n s.processes i no_station_process (omega arith)) ∙ sym (shown s.processes i)
             ∙ sym (sets_out new (map (process_of only) s.processes) 0 i no_process (λ x y. let z = new_length in omega arith))
 
     words_same : blocks 1 n w value ≡ value ++ replicate (lent_words n w - w) 0

@@ -30,7 +30,7 @@ use Rattle.station.specs.StationCommand.{station_refusal, station_command, obeye
 use Rattle.station_laws.proofs.Agrees.{station_rows_lem, return_stays, offer_stays, buffer_stays}
 use Rattle.station_laws.proofs.LiveWords.{Kept, Rows}
 use Rattle.station_laws.proofs.OneSide.{obey_kept}
-use Rattle.station_laws.proofs.Accepts.{Accepts, accepts, obeys, every_number}
+use Rattle.station_facts.proofs.Accepts.{Accepts, accepts, obeys, every_number}
 use Rattle.station_laws.proofs.PutBack.{tables_other, process_other, holding_other}
 
 -- a line in range is the number of its point

@@ -52,7 +52,7 @@ use Rattle.station_laws.proofs.Live.{whole, returns, LiveProcess, pr}
 use Rattle.station_laws.proofs.LiveWords.{Kept}
 use Rattle.station_laws.proofs.LiveLines.{Alike, obey_alike}
 use Rattle.station_laws.proofs.OneSide.{answers_ll, obey_kept, obey_ll, InBounds, obey_in_is}
-use Rattle.station_laws.proofs.Accepts.{Accepts, accepts}
+use Rattle.station_facts.proofs.Accepts.{Accepts, accepts}
 use Rattle.station_laws.proofs.PutBack.{process_back, tables_back, process_other, process_put}
 use Rattle.station_laws.proofs.Agrees.{station, WordsFor, Agrees, shape, return_stays, offer_stays, return_alone, offer_alone}
 

@@ -30,7 +30,7 @@ use Rattle.station.specs.StationRefusals.{StationOrder, record_for, station_in_r
 use Rattle.station.specs.StationCommand.{station_refusal}
 use Rattle.station_laws.specs.StationOwnDoing.{NotLentStation}
 use Rattle.station_laws.proofs.Live.{LiveProcess}
-use Rattle.station_laws.proofs.Accepts.{every_at}
+use Rattle.station_facts.proofs.Accepts.{every_at}
 use Rattle.station_laws.proofs.Agrees.{shape}
 use Rattle.station_laws.proofs.StationRuns.{Inv}
 

@@ -34,7 +34,7 @@ use Rattle.station.specs.StationRefusals.{StationOrder, record_for, called_ok}
 use Rattle.station.specs.StationCommand.{station_refusal, station_command}
 use Rattle.station.specs.StationHistory.{station_says, is_for, nobody, given, seen, given_all, seen_all, station_after}
 use Rattle.station_laws.proofs.OneSide.{InBounds}
-use Rattle.station_laws.proofs.Accepts.{Accepts, accepts, obeys, refuses}
+use Rattle.station_facts.proofs.Accepts.{Accepts, accepts, obeys, refuses}
 use Rattle.station_laws.proofs.PutBack.{process_other, process_put}
 use Rattle.station_laws.proofs.Agrees.{station, Agrees}
 use Rattle.station_laws.proofs.Own

@@ -25,7 +25,8 @@ use Rattle.station.specs.declared.Tables.{Tables}
 use Rattle.station.specs.Station.{StationMemory, station_words, no_tables, no_holding, no_station_process, tables_at, process_at, holding_at}
 use Rattle.station.specs.Projection.{process_of}
 use Rattle.station.specs.StationRefusals.{StationShaped, station_set_up_rows}
-use Rattle.station.specs.StationSetUp.{firsts, tables_at_set_up, holding_at_set_up, station_process_at_set_up, blocks, station_at_set_up, station_set_up, station_set_up_refusal}
+use Rattle.station.specs.StationSetUp.{tables_at_set_up, holding_at_set_up, station_process_at_set_up, blocks, station_at_set_up, station_set_up, station_set_up_refusal}
+use Rattle.station_facts.proofs.Firsts.{firsts_at, firsts_length}
 use Rattle.station_laws.proofs.Live.{On, needs_b, needs_c, needs_d, needs_e, LiveProcess}
 use Rattle.station_laws.proofs.Agrees.{WordsFor, Agrees, station_rows_lem, one_rows_lem}
 use Rattle.station_laws.proofs.StationRuns.{Inv}
@@ -37,18 +38,6 @@ lent_alone s j n w = record {
   records = replicate n no_process;
   words = replicate (5 * n * w) 0;
 }
-
--- the first elements of a list, each by its number
-pub firsts_at : {A : Type 0} (f : ℕ → A → A) (a c : ℕ) (xs : List A) (i : ℕ) (d : A) → i < c → i < length xs → get_or (firsts f a c xs) i d ≡ f (a + i) (get_or xs i d)
-firsts_at f a zero xs i d hc hl = absurd (omega arith)
-firsts_at f a (suc c) [] i d hc hl = absurd (omega arith)
-firsts_at f a (suc c) (x ∷ xs) zero d hc hl = ap (λ k. f k x) (let z : a ≡ a + 0 = omega arith in z)
-firsts_at f a (suc c) (x ∷ xs) (suc i) d hc hl = firsts_at f (suc a) c xs i d (omega arith) (omega arith) ∙ ap (λ k. f k (get_or xs i d)) (let z : suc a + i ≡ a + suc i = omega arith in z)
-
-pub firsts_length : {A : Type 0} (f : ℕ → A → A) (a c : ℕ) (xs : List A) → length (firsts f a c xs) ≡ length xs
-firsts_length f a zero xs = refl
-firsts_length f a (suc c) [] = refl
-firsts_length f a (suc c) (x ∷ xs) = ap suc (firsts_length f (suc a) c xs)
 
 -- zeros behind a value are like nothing
 pad : (v : List ℕ) (x a : ℕ) → get_or (v ++ replicate x 0) a 0 ≡ get_or v a 0

@@ -30,7 +30,7 @@ use Rattle.station.specs.Projection as P
 use Rattle.station.specs.StationRefusals.{StationOrder, StationShaped}
 use Rattle.station.specs.StationCommand.{station_refusal, station_command}
 use Rattle.station_laws.specs.OneRecord.{as_bench}
-use Rattle.station_laws.proofs.Accepts.{accepts, obeys, refuses}
+use Rattle.station_facts.proofs.Accepts.{accepts, obeys, refuses}
 use Rattle.station_laws.proofs.OneRecordLaws.{shown}
 use Rattle.station_run.specs.StationText.{record0}
 use Rattle.station_texts.specs.EntryByEntry.{line_of, on_record0, station_machine}

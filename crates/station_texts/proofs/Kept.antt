@@ -26,7 +26,7 @@ use Rattle.station.specs.StationCommand.{station_refusal, station_command, obeye
 use Rattle.station.specs.StationSetUp.{firsts}
 use Rattle.station_facts.proofs.Firsts.{firsts_at, firsts_later, firsts_length}
 use Rattle.station_laws.specs.OneRecord.{as_bench}
-use Rattle.station_laws.proofs.Accepts.{accepts, obeys, refuses}
+use Rattle.station_facts.proofs.Accepts.{accepts, obeys, refuses}
 use Rattle.station_laws.proofs.PutBack.{process_back, tables_back, process_put, process_other}
 use Rattle.station_laws.proofs.OneRecordLaws.{shown, Says, one_record_lem}
 use Rattle.station_run.specs.StationText.{record0, put_record, after_run}
