@@ -11,7 +11,7 @@ use borrow.Author.Tests.{eq-eqb, ne_eqb, eqb-false, lt-leb, ltb-false}
 use Rattle.model.specs.declared.Reply.{Reply}
 use Rattle.model.specs.Machine.{Memory}
 use Rattle.model.specs.Replies.{number_of}
-use Rattle.machine.specs.Decision.{Outcome, decided}
+use Rattle.entry.specs.Decision.{Outcome, decided}
 use Rattle.notation.specs.declared.Entry.{Entry}
 use Rattle.notation.specs.declared.Entry.TheVariants.{StartLl, StartVl, StartSc, Step}
 use Rattle.notation.specs.Grammar.{largest}

@@ -18,12 +18,12 @@ use Rattle.model.specs.Refusals.{rows_of}
 use Rattle.model.specs.Command.{command}
 use Rattle.taken.specs.Ranges.{Obeyable}
 use Rattle.rows.specs.CommandRows.{ranges_ok, decision_number}
-use Rattle.machine.specs.Decision.{Outcome, refused_outcome, obeyed_at, decided, stored_back}
+use Rattle.entry.specs.Decision.{Outcome, refused_outcome, obeyed_at, decided, stored_back}
 use Rattle.lent.specs.Gathered.{gathered}
 use Rattle.laws.proofs.AndLaws.{left, right}
 use Rattle.rows.proofs.RowLaws.{Cleared, none_holds}
-use Rattle.machine.proofs.ObeyLaws.{obeyable, refused_law, obeyed_law}
-use Rattle.machine.proofs.DecisionLaws.{decision_law}
+use Rattle.entry.proofs.ObeyableLaws.{obeyable, refused_law, obeyed_law}
+use Rattle.entry.proofs.DecidedLaws.{decision_law}
 use Rattle.entry.specs.RunState.{Filled}
 use Rattle.entry.proofs.WordLaws.{Every}
 use Rattle.entry.proofs.ObeyLaws.{Obeyed, order_obeyed}

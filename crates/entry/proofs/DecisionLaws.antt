@@ -18,7 +18,7 @@ use Rattle.model.specs.Records.{no_process}
 use Rattle.model.specs.Words.{return_area, return_word}
 use Rattle.llsc.specs.Rows.{every}
 use Rattle.model.specs.Refusals.{in_range, bench_ok, process_ok, buffer_ok, x_ok, line_ok, count_ok, is_idle}
-use Rattle.machine.specs.Decision.{Outcome}
+use Rattle.entry.specs.Decision.{Outcome}
 use Rattle.laws.proofs.AndLaws.{right}
 use Rattle.laws.proofs.ListLaws.{every_at}
 use Rattle.rows.proofs.RowLaws.{Cleared}

@@ -25,11 +25,11 @@ use Rattle.taken.specs.declared.Taken.{Taken}
 use Rattle.taken.specs.declared.Stepped.{Stepped}
 use Rattle.llsc.specs.Rows.{row8}
 use Rattle.rows.specs.CommandRows.{decision_number, late_number}
-use Rattle.machine.specs.Decision.{Outcome, refused_outcome, obeyed_outcome, decided}
+use Rattle.entry.specs.Decision.{Outcome, refused_outcome, obeyed_outcome, decided}
 use Rattle.taken.specs.Ranges.{Ready}
 use Rattle.taken.specs.Taken.{bank_index, help_index, taken_at, put_taken, put_back}
 use Rattle.rows.proofs.RowLaws.{late_decides}
-use Rattle.machine.proofs.ObeyLaws.{obeyable, refused_law, obeyed_law}
+use Rattle.entry.proofs.ObeyableLaws.{obeyable, refused_law, obeyed_law}
 use Rattle.steps.proofs.TakenLaws.{whole_order}
 use Rattle.notation.specs.declared.Entry.{Entry}
 use Rattle.notation.specs.declared.Entry.TheVariants.{StartLl, StartVl, StartSc, Step, Finish}

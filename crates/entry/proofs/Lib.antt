@@ -1,6 +1,8 @@
 pub mod FilledLaws
 pub mod WordLaws
 pub mod ObeyLaws
+pub mod ObeyableLaws
+pub mod DecidedLaws
 pub mod CommandLaws
 pub mod DecisionLaws
 pub mod SingleLaws

@@ -24,7 +24,7 @@ use Rattle.taken.specs.Ranges.{Ready}
 use Rattle.taken.specs.Taken.{bank_index, help_index, taken_at}
 use Rattle.rows.specs.CommandRows.{late_number}
 use Rattle.rows.proofs.RowLaws.{late_decides}
-use Rattle.machine.proofs.ObeyLaws.{obeyable}
+use Rattle.entry.proofs.ObeyableLaws.{obeyable}
 use Rattle.notation.specs.declared.Entry.{Entry}
 use Rattle.access.specs.declared.Access.{Access}
 use Rattle.access.specs.Accesses.{access_of}

@@ -1,2 +1,3 @@
 pub mod RunState
+pub mod Decision
 pub mod Turned

@@ -18,8 +18,8 @@ use Rattle.model.specs.Command.{command}
 use Rattle.lent.specs.Gathered.{gathered}
 use Rattle.lent.proofs.GatheredLaws.{gathered_length}
 use Rattle.words.proofs.WordLaws.{within}
-use Rattle.machine.specs.Decision.{Outcome, obeyed_at, stored_back}
-use Rattle.machine.proofs.DecisionLaws.{decision_law}
+use Rattle.entry.specs.Decision.{Outcome, obeyed_at, stored_back}
+use Rattle.entry.proofs.DecidedLaws.{decision_law}
 use Rattle.semantics.specs.TextRun.{line_of}
 use Rattle.entry.proofs.WordLaws.{Below, Every}
 use Rattle.entry.proofs.ObeyLaws.{Plain, accepted, ll, sc, vl, plain_none}

@@ -1,5 +1,5 @@
 -- The ranges that a step relies on, n for N and w for W: what rows 1, 2, 3, 9 and 4 of the refusal table ask of an
--- accepted one. `access`'s `Truth` has them as premise; `machine`'s `ObeyLaws` proves them of every command that no row
+-- accepted one. `access`'s `Truth` has them as premise; `entry`'s `ObeyableLaws` proves them of every command that no row
 -- refuses.
 use Rattle.std.specs.Prelude.{◌≡◌, true, ℕ, ◌<◌, ◌≤◌, List, length}
 use Rattle.llsc.specs.declared.ProcessNumber.{ProcessNumber}

@@ -1,5 +1,5 @@
 -- The command by value: `list` is the lent records with a filler after them, `len` how many were lent.
--- Inner: `DecisionLaws` proves that this, stored back, is `model`'s command.
+-- Inner: `DecidedLaws` proves that this, stored back, is `model`'s command.
 use Rattle.std.specs.Prelude.{ℕ, List, cond, eqb, length, set}
 use Rattle.model.specs.declared.Bench.{Bench}
 use Rattle.model.specs.declared.Process.{Process}

@@ -17,7 +17,7 @@ use Rattle.llsc.specs.Rows.{every}
 use Rattle.model.specs.Refusals.{in_range, bench_ok, process_ok}
 use Rattle.taken.specs.Ranges.{Obeyable}
 use Rattle.rows.specs.CommandRows.{decision_number}
-use Rattle.machine.specs.Decision.{refused_outcome, obeyed_at, decided}
+use Rattle.entry.specs.Decision.{refused_outcome, obeyed_at, decided}
 use Rattle.laws.proofs.AndLaws.{right}
 use Rattle.laws.proofs.ListLaws.{every_at}
 use Rattle.rows.proofs.RowLaws.{Cleared, none_holds, InRange, in_range_lem}

@@ -17,11 +17,11 @@ use Rattle.llsc.specs.Rows.{every, row1, row2, row4, row8}
 use Rattle.model.specs.Refusals.{in_range, bench_ok, process_ok, row3, row5, row6, row7}
 use Rattle.model.specs.Command.{refusal, command}
 use Rattle.rows.specs.CommandRows.{decision_number}
-use Rattle.machine.specs.Decision.{decided, obeyed_at}
+use Rattle.entry.specs.Decision.{decided, obeyed_at}
 use Rattle.lent.specs.Gathered.{gathered}
-use Rattle.machine.specs.Decision.{stored_back}
+use Rattle.entry.specs.Decision.{stored_back}
 use Rattle.rows.proofs.RowLaws.{n_in, neither, none_holds}
-use Rattle.machine.proofs.ObeyLaws.{refused_law, obeyed_law}
+use Rattle.entry.proofs.ObeyableLaws.{refused_law, obeyed_law}
 use Rattle.lent.proofs.GatheredLaws.{gathered_here, gathered_take}
 
 -- two tables with the same first three rows, and then the same number where those do not hold
