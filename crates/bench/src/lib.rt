@@ -1,8 +1,11 @@
-// The public entries: a set-up, a command and a text run of a station over lent memory, and the view of a written value.
-// None asks anything of the caller.
+// The public entries over lent memory: a set-up, a command and a text run of a station, the view of a written value, a
+// turn (`turns`) and the run of a board's trace file (`board_files`). None asks anything of the caller.
 // Kept: each takes what is lent, and what is ordered, one by one, as 01 names them to users.
 
 #![tactic(auto)]
+
+mod board_files;
+mod turns;
 
 ghost use Rattle.std.specs.Prelude.{◌≡◌};
 ghost use Rattle.model.specs.View.{view_number, view};
@@ -11,6 +14,7 @@ ghost use Rattle.station.specs.StationCommand.{station_command};
 ghost use Rattle.station.specs.StationSetUp.{station_set_up};
 ghost use Rattle.station_run.specs.StationText.{station_run_text};
 
+pub use board_files::run_file;
 use llsc::Order;
 use llsc::refusals::number_of;
 use model::Reply;
@@ -19,6 +23,7 @@ use station_records::gathered::gather;
 use station_rows::commands::{Command, Ordered};
 use station_setup::gathered::set_up_gathered;
 pub use text_runs::returned::TextRun;
+pub use turns::turn;
 
 // Process `process`, any number, is given an order: a start names a record, any number, and brings the words of `value`
 // where it starts an SC; a step goes to the record of the open call, whatever `named` and `value` are.

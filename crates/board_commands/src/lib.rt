@@ -1,5 +1,5 @@
 // The run of a board's trace file on record 0 of a station (02, CR 12), by value. Every function is inner; the entry over
-// lent memory is in `board_run`.
+// lent memory is in `bench`.
 
 #![tactic(auto)]
 

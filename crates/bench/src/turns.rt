@@ -1,7 +1,4 @@
-// The public entry for a turn of process 0 or 1 over lent memory (CR 5). It asks nothing of the caller.
-
-#![tactic(auto)]
-
+// The entry for a turn of process 0 or 1 over lent memory (CR 5).
 ghost use Rattle.std.specs.Prelude.{◌≡◌};
 ghost use Rattle.station.specs.Station.{station_memory};
 ghost use Rattle.turns_model.specs.Turns.{turn_of};

@@ -1,7 +1,4 @@
-// The run of a board's trace file over lent memory (02, CR 12). `run_file` is for users and asks nothing of its caller.
-
-#![tactic(auto)]
-
+// The entry for a run of a board's trace file over lent memory (CR 12).
 ghost use Rattle.std.specs.Prelude.{◌≡◌};
 ghost use Rattle.station.specs.Station.{station_memory};
 ghost use Rattle.board_commands.specs.BoardRun.{run_file};
