@@ -27,10 +27,9 @@ use Rattle.positions.specs.declared.StopReport.TheVariants.{NotRead, AtFault, At
 use Rattle.text_runs.specs.Machines.{Machine}
 use Rattle.text_runs.specs.TextRun.{Progress, process_of, room_needed, longest_text, begun, carry, carry_all}
 use Rattle.text_runs.specs.StopPlaces.{reported_process, sizes, at_no_item, at_entry, stop_index, item_report, started_report, StopInText, StopsAt}
-use Rattle.text_runs.specs.KeptEntries.{entries_in, places_in, word_report, said_with, report_with}
+use Rattle.text_runs.specs.KeptEntries.{FarRefused, entries_in, places_in, word_report, said_with, report_with}
 use Rattle.text_runs.proofs.KeptLaws.{kept_run, kept_index}
-use Rattle.text_runs.specs.Whole.{FarRefused}
-use Rattle.text_runs.specs.Carrying.{Over}
+use Rattle.whole_runs.specs.Carrying.{Over}
 
 -- two reports of items are the same if they are where the run is stopped
 same_item : (k n w : ℕ) {a b : StopReport} → ((k ≡ 0 → ⊥) → a ≡ b) → cond (eqb k 0) (at_no_item n w) a ≡ cond (eqb k 0) (at_no_item n w) b

@@ -5,19 +5,19 @@ ghost use Rattle.listing.specs.declared.Writer.{Writer};
 ghost use Rattle.notation.specs.Grammar.{largest};
 ghost use Rattle.text_runs.specs.declared.runs.Run.{Run};
 ghost use Rattle.text_runs.specs.Runs.{last_room};
-ghost use Rattle.text_runs.specs.Carrying.{in_run};
+ghost use Rattle.whole_runs.specs.Carrying.{in_run};
 ghost use Rattle.text_runs.specs.StopPlaces.{StopInText};
-ghost use Rattle.text_runs.specs.KeptEntries.{entries_in, places_in, started_with, report_with, says_after};
-ghost use Rattle.text_runs.specs.Whole.{FarRefused, Headed, Roomy, Prepared, Lasting, Ran, progress_with, end_of};
+ghost use Rattle.text_runs.specs.KeptEntries.{FarRefused, entries_in, places_in, started_with, report_with, says_after};
+ghost use Rattle.whole_runs.specs.Whole.{Headed, Roomy, Prepared, Lasting, Ran, progress_with, end_of};
 
 use crate::entry_loop::{self, Carrier};
-use crate::runs::{self, Finished, Run};
-use crate::{limits, lists, reports};
 use listing::Writer;
 use llsc::refusals::Refusal;
 use notation::items::Items;
 use notation::{First, items};
 use positions::{Sizes, StopReport};
+use text_runs::runs::{self, Finished, Run};
+use text_runs::{limits, lists, reports};
 
 // What a bench holds of a run, with which it is set up too.
 pub trait Starter: Carrier {

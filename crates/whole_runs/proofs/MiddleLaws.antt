@@ -13,7 +13,7 @@ use Rattle.notation.specs.declared.Entry.TheVariants.{StartLl, StartVl, StartSc,
 use Rattle.text_runs.specs.Machines.{Machine}
 use Rattle.text_runs.specs.TextRun.{Progress, single, finish, carry, carry_all}
 use Rattle.text_runs.specs.StopPlaces.{stop_index}
-use Rattle.text_runs.specs.Carrying.{gone_on, Over}
+use Rattle.whole_runs.specs.Carrying.{gone_on, Over}
 use Rattle.text_runs.proofs.UntilAnswered.{until_answered}
 use Rattle.text_runs.proofs.KeptLaws.{all_stay}
 

@@ -7,12 +7,12 @@ ghost use Rattle.text_runs.specs.declared.runs.Run.{Run};
 ghost use Rattle.text_runs.specs.Machines.{Machine};
 ghost use Rattle.text_runs.specs.TextRun.{Progress};
 ghost use Rattle.text_runs.specs.KeptEntries.{entries_in};
-ghost use Rattle.text_runs.specs.Carrying.{in_run, done_after, turn_number, Turned, Over, Kept};
+ghost use Rattle.whole_runs.specs.Carrying.{in_run, done_after, turn_number, Turned, Over, Kept};
 
-use crate::runs::{Carried, Run};
 use listing::Writer;
 use llsc::refusals::Refusal;
 use notation::{Entry, entry_words};
+use text_runs::runs::{Carried, Run};
 
 // What a bench holds of a run, with which it carries out one entry after the other.
 pub trait Carrier: Copy {

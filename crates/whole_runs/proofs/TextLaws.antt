@@ -20,9 +20,8 @@ use Rattle.notation.proofs.ReadingLaws.{reader}
 use Rattle.notation.proofs.Theorems.{right_is_read}
 use Rattle.text_runs.specs.Machines.{Machine}
 use Rattle.text_runs.specs.TextRun.{Progress, room_needed, longest_text, carry_all, ended, begun, started, carried_out, run_with}
-use Rattle.text_runs.specs.KeptEntries.{entries_in, refused_with, started_with, says_after}
+use Rattle.text_runs.specs.KeptEntries.{FarRefused, entries_in, refused_with, started_with, says_after}
 use Rattle.text_runs.proofs.KeptLaws.{kept_run}
-use Rattle.text_runs.specs.Whole.{FarRefused}
 
 -- a set-up that is refused, and one that is not
 pub not_begun : {A B : Type 0} (k : ℕ) (F : B → A) (x m : B) (e : A) → (k ≡ 0 → ⊥) → cond (eqb k 0) (F (cond (eqb k 0) x m)) e ≡ e

@@ -1,11 +1,11 @@
--- `text_runs::texts::checked`: the items read once, and then carried out or refused.
+-- `whole_runs::texts::checked`: the items read once, and then carried out or refused.
 use mathlib.Core.Path.{◌∙◌}
 use Rattle.std.specs.Prelude.{Err}
 use Rattle.notation.proofs.ItemsLaws.{items_as}
-use Rattle.text_runs.proofs.TextLaws.{kept_says}
-use Rattle.text_runs.proofs.StopLaws.{report_is, broken_stops, closed_stops, kept_stops}
-use Rattle.text_runs.proofs.WholeLaws.{closed_report}
-use Rattle.text_runs.proofs.texts.checked.Goals as goal
+use Rattle.whole_runs.proofs.TextLaws.{kept_says}
+use Rattle.whole_runs.proofs.StopLaws.{report_is, broken_stops, closed_stops, kept_stops}
+use Rattle.whole_runs.proofs.WholeLaws.{closed_report}
+use Rattle.whole_runs.proofs.texts.checked.Goals as goal
 
 pub returns-in-Err-clause-report : goal.returns-in-Err-clause-report
 returns-in-Err-clause-report g c =

@@ -1,7 +1,6 @@
 -- A whole text run as the code holds it, on any bench: its set-up, and what its parts answer.
 -- Inner: `WholeLaws` proves that the parts make `TextRun`'s run and `StopPlaces`' report.
 use Rattle.std.specs.Prelude.{◌≡◌, ℕ, ◌+◌, ◌≤◌, List, Bool, false, Result, Ok, Err, length, replicate}
-use Rattle.llsc.specs.declared.Order.{Order}
 use Rattle.llsc.specs.declared.refusals.Refusal.{Refusal}
 use Rattle.llsc.specs.Refusals.{number_told}
 use Rattle.listing.specs.declared.Writer.{Writer}
@@ -40,12 +39,6 @@ pub record Lasting (entries k : ℕ) (to : Writer) (Lendable : Type 0) : Type 0 
 abbrev pub memory_after : {A : Type 0} → Result (Unit {0}) Refusal → A → A → A
 memory_after (Ok x) done before = done
 memory_after (Err f) done before = before
-
--- A process number above 15 is none of N: on this memory its commands are all refused, and with one number.
-pub record FarRefused (M : Machine) (m : M.Memory) : Type 0 where
-  pub number : ℕ
-  pub some : number ≡ 0 → ⊥
-  pub refused : (p : ℕ) (o : Order) (v : List ℕ) → 16 ≤ p → M.number_of (M.command m p o v).0 ≡ number
 
 -- the machine's set-up, with the first line's numbers: refused with its number, or done
 pub record Prepared (M : Machine) (f : First) (m : M.Memory) (r : Result (Unit {0}) Refusal) (m' : M.Memory) : Type 0 where

@@ -1,7 +1,7 @@
--- `text_runs::texts::started`: the set-up refused, or done and the entries carried out.
+-- `whole_runs::texts::started`: the set-up refused, or done and the entries carried out.
 use mathlib.Core.Path.{refl, sym}
-use Rattle.text_runs.proofs.WholeLaws.{closed_report, report_done}
-use Rattle.text_runs.proofs.texts.started.Goals as goal
+use Rattle.whole_runs.proofs.WholeLaws.{closed_report, report_done}
+use Rattle.whole_runs.proofs.texts.started.Goals as goal
 
 pub returns-clause-report : goal.returns-clause-report
 returns-clause-report g c =

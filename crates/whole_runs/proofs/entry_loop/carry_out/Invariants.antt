@@ -1,9 +1,9 @@
--- `text_runs::entry_loop::carry_out`: a turn of the loop is an entry made, refused or not yet over (`LoopLaws`).
+-- `whole_runs::entry_loop::carry_out`: a turn of the loop is an entry made, refused or not yet over (`LoopLaws`).
 use mathlib.Core.Path.{◌≡◌}
 use Prim.Native.Nat.{◌-◌}
-use Rattle.text_runs.specs.Carrying.{in_run, Kept}
-use Rattle.text_runs.proofs.LoopLaws.{Turning}
-use Rattle.text_runs.proofs.entry_loop.carry_out.Given as goal
+use Rattle.whole_runs.specs.Carrying.{in_run, Kept}
+use Rattle.whole_runs.proofs.LoopLaws.{Turning}
+use Rattle.whole_runs.proofs.entry_loop.carry_out.Given as goal
 
 abbrev pub invariant-loop-at : goal.invariant-loop-at
 invariant-loop-at g l = let b = g.B.Carrier in record {

@@ -19,12 +19,12 @@ use Rattle.text_runs.specs.TextRun.{Progress, room_needed, begun}
 use Rattle.text_runs.specs.StopPlaces.{at_no_item, item_report}
 use Rattle.text_runs.specs.KeptEntries.{entries_in, places_in, word_report, refused_with, report_with}
 use Rattle.text_runs.specs.Runs.{Outcome, closed_at, fresh_run}
-use Rattle.text_runs.specs.Carrying.{Over}
-use Rattle.text_runs.specs.Whole.{progress_with, end_of}
-use Rattle.text_runs.proofs.StopLaws.{item_read, report_is, line_stops, stops_14, stops_12, stops_looked}
+use Rattle.whole_runs.specs.Carrying.{Over}
+use Rattle.whole_runs.specs.Whole.{progress_with, end_of}
+use Rattle.whole_runs.proofs.StopLaws.{item_read, report_is, line_stops, stops_14, stops_12, stops_looked}
 use Rattle.notation.proofs.ItemsLaws.{items_as}
-use Rattle.text_runs.proofs.FaultLaws.{broken_small}
-use Rattle.text_runs.proofs.TextLaws.{broken_says, closed_says, run_14, run_12, run_not_headed, run_headed}
+use Rattle.whole_runs.proofs.FaultLaws.{broken_small}
+use Rattle.whole_runs.proofs.TextLaws.{broken_says, closed_says, run_14, run_12, run_not_headed, run_headed}
 
 pub room_left : (t : Bool) {k : ℕ} (list : List ℕ) → k ≡ room_needed t → k ≤ length list → room_needed t ≤ length list
 room_left t list e l = omega (arith, e, l)

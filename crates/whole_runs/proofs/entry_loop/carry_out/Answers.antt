@@ -1,12 +1,12 @@
--- `text_runs::entry_loop::carry_out`: a turn of the loop is an entry made, refused or not yet over (`LoopLaws`).
+-- `whole_runs::entry_loop::carry_out`: a turn of the loop is an entry made, refused or not yet over (`LoopLaws`).
 use mathlib.Core.Path.{sym, ◌∙◌}
 use Prim.Native.Nat.{◌+◌}
 use native.Mathlib.Omega.{arith}
 use Rattle.llsc.specs.Refusals.{refusal_number}
 use Rattle.llsc.proofs.RefusalNumbers.{number_some}
-use Rattle.text_runs.specs.Carrying.{in_run}
-use Rattle.text_runs.proofs.LoopLaws.{kept_then, turn_more, turn_ends, turn_over, turn_further}
-use Rattle.text_runs.proofs.entry_loop.carry_out.Goals as goal
+use Rattle.whole_runs.specs.Carrying.{in_run}
+use Rattle.whole_runs.proofs.LoopLaws.{kept_then, turn_more, turn_ends, turn_over, turn_further}
+use Rattle.whole_runs.proofs.entry_loop.carry_out.Goals as goal
 
 pub overflow_add-entries : goal.overflow_add-entries
 overflow_add-entries g c =

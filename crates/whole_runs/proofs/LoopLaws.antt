@@ -15,9 +15,9 @@ use Rattle.text_runs.specs.Machines.{Machine}
 use Rattle.text_runs.specs.TextRun.{Progress, most_entries, single}
 use Rattle.text_runs.specs.KeptEntries.{entries_in}
 use Rattle.listing.specs.declared.Writer.{Writer}
-use Rattle.text_runs.specs.Carrying.{Kept, Over, gone_on}
+use Rattle.whole_runs.specs.Carrying.{Kept, Over, gone_on}
 use Rattle.text_runs.proofs.SingleEntries.{single_made}
-use Rattle.text_runs.proofs.MiddleLaws.{Middle, middle_none, middle_all, middle_refused, middle_over, middle_further}
+use Rattle.whole_runs.proofs.MiddleLaws.{Middle, middle_none, middle_all, middle_refused, middle_over, middle_further}
 
 -- the numbers of a kept entry are small
 either_small : (t : Bool) (a b : Entry) → Small a → Small b → Small (cond t a b)
