@@ -24,7 +24,7 @@ use Rattle.llsc.specs.Object.{Kind, ll, sc, vl}
 use Rattle.llsc.specs.History.{Command, Slot, none, running, slot_after, slots_after, slots_from, slots}
 use Rattle.model.specs.History.{event_of, events}
 use Rattle.model.specs.Linearizable.{OpenCounted}
-use Rattle.linearization.specs.After.{after}
+use Rattle.after_commands.specs.After.{after}
 use Rattle.linearization.proofs.Theorems.{demand_3}
 use Rattle.linearization.proofs.GhostMachine.{Local, State}
 use Rattle.linearization.proofs.GhostRuns.{setup}

@@ -20,7 +20,7 @@ use Rattle.model.specs.Machine.{Memory, Shaped, step_at, obey}
 use Rattle.model.specs.Command.{command, refusal, obeyed}
 use Rattle.model.specs.SetUp.{set_up, set_up_refusal, bank_at_set_up, help_at_set_up, numbers}
 use Rattle.llsc.specs.History.{Command}
-use Rattle.linearization.specs.After.{after}
+use Rattle.after_commands.specs.After.{after}
 use Rattle.semantics.specs.Reached.{Reached}
 
 -- the tables are as long as before

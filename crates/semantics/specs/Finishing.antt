@@ -7,7 +7,7 @@ use Rattle.llsc.specs.Object.{Kind}
 use Rattle.llsc.specs.History.{Command, running, slots}
 use Rattle.model.specs.History.{events}
 use Rattle.model.specs.Linearizable.{largest}
-use Rattle.linearization.specs.After.{after}
+use Rattle.after_commands.specs.After.{after}
 use Rattle.notation.specs.declared.Entry.TheVariants.{Step, Finish}
 use Rattle.semantics.specs.TextRun.{Progress, single, unanswered, finish, carry}
 

@@ -10,8 +10,8 @@ use Rattle.llsc.specs.Answers.{answered, sc_truth}
 use Rattle.llsc.specs.Object.{sc}
 use Rattle.llsc.specs.History.{Command, running, slots}
 use Rattle.model.specs.History.{events, event_of}
-use Rattle.linearization.specs.After.{after}
-use Rattle.linearization.specs.Changes.{changes}
+use Rattle.after_commands.specs.After.{after}
+use Rattle.after_commands.specs.Changes.{changes}
 
 -- the words of a buffer
 abbrev pub buffer_words : Memory → BufferNumber → List ℕ

@@ -5,7 +5,7 @@ use Rattle.model.specs.Machine.{Memory, Shaped}
 use Rattle.model.specs.Command.{refusal}
 use Rattle.model.specs.SetUp.{set_up}
 use Rattle.llsc.specs.History.{Command}
-use Rattle.linearization.specs.After.{after}
+use Rattle.after_commands.specs.After.{after}
 
 abbrev pub NeverForItsOwnDoing : Type 0
 NeverForItsOwnDoing =

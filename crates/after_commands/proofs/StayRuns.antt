@@ -13,9 +13,9 @@ use Rattle.model.specs.SetUp.{set_up, set_up_refusal}
 use Rattle.llsc.specs.History.{Command, calls_from, calls, slots_from}
 use Rattle.model.specs.History.{events}
 use Rattle.model.proofs.Schedules.{l, s, steps, dirty}
-use Rattle.linearization.specs.After.{after}
-use Rattle.linearization.specs.Changes.{changes, successes}
-use Rattle.linearization.specs.WordsStay.{buffer_words, Writes, lasting, SetUpValueStays, WrittenWordsStay}
+use Rattle.after_commands.specs.After.{after}
+use Rattle.after_commands.specs.Changes.{changes, successes}
+use Rattle.after_commands.specs.WordsStay.{buffer_words, Writes, lasting, SetUpValueStays, WrittenWordsStay}
 
 -- a set-up for N = n, W = 1 and the initial value 5
 abbrev begun : ℕ → Memory

@@ -10,7 +10,7 @@ use Rattle.llsc.specs.Rows.{some}
 use Rattle.model.specs.Machine.{Memory, Shaped}
 use Rattle.model.specs.SetUp.{set_up, numbers}
 use Rattle.llsc.specs.History.{Command}
-use Rattle.linearization.specs.After.{after}
+use Rattle.after_commands.specs.After.{after}
 
 -- "if p has done line 1 but not line 10 of an LL": its next step is at line 2 or a later one, up to line 10
 abbrev pub asking : Process → Bool

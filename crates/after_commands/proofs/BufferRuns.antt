@@ -15,8 +15,8 @@ use Rattle.model.specs.Command.{command, refusal}
 use Rattle.model.specs.SetUp.{set_up, set_up_refusal, numbers}
 use Rattle.llsc.specs.History.{Command}
 use Rattle.model.proofs.Schedules.{l, v, s, steps, dirty}
-use Rattle.linearization.specs.After.{after}
-use Rattle.linearization.specs.Buffers.{held, occurrences}
+use Rattle.after_commands.specs.After.{after}
+use Rattle.after_commands.specs.Buffers.{held, occurrences}
 
 -- lent memory for every N, with W = 1
 abbrev lent : Memory
