@@ -30,7 +30,7 @@ use Rattle.linearization.proofs.CommandRuns.{holds_along}
 use Rattle.access.specs.Truth.{Stepped}
 use Rattle.access.proofs.SmallLaws.{row_9_parts}
 use Rattle.semantics.specs.Reached.{Reached}
-use Rattle.semantics.proofs.TableLengths.{reached_shaped}
+use Rattle.semantics_laws.proofs.TableLengths.{reached_shaped}
 
 -- a command that is not refused
 module _ (m : Memory) (p : ℕ) (o : Order) (v : List ℕ) where

@@ -32,7 +32,7 @@ use Rattle.text_runs.specs.TextRun.{process_of, order_of, value_of}
 use Rattle.text_runs.proofs.ToldLaws as T
 use Rattle.semantics.specs.TextRun.{figure2, Progress, carry_all, begun}
 use Rattle.semantics.proofs.ReachedLaws.{reached_set_up, reached_command}
-use Rattle.semantics.proofs.AcceptedSteps.{unrefused, left_by, stepped, at_work}
+use Rattle.semantics_laws.proofs.AcceptedSteps.{unrefused, left_by, stepped, at_work}
 
 -- What the trace line of an entry says of its command, which found the memory m and left m'.
 -- Of a step: README, "every access that led to them": the access shown tells the truth, in the sense of `TellsTruth`.

@@ -29,7 +29,7 @@ use Rattle.positions.specs.declared.StopReport.{StopReport}
 use Rattle.positions.specs.declared.StopReport.TheVariants.{AtFault, AtItem}
 use Rattle.text_runs.specs.StopPlaces.{sizes, at_no_item}
 use Rattle.semantics.specs.StopPlaces.{started_report, StopInText, StopsAt}
-use Rattle.semantics.proofs.BenchRuns.{dirty_x, dirty_bank, dirty_help, dirty_process, lent, dirty_bytes}
+use Rattle.semantics_laws.proofs.BenchRuns.{dirty_x, dirty_bank, dirty_help, dirty_process, lent, dirty_bytes}
 
 -- the report by the reading of the text
 pub report_read : Bool → Memory → List ℕ → List ℕ → Reading → StopReport

@@ -14,10 +14,10 @@ use Rattle.semantics.specs.Reached.{Reached}
 use Rattle.text_runs.specs.TextRun.{most_entries}
 use Rattle.text_runs.specs.TextRun as TR
 use Rattle.semantics.specs.TextRun.{figure2, Progress, lines_of, counted, single, unanswered, steps, finish}
-use Rattle.semantics.specs.Finishing.{UntilAnswered, FinishBounded}
+use Rattle.semantics_laws.specs.Finishing.{UntilAnswered, FinishBounded}
 use Rattle.semantics.proofs.ReachedLaws.{reached_command}
-use Rattle.semantics.proofs.AcceptedSteps.{unrefused, stepped_busy}
-use Rattle.semantics.proofs.OpenCalls.{Open, open_in, open_fewer, busy_open, reached_n, one_step_more}
+use Rattle.semantics_laws.proofs.AcceptedSteps.{unrefused, stepped_busy}
+use Rattle.semantics_laws.proofs.OpenCalls.{Open, open_in, open_fewer, busy_open, reached_n, one_step_more}
 use Rattle.text_runs.proofs.UntilAnswered as R
 use Rattle.text_runs.proofs.UntilAnswered.{busy_after}
 use Rattle.text_runs.proofs.SingleEntries.{outcome, Made, single_made, single_entries}

@@ -33,7 +33,7 @@ use Rattle.text_runs.specs.TextRun.{value_of}
 use Rattle.semantics.specs.TextRun.{commanded, single, unanswered, steps, finish, carry, carry_all, Ended, ended, begun}
 use Rattle.text_runs.specs.TextRun.{most_entries, room_needed, longest_text}
 use Rattle.semantics.specs.TextRun.{started, carried_out, run_with, run_text}
-use Rattle.semantics.proofs.CommandFrame.{with_records, behind, same_record, command_frame, command_records, unrefused_below, set_up_frame, set_up_records}
+use Rattle.semantics_laws.proofs.CommandFrame.{with_records, behind, same_record, command_frame, command_records, unrefused_below, set_up_frame, set_up_records}
 
 -- a run whose memory has more records behind its own
 abbrev pub longer : List Process → Progress → Progress
