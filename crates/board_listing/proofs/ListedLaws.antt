@@ -17,7 +17,7 @@ use Rattle.boards.specs.Files.{decode, good_trailer, good_records, file_number}
 use Rattle.boards.specs.Places.{read, RightFile, WrongFile}
 use Rattle.text_runs.specs.TextRun.{room_needed}
 use Rattle.notation.specs.declared.First.{First}
-use Rattle.text_runs.specs.Whole.{Prepared}
+use Rattle.whole_runs.specs.Whole.{Prepared}
 use Rattle.semantics.specs.TextRun.{figure2, Ended, ended, begun}
 use Rattle.entry.specs.declared.state.Held.{Held}
 use Rattle.entry.specs.RunState.{progress, Sound}

@@ -16,7 +16,7 @@ use Rattle.boards.specs.Places.{read}
 use Rattle.semantics.specs.TextRun.{figure2, Progress, single}
 use Rattle.std.specs.Prelude.{Result, Ok, Err}
 use Rattle.llsc.specs.declared.refusals.Refusal.{Refusal}
-use Rattle.text_runs.specs.Carrying.{Turned, turn_number}
+use Rattle.whole_runs.specs.Carrying.{Turned, turn_number}
 use Rattle.entry.specs.RunState.{RunState, progress, Sound, Small, Becomes}
 use Rattle.board_listing.specs.BoardListing.{entry_of, obeyed, obey_all}
 use Rattle.board_listing.specs.ListedRun.{recounted, counted_state, stopped_state, Between, Obeys}

@@ -7,7 +7,7 @@ use Rattle.llsc.specs.Refusals.{number_told}
 use Rattle.std.proofs.lemmas.List.Edits.{sets}
 use Rattle.boards.specs.Files.{BoardRecord}
 use Rattle.entry.specs.declared.state.Held.{Held}
-use Rattle.text_runs.specs.Carrying.{in_run}
+use Rattle.whole_runs.specs.Carrying.{in_run}
 use Rattle.entry.specs.RunState.{RunState, state_with, progress, Sound}
 use Rattle.run.specs.Finished.{memory_of}
 use Rattle.text_runs.specs.Runs.{fresh_run, last_of}

@@ -16,7 +16,7 @@ use llsc::refusals::Refusal;
 use notation::First;
 use run::carrying::LentHeld;
 use text_runs::limits;
-use text_runs::texts::Starter;
+use whole_runs::texts::Starter;
 
 // A run that is refused before its first command.
 // Kept: the room is a fact on a lent list, tested once in `run_listed`; a struct for it would be undone at each line.

@@ -9,7 +9,7 @@ use boards::records::Record;
 use entry::state::Held;
 use listing::Writer;
 use run::carrying::LentHeld;
-use text_runs::entry_loop::Carrier;
+use whole_runs::entry_loop::Carrier;
 
 // Behind the bytes that are written already. Each record is an entry of a run that has done none; the commands done are
 // counted here.

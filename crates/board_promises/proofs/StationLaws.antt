@@ -12,7 +12,7 @@ use Rattle.model.specs.declared.Reply.{Reply}
 use Rattle.model.specs.Machine.{Memory, obey}
 use Rattle.model.specs.Command.{refusal, command}
 use Rattle.model.specs.Replies.{number_of}
-use Rattle.linearization.specs.After.{after}
+use Rattle.after_commands.specs.After.{after}
 use Rattle.notation.specs.declared.Entry.TheVariants.{StartLl, StartVl, StartSc, Step}
 use Rattle.station.specs.Station.{StationMemory}
 use Rattle.station.specs.StationCommand.{station_command}

@@ -23,7 +23,7 @@ use Rattle.model.specs.Replies.{says}
 use Rattle.model.specs.SetUp.{set_up}
 use Rattle.model.specs.History.{next, event_of}
 use Rattle.llsc.specs.History.{Command}
-use Rattle.linearization.specs.After.{after}
+use Rattle.after_commands.specs.After.{after}
 use Rattle.serving.proofs.RefusalFacts.{and_true}
 use Rattle.station.specs.declared.RecordNumber.{RecordNumber}
 use Rattle.station.specs.declared.StationProcess.{StationProcess}

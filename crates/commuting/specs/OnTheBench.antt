@@ -10,7 +10,7 @@ use Rattle.model.specs.Command.{refusal, command}
 use Rattle.model.specs.SetUp.{set_up}
 use Rattle.model.specs.History.{next, event_of}
 use Rattle.llsc.specs.History.{Command}
-use Rattle.linearization.specs.After.{after}
+use Rattle.after_commands.specs.After.{after}
 use Rattle.doings.specs.declared.Item.{Item}
 use Rattle.doings.specs.Own.{own_in}
 use Rattle.doings.specs.Doings.{Touching, doing, Apart}

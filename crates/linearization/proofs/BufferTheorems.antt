@@ -14,8 +14,8 @@ use Rattle.model.specs.Points.{line17, line18, line19, line23}
 use Rattle.llsc.specs.Rows.{some}
 use Rattle.model.specs.Machine.{Memory}
 use Rattle.model.specs.SetUp.{numbers}
-use Rattle.linearization.specs.Buffers
-use Rattle.linearization.specs.Buffers.{occurrences, asking, EveryBufferOnce}
+use Rattle.after_commands.specs.Buffers
+use Rattle.after_commands.specs.Buffers.{occurrences, asking, EveryBufferOnce}
 use Rattle.linearization.proofs.Invariants.{lines}
 use Rattle.linearization.proofs.GhostMachine.{Local, State}
 use Rattle.linearization.proofs.Ownership

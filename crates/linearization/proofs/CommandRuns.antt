@@ -7,7 +7,7 @@ use Rattle.model.specs.Machine.{Memory, Shaped}
 use Rattle.model.specs.Command.{command, refusal}
 use Rattle.model.specs.SetUp.{set_up}
 use Rattle.llsc.specs.History.{Command}
-use Rattle.linearization.specs.After.{after}
+use Rattle.after_commands.specs.After.{after}
 use Rattle.llsc.specs.Rows.{NotLentMemory}
 use Rattle.linearization.proofs.GhostMachine.{State}
 use Rattle.linearization.proofs.Invariants.{Invariant}

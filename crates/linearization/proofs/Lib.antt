@@ -1,5 +1,3 @@
-pub mod BufferRuns
-pub mod StayRuns
 pub mod PointFacts
 pub mod GhostMachine
 pub mod Invariants

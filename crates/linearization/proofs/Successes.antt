@@ -13,7 +13,7 @@ use Rattle.llsc.specs.Answers.{Answer, ll_words, sc_truth, vl_truth}
 use Rattle.llsc.specs.Object.{Kind, ll, sc, vl}
 use Rattle.llsc.specs.History.{Call}
 use Rattle.llsc.specs.Linearizable.{Timed}
-use Rattle.linearization.specs.Changes.{succeeds, successes}
+use Rattle.after_commands.specs.Changes.{succeeds, successes}
 use Rattle.laws.proofs.Updates.{upd_same, by_test, by_test₂}
 use Rattle.linearization.proofs.GhostMachine
 use Rattle.linearization.proofs.GhostMachine.{Local, State}

@@ -1,9 +1,9 @@
 -- The theorems, each about model's own definitions, with no assumption but those of its statement.
 use Rattle.model.specs.Linearizable.{Demand3}
-use Rattle.linearization.specs.OwnDoing.{NeverForItsOwnDoing}
-use Rattle.linearization.specs.Buffers.{EveryBufferOnce}
-use Rattle.linearization.specs.Changes.{ChangesAreSuccesses}
-use Rattle.linearization.specs.WordsStay.{WordsStay}
+use Rattle.after_commands.specs.OwnDoing.{NeverForItsOwnDoing}
+use Rattle.after_commands.specs.Buffers.{EveryBufferOnce}
+use Rattle.after_commands.specs.Changes.{ChangesAreSuccesses}
+use Rattle.after_commands.specs.WordsStay.{WordsStay}
 use Rattle.linearization.proofs.BufferTheorems
 use Rattle.linearization.proofs.XChanges
 use Rattle.linearization.proofs.WrittenWords

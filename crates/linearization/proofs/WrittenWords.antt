@@ -15,9 +15,9 @@ use Rattle.llsc.specs.Object.{sc}
 use Rattle.llsc.specs.History.{Command, Slot, running, call_of, calls_from, calls, slots_after, slots_from}
 use Rattle.model.specs.History.{event_of, events}
 use Rattle.model.specs.History.{next}
-use Rattle.linearization.specs.After.{after}
-use Rattle.linearization.specs.Changes.{changes}
-use Rattle.linearization.specs.WordsStay.{buffer_words, lasting, SetUpValueStays, WrittenWordsStay, WordsStay}
+use Rattle.after_commands.specs.After.{after}
+use Rattle.after_commands.specs.Changes.{changes}
+use Rattle.after_commands.specs.WordsStay.{buffer_words, lasting, SetUpValueStays, WrittenWordsStay, WordsStay}
 use Rattle.linearization.proofs.GhostMachine.{State}
 use Rattle.linearization.proofs.WordLists.{words_of, words_of_ext, cells}
 use Rattle.linearization.proofs.GhostRuns.{setup}

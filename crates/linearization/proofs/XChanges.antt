@@ -12,7 +12,7 @@ use Rattle.model.specs.Sizes.{halves}
 use Rattle.model.specs.Machine.{Memory}
 use Rattle.llsc.specs.History.{Command}
 use Rattle.model.specs.History.{next}
-use Rattle.linearization.specs.Changes.{same_content, changes, successes, ChangesAreSuccesses}
+use Rattle.after_commands.specs.Changes.{same_content, changes, successes, ChangesAreSuccesses}
 use Rattle.laws.proofs.Residues.{suc_mod_ne}
 use Rattle.linearization.proofs.GhostMachine.{State}
 use Rattle.linearization.proofs.GhostRuns.{exec, setup}

@@ -36,7 +36,7 @@ use Rattle.commuting.specs.OnTheBench.{Admitted, bench_does, BenchSwapped}
 use Rattle.semantics.specs.Reached.{Reached}
 use Rattle.text_runs.specs.TextRun.{process_of, order_of, value_of}
 use Rattle.semantics.specs.TextRun.{answers, access_now, trace_line, line_of}
-use Rattle.semantics.proofs.AcceptedSteps.{unrefused, stepped, at_work}
+use Rattle.semantics_laws.proofs.AcceptedSteps.{unrefused, stepped, at_work}
 use Rattle.semantics.proofs.ReachedLaws.{unhindered}
 use Rattle.entry.proofs.WordLaws.{Below}
 use Rattle.std.specs.Prelude.{Option, Some}

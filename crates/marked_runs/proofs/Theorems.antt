@@ -35,7 +35,7 @@ use Rattle.text_runs.specs.TextRun.{most_entries, room_needed, longest_text, pro
 use Rattle.semantics.specs.TextRun.{Progress, stopped, line_of, trace_line, lines_of, counted, commanded, single, unanswered}
 use Rattle.semantics.specs.TextRun.{steps, carry, carry_all, last_line, ended, begun, Ended, started, carried_out}
 use Rattle.semantics.proofs.ReachedLaws.{reached_set_up, reached_command}
-use Rattle.semantics.proofs.AcceptedSteps.{unrefused}
+use Rattle.semantics_laws.proofs.AcceptedSteps.{unrefused}
 use Rattle.entry.proofs.WordLaws.{Below}
 use Rattle.entry.proofs.SingleLaws.{value_every}
 use Rattle.run.proofs.StartLaws.{number_small}

@@ -15,7 +15,7 @@ use Rattle.model.specs.Records.{record_at}
 use Rattle.model.specs.Words.{one_record}
 use Rattle.model.specs.SetUp.{set_up}
 use Rattle.model.specs.History.{next}
-use Rattle.linearization.specs.After.{after}
+use Rattle.after_commands.specs.After.{after}
 use Rattle.doings.specs.declared.Item.{Item}
 use Rattle.doings.specs.declared.Item.TheVariants.{X, Bank, Help, Half}
 use Rattle.doings.specs.Items.{item_at}

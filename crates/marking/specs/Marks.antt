@@ -11,7 +11,7 @@ use Rattle.model.specs.Records.{record_at}
 use Rattle.model.specs.Machine.{Memory, Shaped}
 use Rattle.model.specs.SetUp.{set_up}
 use Rattle.model.specs.History.{next}
-use Rattle.linearization.specs.After.{after}
+use Rattle.after_commands.specs.After.{after}
 use Rattle.doings.specs.declared.Item.{Item}
 use Rattle.doings.specs.declared.Item.TheVariants.{X, Bank, Help, Half}
 use Rattle.doings.specs.Doings.{looks, Touching, nothing, one, Apart}

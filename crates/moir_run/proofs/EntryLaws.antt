@@ -10,7 +10,7 @@ use borrow.Author.Tests.{eq-eqb}
 use Rattle.notation.specs.declared.Entry.{Entry}
 use Rattle.notation.specs.declared.Entry.TheVariants.{StartLl, StartVl, StartSc, Step, Finish}
 use Rattle.text_runs.specs.TextRun.{value_of}
-use Rattle.text_runs.specs.Carrying.{gone_on}
+use Rattle.whole_runs.specs.Carrying.{gone_on}
 use Rattle.moir_semantics.specs.TextRun.{figure6, Progress}
 use Rattle.moir_run.specs.Turned.{brought_by, words_brought, stays_in}
 

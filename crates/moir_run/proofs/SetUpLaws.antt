@@ -13,13 +13,13 @@ use Rattle.listing.specs.declared.Writer.{Writer}
 use Rattle.notation.specs.declared.First.{First}
 use Rattle.notation.specs.Grammar.{largest}
 use Rattle.text_runs.specs.Runs.{last_room}
-use Rattle.text_runs.specs.Carrying.{in_run}
+use Rattle.whole_runs.specs.Carrying.{in_run}
 use Rattle.notation.proofs.ReadingLaws.{reader}
 use Rattle.text_runs.specs.declared.runs.Finished.{Finished}
 use Rattle.text_runs.specs.TextRun.{run_with}
 use Rattle.text_runs.specs.StopPlaces.{StopsAt}
 use Rattle.text_runs.specs.Returned.{holding}
-use Rattle.text_runs.specs.Whole.{Prepared, Ran}
+use Rattle.whole_runs.specs.Whole.{Prepared, Ran}
 use Rattle.moir_model.specs.declared.Bench.{Bench}
 use Rattle.moir_model.specs.declared.Process.{Process}
 use Rattle.moir_model.specs.Machine.{Memory}

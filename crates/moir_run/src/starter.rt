@@ -11,7 +11,7 @@ use moir_model::Process;
 use notation::First;
 use rows::table::Lent;
 use text_runs::lists;
-use text_runs::texts::Starter;
+use whole_runs::texts::Starter;
 
 // The records of the first n processes at their set-up.
 fn records_at_set_up(mut all: [Process; 16], n: usize) -> [Process; 16]

@@ -1,4 +1,4 @@
-// The text run on Moir's bench, on a memory of its own: the run of `text_runs` on that.
+// The text run on Moir's bench, on a memory of its own: the run of `whole_runs` on that.
 ghost use Rattle.std.specs.Prelude.{◌≡◌, replicate};
 ghost use Rattle.moir_model.specs.Records.{no_process};
 ghost use Rattle.moir_run.specs.TextRan.{TextRan};
@@ -29,6 +29,6 @@ pub fn run_text(text: &[u8], traced: bool, list: &mut [u8]) -> Finished<[Process
         bench: moir_model::empty_bench(),
         all: records(),
     };
-    let out = text_runs::texts::run_text(held, traced, &mut no_words(), text, list);
+    let out = whole_runs::texts::run_text(held, traced, &mut no_words(), text, list);
     out.holding(out.held.all)
 }

@@ -1,7 +1,7 @@
 // One entry of a run: refused, or carried out with its lines.
 ghost use Rattle.std.specs.Prelude.{◌≡◌, ◌+◌, refl};
 ghost use Rattle.text_runs.specs.TextRun.{commanded, order_of, value_of};
-ghost use Rattle.text_runs.specs.Carrying.{in_run};
+ghost use Rattle.whole_runs.specs.Carrying.{in_run};
 ghost use Rattle.moir_model.specs.Machine.{obey};
 ghost use Rattle.moir_steps.specs.Ranges.{Obeyable};
 ghost use Rattle.moir_semantics.specs.TextRun.{figure6};
@@ -17,8 +17,8 @@ use moir_rows::table;
 use moir_steps::orders;
 use notation::Entry;
 use text_runs::entries::{order_of, process_of};
-use text_runs::entry_loop::Carrier;
 use text_runs::{limits, lists, traces};
+use whole_runs::entry_loop::Carrier;
 
 // What a run holds: bench and records.
 // Kept: beside `entry`'s own, as one for both would have a type parameter for each field.

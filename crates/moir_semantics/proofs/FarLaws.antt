@@ -13,7 +13,7 @@ use Rattle.moir_model.specs.Command.{refusal, command}
 use Rattle.rows.proofs.RowLaws.{n_in}
 use Rattle.text_runs.proofs.EarlyRows.{early, early_some}
 use Rattle.text_runs.proofs.KeptLaws.{either}
-use Rattle.text_runs.specs.Whole.{FarRefused}
+use Rattle.text_runs.specs.KeptEntries.{FarRefused}
 use Rattle.moir_semantics.specs.TextRun.{figure6}
 
 -- where none of the rows 1, 2, 3 and 9 holds, row 4 does

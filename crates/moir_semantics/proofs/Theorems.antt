@@ -6,7 +6,7 @@ use lib.ListN.{length}
 use Rattle.notation.specs.Grammar.{says}
 use Rattle.moir_linearization.specs.Bound.{success_limit}
 use Rattle.moir_linearization.proofs.Theorems.{short_order}
-use Rattle.text_runs.proofs.TextLaws.{run_right}
+use Rattle.whole_runs.proofs.TextLaws.{run_right}
 use Rattle.text_runs.proofs.RunCommands.{carries}
 use Rattle.moir_semantics.specs.TextRun.{figure6, Ended}
 use Rattle.moir_semantics.specs.TextOrder.{value_of, prepared, Ordered, TextOrder}

@@ -14,7 +14,7 @@ use Rattle.semantics.specs.TextRun.{figure2, run_with}
 use Rattle.semantics.specs.StopPlaces.{StopsAt}
 use Rattle.text_runs.specs.declared.runs.Finished.{Finished}
 use Rattle.text_runs.specs.Returned.{holding}
-use Rattle.text_runs.specs.Whole.{Ran}
+use Rattle.whole_runs.specs.Whole.{Ran}
 use Rattle.run.specs.declared.carrying.LentHeld.{LentHeld}
 use Rattle.run.specs.Carried.{lent_memory}
 use Rattle.run.specs.Finished.{memory_of, at_most_sixteen, end_of, TextRan}

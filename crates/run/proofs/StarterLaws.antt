@@ -20,7 +20,7 @@ use Rattle.semantics.specs.TextRun.{figure2, Progress}
 use Rattle.entry.specs.declared.state.Held.{Held}
 use Rattle.entry.specs.RunState.{RunState, state_with, state_of, progress, Filled, Sound}
 use Rattle.text_runs.specs.Runs.{last_room, fresh_run}
-use Rattle.text_runs.specs.Whole.{Prepared}
+use Rattle.whole_runs.specs.Whole.{Prepared}
 use Rattle.entry.proofs.WordLaws.{take_replicate}
 use Rattle.run.specs.Finished.{memory_of, Lending}
 use Rattle.run.proofs.StartLaws as S

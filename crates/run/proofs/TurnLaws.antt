@@ -28,7 +28,7 @@ use Rattle.notation.specs.declared.Entry.TheVariants.{StartLl, StartVl, StartSc,
 use Rattle.listing.specs.declared.Writer.{Writer}
 use Rattle.taken.specs.declared.Stepped.{Stepped}
 use Rattle.text_runs.specs.TextRun.{room_needed, process_of, order_of}
-use Rattle.text_runs.specs.Carrying.{gone_on}
+use Rattle.whole_runs.specs.Carrying.{gone_on}
 use Rattle.semantics.specs.TextRun.{figure2, Progress, single}
 use Rattle.entry.specs.RunState.{RunState, state_with, state_of, progress, Sound, Becomes, Small}
 use Rattle.entry.specs.Turned.{refusal_of, place_of, Turnable, Turns, stays_at}

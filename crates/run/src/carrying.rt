@@ -1,5 +1,5 @@
 // One entry of a text on the bench of Figure 2: refused, or carried out where bench and records stand. The loop is
-// `text_runs`'.
+// `whole_runs`'.
 
 ghost use Rattle.std.specs.Prelude.{refl};
 ghost use Rattle.semantics.specs.TextRun.{figure2};
@@ -12,8 +12,8 @@ use listing::Writer;
 use llsc::refusals::Refusal;
 use model::Process;
 use notation::Entry;
-use text_runs::entry_loop::Carrier;
 use text_runs::{entries as text_entries, limits};
+use whole_runs::entry_loop::Carrier;
 
 // What a run holds, and how many of its records are lent: the rest are fillers.
 #[derive(Clone, Copy)]

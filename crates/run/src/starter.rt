@@ -14,7 +14,7 @@ use llsc::refusals::Refusal;
 use notation::First;
 use rows::table::Lent;
 use text_runs::lists;
-use text_runs::texts::Starter;
+use whole_runs::texts::Starter;
 
 // Bench and records at the set-up. An array has as many places as its type says, which a caller learns here of a bench
 // behind a reference.

@@ -1,4 +1,4 @@
-// The text run on this bench by value: what is lent to it, and the run of `text_runs` on that.
+// The text run on this bench by value: what is lent to it, and the run of `whole_runs` on that.
 ghost use Rattle.std.specs.Prelude.{◌≡◌, take};
 ghost use Rattle.model.specs.Records.{no_process};
 ghost use Rattle.lent.specs.Gathered.{gathered};
@@ -7,7 +7,7 @@ ghost use Rattle.run.specs.Finished.{at_most_sixteen, TextRan};
 use crate::carrying::LentHeld;
 use entry::state::Held;
 use text_runs::runs::Finished;
-use text_runs::texts;
+use whole_runs::texts;
 
 // Of the lent records at most sixteen are looked at, and stored back.
 pub fn records_seen(len: usize) -> usize

@@ -14,7 +14,7 @@ use Rattle.model.specs.Replies.{number_of}
 use Rattle.rows.proofs.RowLaws.{n_in}
 use Rattle.text_runs.proofs.EarlyRows.{early, early_some}
 use Rattle.text_runs.proofs.KeptLaws.{either}
-use Rattle.text_runs.specs.Whole.{FarRefused}
+use Rattle.text_runs.specs.KeptEntries.{FarRefused}
 use Rattle.semantics.specs.TextRun.{figure2}
 
 -- a process number above 15 is none of N: where none of the rows 1, 2, 3 and 9 holds, row 4 does

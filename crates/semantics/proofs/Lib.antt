@@ -1,11 +1,2 @@
-pub mod BenchRuns
-pub mod StopRuns
 pub mod ReachedLaws
 pub mod FarLaws
-pub mod CommandFrame
-pub mod TextFrame
-pub mod TableLengths
-pub mod AcceptedSteps
-pub mod OpenCalls
-pub mod FinishLaws
-pub mod TraceTruth

@@ -11,7 +11,7 @@ use Rattle.model.specs.Refusals.{in_range, row3}
 use Rattle.model.specs.Command.{refusal, command}
 use Rattle.model.specs.SetUp.{set_up}
 use Rattle.llsc.specs.History.{Command}
-use Rattle.linearization.specs.After.{after}
+use Rattle.after_commands.specs.After.{after}
 use Rattle.llsc.specs.Rows.{NotLentMemory}
 use Rattle.linearization.proofs.Theorems.{never_for_its_own_doing}
 use Rattle.text_runs.proofs.RunCommands as R

@@ -1,4 +1,3 @@
 pub mod TextRun
 pub mod StopPlaces
-pub mod Finishing
 pub mod Reached

@@ -4,7 +4,7 @@ use Rattle.std.specs.Prelude.{◌≡◌, ℕ, List}
 use Rattle.model.specs.Machine.{Memory, Shaped}
 use Rattle.model.specs.SetUp.{set_up}
 use Rattle.llsc.specs.History.{Command}
-use Rattle.linearization.specs.After.{after}
+use Rattle.after_commands.specs.After.{after}
 
 pub record Reached (m : Memory) : Type 0 where
   pub lent : Memory

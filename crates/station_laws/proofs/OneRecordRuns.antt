@@ -11,7 +11,7 @@ use Rattle.model.specs.Sizes.{halves}
 use Rattle.model.specs.Machine.{Memory}
 use Rattle.model.specs.Command.{command}
 use Rattle.llsc.specs.History.{Command}
-use Rattle.linearization.specs.After.{after}
+use Rattle.after_commands.specs.After.{after}
 use Rattle.serving.proofs.RefusalFacts.{and_true}
 use Rattle.station.specs.declared.RecordNumber.{RecordNumber}
 use Rattle.station.specs.declared.StationProcess.{StationProcess}

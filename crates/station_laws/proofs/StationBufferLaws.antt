@@ -15,8 +15,8 @@ use Rattle.model.specs.Records.{record_at, no_process}
 use Rattle.model.specs.Sizes.{buffers, sequence_numbers, halves}
 use Rattle.model.specs.Machine.{Memory}
 use Rattle.model.specs.SetUp.{numbers}
-use Rattle.linearization.specs.WordsStay.{buffer_words}
-use Rattle.linearization.specs.Buffers.{asking, kept, owned, held, occurrences}
+use Rattle.after_commands.specs.WordsStay.{buffer_words}
+use Rattle.after_commands.specs.Buffers.{asking, kept, owned, held, occurrences}
 use Rattle.laws.proofs.Parts.{tab_ext}
 use Rattle.laws.proofs.ListFacts.{map_at, cut_tab}
 use Rattle.linearization.proofs.Theorems.{every_buffer_once}

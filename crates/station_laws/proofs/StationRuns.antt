@@ -19,7 +19,7 @@ use Rattle.llsc.specs.Answers.{Said, refused}
 use Rattle.model.specs.Replies.{says}
 use Rattle.llsc.specs.History.{Command, Event}
 use Rattle.model.specs.History.{event_of, events}
-use Rattle.linearization.specs.After.{after}
+use Rattle.after_commands.specs.After.{after}
 use Rattle.laws.proofs.Updates.{Split, same, other, split}
 use Rattle.linearization.proofs.GhostMachine.{State}
 use Rattle.linearization.proofs.InRange.{counts_in}

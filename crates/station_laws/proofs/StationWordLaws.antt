@@ -10,9 +10,9 @@ use Rattle.model.specs.Machine.{Memory}
 use Rattle.model.specs.SetUp.{set_up}
 use Rattle.llsc.specs.Answers.{refused, answered, sc_truth}
 use Rattle.llsc.specs.History.{Command, Event, calls, slots}
-use Rattle.linearization.specs.After.{after}
-use Rattle.linearization.specs.Changes.{same_content, changes, successes}
-use Rattle.linearization.specs.WordsStay.{Writes, Stay, lasting}
+use Rattle.after_commands.specs.After.{after}
+use Rattle.after_commands.specs.Changes.{same_content, changes, successes}
+use Rattle.after_commands.specs.WordsStay.{Writes, Stay, lasting}
 use Rattle.linearization.proofs.Theorems.{changes_are_successes, words_stay}
 use Rattle.station.specs.declared.RecordNumber.{RecordNumber}
 use Rattle.station.specs.Station.{StationMemory, buffer_of}

@@ -5,7 +5,7 @@ use Rattle.model.specs.Machine.{Memory}
 use Rattle.model.specs.Command.{command}
 use Rattle.model.specs.SetUp.{set_up}
 use Rattle.llsc.specs.History.{Command}
-use Rattle.linearization.specs.After.{after}
+use Rattle.after_commands.specs.After.{after}
 use Rattle.station.specs.Station.{StationMemory, process_at}
 use Rattle.station.specs.Projection.{project}
 use Rattle.station.specs.StationRefusals.{StationOrder, StationShaped}

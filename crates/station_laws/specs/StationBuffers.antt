@@ -2,7 +2,7 @@
 -- the processes own and its own Bank and X keep.
 use Rattle.std.specs.Prelude.{◌≡◌, ℕ, ◌<◌, List}
 use Rattle.model.specs.Sizes.{buffers}
-use Rattle.linearization.specs.Buffers.{held, occurrences}
+use Rattle.after_commands.specs.Buffers.{held, occurrences}
 use Rattle.station.specs.declared.RecordNumber.{RecordNumber}
 use Rattle.station.specs.Station.{StationMemory}
 use Rattle.station.specs.Projection.{project}

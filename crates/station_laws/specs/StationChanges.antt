@@ -2,7 +2,7 @@
 use Rattle.std.specs.Prelude.{◌≡◌, ℕ, ◌+◌, ◌<◌, List, [], ◌∷◌, cond}
 use Rattle.model.specs.declared.XContent.{XContent}
 use Rattle.llsc.specs.History.{calls}
-use Rattle.linearization.specs.Changes.{same_content, successes}
+use Rattle.after_commands.specs.Changes.{same_content, successes}
 use Rattle.station.specs.declared.RecordNumber.{RecordNumber}
 use Rattle.station.specs.Station.{StationMemory, tables_at}
 use Rattle.station.specs.StationRefusals.{StationOrder, StationShaped}

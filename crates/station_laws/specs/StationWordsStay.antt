@@ -4,7 +4,7 @@ use Rattle.std.specs.Prelude.{◌≡◌, ℕ, ◌<◌, List, [], ◌∷◌, ◌+
 use Rattle.llsc.specs.Answers.{answered, sc_truth}
 use Rattle.llsc.specs.Object.{sc}
 use Rattle.llsc.specs.History.{running, slots}
-use Rattle.linearization.specs.WordsStay.{lasting}
+use Rattle.after_commands.specs.WordsStay.{lasting}
 use Rattle.station.specs.declared.RecordNumber.{RecordNumber}
 use Rattle.station.specs.Station.{StationMemory, buffer_of}
 use Rattle.station.specs.StationRefusals.{StationOrder, StationShaped}

@@ -20,7 +20,7 @@ use Rattle.text_runs.specs.declared.runs.Finished.{Finished}
 use Rattle.text_runs.specs.Returned.{holding}
 use Rattle.run.specs.Finished.{at_most_sixteen, memory_of, end_of, TextRan}
 use Rattle.semantics.specs.TextRun.{Ended, run_text}
-use Rattle.semantics.proofs.TextFrame.{ended_longer, first_sixteen}
+use Rattle.semantics_laws.proofs.TextFrame.{ended_longer, first_sixteen}
 use Rattle.station.specs.declared.Station.{Station}
 use Rattle.station.specs.declared.StationProcess.{StationProcess}
 use Rattle.station.specs.Station.{StationMemory, station_memory}

@@ -14,7 +14,7 @@ use Rattle.text_runs.specs.Machines.{Machine}
 use Rattle.text_runs.specs.TextRun.{most_entries, room_needed, process_of, order_of, value_of}
 use Rattle.text_runs.specs.TextRun.{Progress, stopped, replied, commanded, single, unanswered, steps, finish, carry, carry_all}
 use Rattle.text_runs.specs.StopPlaces.{stop_index}
-use Rattle.text_runs.specs.Whole.{FarRefused}
+use Rattle.text_runs.specs.KeptEntries.{FarRefused}
 use Rattle.text_runs.proofs.SingleEntries.{outcome}
 
 -- what holds of both arms of a test, each where it is taken

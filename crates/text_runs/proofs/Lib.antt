@@ -5,12 +5,6 @@ pub mod ToldLaws
 pub mod RunCommands
 pub mod EarlyRows
 pub mod KeptLaws
-pub mod MiddleLaws
-pub mod LoopLaws
-pub mod TextLaws
-pub mod StopLaws
-pub mod WholeLaws
-pub mod FaultLaws
 pub mod LastLaws
 pub mod TraceLengths
 pub mod ShownLaws

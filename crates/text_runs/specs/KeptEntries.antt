@@ -1,6 +1,7 @@
 -- A text's entries as the list of numbers keeps them, and a run and its report by that list.
--- Inner: `TextLaws` and `StopLaws` prove that these are the parts of `TextRun`'s run and of `StopPlaces`' report.
-use Rattle.std.specs.Prelude.{ℕ, List, [], map, Bool, false, drop, replicate}
+-- Inner: `TextLaws` and `StopLaws` of `whole_runs` prove that these are the parts of `TextRun`'s run and of `StopPlaces`' report.
+use Rattle.std.specs.Prelude.{◌≡◌, ◌≤◌, ℕ, List, [], map, Bool, false, drop, replicate}
+use Rattle.llsc.specs.declared.Order.{Order}
 use Rattle.notation.specs.declared.Entry.{Entry}
 use Rattle.notation.specs.Grammar.{Said, deepest}
 use Rattle.notation.specs.EntryWords.{entry_in, place_in}
@@ -48,3 +49,9 @@ module _ (M : Machine) where
   -- what is left of a text run once the first line is read, where the items begin at a place
   abbrev pub says_after : Bool → List ℕ → ℕ → ℕ → ℕ → ℕ → M.Memory → List ℕ → Ended M
   says_after t s n w v items m list = carried_out M t m list (whole n w v (scan (drop items s) (between false) [] [] deepest))
+
+-- A process number above 15 is none of N: on this memory its commands are all refused, and with one number.
+pub record FarRefused (M : Machine) (m : M.Memory) : Type 0 where
+  pub number : ℕ
+  pub some : number ≡ 0 → ⊥
+  pub refused : (p : ℕ) (o : Order) (v : List ℕ) → 16 ≤ p → M.number_of (M.command m p o v).0 ≡ number

@@ -5,6 +5,4 @@ pub mod RunCommands
 pub mod KeptEntries
 pub mod Parts
 pub mod Runs
-pub mod Carrying
 pub mod Returned
-pub mod Whole

@@ -1,5 +1,5 @@
 -- How a text run begins and ends, as the code holds it, over what a bench holds.
--- Inner: the contracts of `texts` say that this is the end of `TextRun`'s run.
+-- Inner: the contracts of `texts` of `whole_runs` say that this is the end of `TextRun`'s run.
 use Rattle.std.specs.Prelude.{ℕ, ◌+◌, ◌≤◌, Bool, List, Result, length}
 use Rattle.std.proofs.lemmas.List.Edits.{sets}
 use Rattle.llsc.specs.declared.refusals.Refusal.{Refusal}

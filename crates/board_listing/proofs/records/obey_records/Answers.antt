@@ -8,7 +8,7 @@ use lib.ListN.{length}
 use Rattle.std.specs.Prelude.{Ok, Err}
 use Rattle.llsc.specs.Refusals.{refusal_number}
 use Rattle.llsc.proofs.RefusalNumbers.{number_some}
-use Rattle.text_runs.specs.Carrying.{in_run, done_after, turn_number}
+use Rattle.whole_runs.specs.Carrying.{in_run, done_after, turn_number}
 use Rattle.entry.specs.RunState.{state_with}
 use Rattle.run.specs.Carried.{lent_state}
 use Rattle.board_listing.specs.declared.ending.Stopped.{Stopped}

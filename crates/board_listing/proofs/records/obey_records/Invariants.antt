@@ -1,7 +1,7 @@
 -- `board_listing::records::obey_records`: the loop over a file's records.
 use mathlib.Core.Path.{◌≡◌}
 use mathlib.Core.Bool.{false}
-use Rattle.text_runs.specs.Carrying.{in_run}
+use Rattle.whole_runs.specs.Carrying.{in_run}
 use Rattle.run.specs.Carried.{lent_state}
 use Rattle.board_listing.proofs.LoopLaws.{Obeying}
 use Rattle.board_listing.proofs.records.obey_records.Given as goal

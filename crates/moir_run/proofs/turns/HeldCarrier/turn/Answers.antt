@@ -1,7 +1,7 @@
 -- `moir_run::turns::HeldCarrier::turn`: 12, 14, the rows of the command, or the entry carried out.
 use mathlib.Core.Path.{refl, sym, ap, subst, ◌∙◌}
 use Prim.Native.Nat.{◌+◌}
-use Rattle.text_runs.specs.Carrying.{in_run}
+use Rattle.whole_runs.specs.Carrying.{in_run}
 use lib.ListN.{length}
 use Rattle.std.proofs.lemmas.Result.{err_from_is_err_and}
 use Rattle.moir_semantics.specs.TextRun.{Progress}

@@ -1,0 +1,2 @@
+pub mod BufferRuns
+pub mod StayRuns

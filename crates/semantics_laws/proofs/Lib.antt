@@ -1,0 +1,9 @@
+pub mod BenchRuns
+pub mod StopRuns
+pub mod CommandFrame
+pub mod TextFrame
+pub mod TableLengths
+pub mod AcceptedSteps
+pub mod OpenCalls
+pub mod FinishLaws
+pub mod TraceTruth

@@ -1,0 +1,3 @@
+// What is proved about a text run on the machine of Figure 2 alone: nothing here runs.
+
+#![tactic(auto)]
