@@ -3,10 +3,11 @@
 use Prim.Native.Nat.{ℕ}
 use mathlib.Core.Path.{◌≡◌, refl, ap, ap₂, ◌∙◌}
 use mathlib.Core.List.{List, [], ◌∷◌, ◌++◌}
-use mathlib.Core.Bool.{true, ◌&&◌}
+use mathlib.Core.Bool.{Bool, true, not, cond, ◌&&◌}
 use lib.Dec.{leb}
 use lib.ListN.{length, replicate}
-use Rattle.boards.specs.Files.{marked, ends_there, good_trailer, records_of, good_fronts, rising, records_bytes, file_number}
+use Rattle.boards.specs.Files.{largest, marked, ends_there, good_trailer, good_records, file_number}
+use Rattle.boards.specs.Files.{records_of, good_fronts, rising, records_bytes}
 use Rattle.boards.specs.Merging.{merge, merge_number, merge_files}
 
 -- a record of a tick below 256, and a trailer of an offset and a count below 256
@@ -98,12 +99,15 @@ one_file = record {
   last_mark = refl;
 }
 
--- "a file over 16,777,216 bytes": one byte more is refused whatever it holds, and a file of just so many is not for that
-too_long : (bs : List ℕ) → length bs ≡ 16777217 → file_number bs ≡ 25
-unfolding file_number good_trailer
-too_long bs e = simp e
-
+-- "a file over 16,777,216 bytes": a file of just so many is not refused for that, and one byte more is, whatever it holds
 longest : (bs : List ℕ) → length bs ≡ 16777216 → marked bs ≡ true → ends_there bs ≡ true → good_trailer bs ≡ true
 unfolding good_trailer
 longest bs e m t =
     ap (λ (n : ℕ). leb 12 n && (leb n 16777216 && (marked bs && ends_there bs))) e ∙ ap₂ ◌&&◌ m t
+
+too_long : (bs : List ℕ) → length bs ≡ 16777217 → file_number bs ≡ 25
+unfolding file_number good_trailer
+too_long bs e =
+    let trailer : ℕ → Bool = λ n. leb 12 n && (leb n largest && (marked bs && ends_there bs)) in
+    let number : ℕ → ℕ = λ n. cond (not (trailer n)) 25 (cond (not (good_records bs)) 26 0) in
+    ap number e

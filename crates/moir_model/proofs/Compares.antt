@@ -6,8 +6,8 @@ use lib.ListN.{replicate}
 use Rattle.moir_model.specs.declared.Header.{Header}
 use Rattle.moir_model.specs.declared.Segment.{Segment}
 use Rattle.moir_model.specs.declared.Process.{Process}
-use Rattle.moir_model.specs.declared.Reply.TheVariants.{WllNamed, ScAnswered}
-use Rattle.moir_model.specs.Lines.{do_line5, do_line7, do_line19, cas_header}
+use Rattle.moir_model.specs.declared.Reply.TheVariants.{Accepted, WllNamed, ScAnswered}
+use Rattle.moir_model.specs.Lines.{do_line5, do_line7, do_line7_copy, do_line13, do_line19, cas_header}
 use Rattle.moir_model.specs.Machine.{step_at, obey}
 use Rattle.moir_model.specs.Refusals.{in_range}
 use Rattle.moir_model.specs.Command.{command, refusal}
@@ -50,11 +50,25 @@ record Whole : Type 0 where
   line_5_other_word : do_line5 nine q ≡ nine
   line_5_same : do_line5 eight q ≡ record { tag = 4; val = 7 }
   line_7_other_process : (do_line7 1 one q).reply ≡ WllNamed (record { 0 = 1 }) 3
+  line_7_of_copy_other_process : (do_line7_copy 2 (record { tag = 4; pid = record { 0 = 1 } }) q).reply ≡ ScAnswered true 3
+  line_7_of_copy_same : (do_line7_copy 2 q.newhdr q).reply ≡ Accepted
   line_19_other_process : cas_header one q ≡ one
   line_19_answers : (do_line19 one q).reply ≡ ScAnswered false 3
 
 whole : Whole
-whole = record { line_5_other_word = refl; line_5_same = refl; line_7_other_process = refl; line_19_other_process = refl; line_19_answers = refl }
+whole = record {
+  line_5_other_word = refl;
+  line_5_same = refl;
+  line_7_other_process = refl;
+  line_7_of_copy_other_process = refl;
+  line_7_of_copy_same = refl;
+  line_19_other_process = refl;
+  line_19_answers = refl;
+}
+
+-- the word place is 0 after every answer, a VL's too (docs/DECISIONS.md, "The word place at an answer")
+rests : (do_line13 zero (record q { word = 1 })).process.word ≡ 0
+rests = refl
 
 -- the process named is the one that wrote, not the one that the WLL found in the header: 0l 0. 1l 1! 1s7 1! 0!
 abbrev names_the_writer : Run

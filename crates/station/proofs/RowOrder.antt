@@ -8,8 +8,9 @@ use Rattle.llsc.specs.declared.Order.TheVariants.{StartLl, StartSc, Step}
 use Rattle.model.specs.Places.{XPlace}
 use Rattle.model.specs.Points.{Point, line_number, idle, line2}
 use Rattle.station.specs.declared.Tables.{Tables}
+use Rattle.station.specs.declared.Holding.{Holding}
 use Rattle.station.specs.declared.StationProcess.{StationProcess}
-use Rattle.station.specs.Station.{StationMemory, no_tables, process_at}
+use Rattle.station.specs.Station.{StationMemory, no_tables, process_at, holding_at}
 use Rattle.station.specs.StationRefusals.{StationOrder, station_in_range}
 use Rattle.station.specs.StationCommand.{station_refusal, station_command}
 use Rattle.station.specs.StationSetUp.{station_set_up, station_set_up_refusal}
@@ -89,3 +90,21 @@ astray j =
 tables_looked_at : (asked (astray 0) ≡ 9) × (asked (astray 1) ≡ 9) × (asked (astray 2) ≡ 4)
 unfolding station_set_up station_set_up_refusal station_in_range station_refusal station_command station_after
 tables_looked_at = (refl, refl, refl)
+
+-- and at what each process below N holds of each record below R, and at nothing else: process p's buffer of record j is 6
+abbrev amiss : ℕ → ℕ → StationMemory
+amiss p j =
+    let q = process_at then p in
+    let h = holding_at q (record { 0 = j }) in
+    let spoilt : Holding = record { mybuf = record { 0 = 6 }; x = h.x; answered = h.answered } in
+    let spoilt_process : StationProcess = record q { holdings = set q.holdings j spoilt } in
+    record { n = 2; w = 1; r = 2; tables = then.tables; processes = set then.processes p spoilt_process; words = then.words }
+
+holdings_looked_at :
+    (asked (amiss 0 0) ≡ 9)
+    × (asked (amiss 0 1) ≡ 9)
+    × (asked (amiss 1 1) ≡ 9)
+    × (asked (amiss 0 2) ≡ 4)
+    × (asked (amiss 2 1) ≡ 4)
+unfolding station_set_up station_set_up_refusal station_in_range station_refusal station_command station_after
+holdings_looked_at = (refl, refl, refl, refl, refl)
