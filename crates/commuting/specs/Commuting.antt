@@ -32,7 +32,7 @@ FollowsDoing =
     (s : StationMemory) → StationShaped s → (c : StationOrder) → Accepted s c
     → station_command s c ≡ effect_on (does s c) (number_of c) s
 
--- two memories that are alike in N, W, the item that c touches and its own process
+-- two memories that are alike in the footprint of c: N, W, the item that it touches and its own process
 pub record Alike (s s₂ : StationMemory) (c : StationOrder) : Type 0 where
   pub n : s.n ≡ s₂.n
   pub w : s.w ≡ s₂.w
@@ -75,7 +75,7 @@ pub record Swapped (s : StationMemory) (c d : StationOrder) : Type 0 where
   pub memory : leaves (leaves s d) c ≡ leaves (leaves s c) d
 
 -- "after a set-up and any commands, two neighbouring accepted commands of different processes, with no item in common
--- or both only looking, leave the same memory and give the same two answers in either order"
+-- or both only looking, leave the same memory and give the same two answers in either order": independence
 abbrev pub Commute : Type 0
 Commute =
     (s : StationMemory) → StationShaped s → (n w r : ℕ) (value : List ℕ) (cs : List StationOrder)

@@ -13,7 +13,7 @@ turns_of p (t ∷ ts) = cond (eqb t p) 1 0 + turns_of p ts
 abbrev pub is_schedule : ℕ → ℕ → List ℕ → Bool
 is_schedule a b ts = every (λ t. leb t 1) ts && (eqb (turns_of 0 ts) a && eqb (turns_of 1 ts) b)
 
--- "in dictionary order, process 0 before process 1": ts comes before us
+-- "in dictionary order, process 0 before process 1", the lexicographic order: ts comes before us
 abbrev pub before : List ℕ → List ℕ → Bool
 before [] [] = false
 before [] (u ∷ us) = true
@@ -27,7 +27,8 @@ schedule_for (suc a) zero k = replicate (suc a) 0
 schedule_for (suc a) (suc b) k =
     cond (ltb k (ways a (suc b))) (0 ∷ schedule_for a (suc b) k) (1 ∷ schedule_for (suc a) b (k - ways a (suc b)))
 
--- "the number for a schedule": before one that begins with process 1 come all that begin with process 0
+-- "the number for a schedule", its lexicographic rank: before one that begins with process 1 come all that begin with
+-- process 0
 unfoldable pub number_for : ℕ → ℕ → List ℕ → ℕ
 number_for zero b ts = 0
 number_for (suc a) zero ts = 0

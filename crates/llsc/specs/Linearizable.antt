@@ -19,7 +19,7 @@ abbrev pub OpenCounted : (Kind → ℕ) → Slot → Type 0
 OpenCounted largest none = Unit {0}
 OpenCounted largest (running kind start steps) = steps < largest kind
 
--- an answered call with its moment
+-- an answered call with its moment, the linearization point
 pub record Timed : Type 0 where
   pub call : Call
   pub moment : ℕ

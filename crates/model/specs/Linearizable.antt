@@ -17,7 +17,7 @@ OwnSteps w vl s = s ≡ 1
 abbrev pub Counted : ℕ → Call → Type 0
 Counted w c = AnyBench.Counted (OwnSteps w c.kind) c.count c.steps
 
--- "open calls have fewer than their kind's largest"
+-- "open calls have fewer than their kind's largest", the bound of wait-freedom
 abbrev pub largest : ℕ → Kind → ℕ
 largest w ll = ll_most w
 largest w (sc offered) = sc_most w

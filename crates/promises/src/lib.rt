@@ -1,0 +1,3 @@
+// The promises of README, each by its name: nothing here runs.
+
+#![tactic(auto)]
