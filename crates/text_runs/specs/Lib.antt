@@ -3,6 +3,7 @@ pub mod TextRun
 pub mod StopPlaces
 pub mod RunCommands
 pub mod KeptEntries
+pub mod Reading
 pub mod Parts
 pub mod Runs
 pub mod Carrying

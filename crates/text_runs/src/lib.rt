@@ -7,6 +7,7 @@ pub mod entry_loop;
 pub mod last_lines;
 pub mod limits;
 pub mod lists;
+pub mod reading;
 pub mod reports;
 pub mod returned;
 pub mod runs;
