@@ -135,30 +135,48 @@ module _ (M : Machine) where
     kept_carry (Finish p) s =
         kept_process_lem (λ x. carry M (Finish x) s) p (λ h. ap (λ (x : Progress M). cond (eqb s.stop 0) x s) (far_steps (suc (most_entries - s.entries)) p s h))
 
-    -- so what is kept of the first k entries is enough where k and those done are more than 60,000
-    kept_first : (k : ℕ) (es : List Entry) (s : Progress M) → (s.stop ≡ 0 → (s.entries ≤ most_entries) × (most_entries < k + s.entries))
+    -- so what is kept of the first k entries is enough where k and those done are more than 60,000, or k are all
+    record Left (k all : ℕ) (s : Progress M) : Type 0 where
+      few : s.entries ≤ most_entries
+      enough : k + s.entries ≤ most_entries → all ≤ k
+
+    left_next : {k all : ℕ} (e : Entry) {s : Progress M} → (s.stop ≡ 0 → Left (suc k) (suc all) s) → (carry M e s).stop ≡ 0 → Left k all (carry M e s)
+    left_next {k} {all} e {s} h z =
+        let m = carry_more e s z in
+        record { few = m.few; enough = λ l. omega (arith, (h m.before).enough (omega (arith, m.more))) }
+
+    left_none : {more : ℕ} {s : Progress M} → (s.stop ≡ 0 → Left 0 (suc more) s) → s.stop ≡ 0 → ⊥
+    left_none h z = let x = h z in omega (arith, x.enough (omega (arith, x.few)))
+
+    kept_first : (k : ℕ) (es : List Entry) (s : Progress M) → (s.stop ≡ 0 → Left k (length es) s)
         → carry_all M (map kept_entry (take k es)) s ≡ carry_all M es s
     unfolding carry_all
-    kept_first zero es s h = sym (all_stay es s (λ z. omega (arith, h z)))
+    kept_first zero [] s h = refl
+    kept_first zero (e ∷ es) s h = sym (all_stay (e ∷ es) s (left_none h))
     kept_first (suc k) [] s h = refl
     kept_first (suc k) (e ∷ es) s h =
-        ap (carry_all M (map kept_entry (take k es))) (kept_carry e s)
-        ∙ kept_first k es (carry M e s) (λ z. let m = carry_more e s z in (m.few, omega (arith, m.more, h m.before)))
+        ap (carry_all M (map kept_entry (take k es))) (kept_carry e s) ∙ kept_first k es (carry M e s) (left_next e h)
 
     -- and the run stops at the same entry
-    kept_first_index : (k : ℕ) (es : List Entry) (s : Progress M) → (s.stop ≡ 0 → (s.entries ≤ most_entries) × (most_entries < k + s.entries))
+    kept_first_index : (k : ℕ) (es : List Entry) (s : Progress M) → (s.stop ≡ 0 → Left k (length es) s)
         → stop_index M (map kept_entry (take k es)) s ≡ stop_index M es s
     unfolding stop_index
-    kept_first_index zero es s h = sym (index_stays es s (λ z. omega (arith, h z)))
+    kept_first_index zero [] s h = refl
+    kept_first_index zero (e ∷ es) s h = sym (index_stays (e ∷ es) s (left_none h))
     kept_first_index (suc k) [] s h = refl
     kept_first_index (suc k) (e ∷ es) s h =
         let next = carry M e s in
         ap (λ (x : Progress M). cond (eqb x.stop 0) (suc (stop_index M (map kept_entry (take k es)) x)) 0) (kept_carry e s)
-        ∙ ap (λ (i : ℕ). cond (eqb next.stop 0) (suc i) 0) (kept_first_index k es next (λ z. let m = carry_more e s z in (m.few, omega (arith, m.more, h m.before))))
+        ∙ ap (λ (i : ℕ). cond (eqb next.stop 0) (suc i) 0) (kept_first_index k es next (left_next e h))
 
-    -- what the list of a text keeps runs as the whole does: an entry after the 60,000th is 12 whatever it says, and a process number above 15 is refused alike
-    pub kept_run : (es : List Entry) (s : Progress M) → s.entries ≡ 0 → carry_all M (map kept_entry (take 60001 es)) s ≡ carry_all M es s
-    kept_run es s z = kept_first 60001 es s (λ y. (omega (arith, z), omega (arith, z)))
+    -- what a list of k numbers keeps of a text runs as the whole does, where it lacks none or has more than 60,000: an
+    -- entry after the 60,000th is 12 whatever it says, and a process number above 15 is refused alike
+    module _ (k : ℕ) (es : List Entry) (enough : k ≤ most_entries → length es ≤ k) where
+      at_first : {s : Progress M} → s.entries ≡ 0 → Left k (length es) s
+      at_first z = record { few = omega (arith, z); enough = λ l. enough (omega (arith, z)) }
 
-    pub kept_index : (es : List Entry) (s : Progress M) → s.entries ≡ 0 → stop_index M (map kept_entry (take 60001 es)) s ≡ stop_index M es s
-    kept_index es s z = kept_first_index 60001 es s (λ y. (omega (arith, z), omega (arith, z)))
+      pub kept_run : (s : Progress M) → s.entries ≡ 0 → carry_all M (map kept_entry (take k es)) s ≡ carry_all M es s
+      kept_run s z = kept_first k es s (λ y. at_first z)
+
+      pub kept_index : (s : Progress M) → s.entries ≡ 0 → stop_index M (map kept_entry (take k es)) s ≡ stop_index M es s
+      kept_index s z = kept_first_index k es s (λ y. at_first z)

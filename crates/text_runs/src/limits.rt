@@ -16,6 +16,9 @@ pub const LONGEST_TEXT: usize = 16384;
 
 pub const DEEPEST: usize = 8;
 
+// No limit of 01's: an entry takes three bytes of a text without groups, so a short list has room for those of this many.
+pub const SHORT_TEXT: usize = 3072;
+
 // "listing room left under 744 bytes"; a trace needs 128 bytes more.
 pub fn room_needed(traced: bool) -> usize
     ensures { result ≡ room_needed traced }

@@ -22,9 +22,7 @@ use Rattle.text_runs.specs.Runs.{Outcome, closed_at, fresh_run}
 use Rattle.whole_runs.specs.Carrying.{Over}
 use Rattle.whole_runs.specs.Whole.{progress_with, end_of}
 use Rattle.whole_runs.proofs.StopLaws.{item_read, report_is, line_stops, stops_14, stops_12, stops_looked}
-use Rattle.notation.proofs.ItemsLaws.{items_as}
-use Rattle.whole_runs.proofs.FaultLaws.{broken_small}
-use Rattle.whole_runs.proofs.TextLaws.{broken_says, closed_says, run_14, run_12, run_not_headed, run_headed}
+use Rattle.whole_runs.proofs.TextLaws.{run_14, run_12, run_not_headed, run_headed}
 
 pub room_left : (t : Bool) {k : ℕ} (list : List ℕ) → k ≡ room_needed t → k ≤ length list → room_needed t ≤ length list
 room_left t list e l = omega (arith, e, l)
@@ -67,9 +65,6 @@ module _ (M : Machine) (t : Bool) (n w v : ℕ) (entries : List ℕ) (m : M.Memo
   report_done {at = at} memory to over p e z q l y stop is read =
       is ∙ read ∙ ap (λ (j : ℕ). cond (eqb j 0) (at_no_item n w) (word_report n w (get_or entries at 0))) (sym stop)
       ∙ item_read M entries over n w ∙ begun_report z (begun_as M memory to p e q l y)
-
--- what the items of a text come to
-pub ruleset checked_laws = (items_as, broken_small, broken_says, closed_says, refused_ends)
 
 -- what a whole text comes to
 pub ruleset text_laws = (run_14, run_12, run_not_headed, run_headed, report_is, line_stops, stops_14, stops_12, stops_looked, room_left, closed_report, refused_ends)

@@ -4,4 +4,5 @@
 #![tactic(auto)]
 
 pub mod entry_loop;
+pub mod reading;
 pub mod texts;

@@ -8,13 +8,15 @@ ghost use Rattle.text_runs.specs.Runs.{last_room};
 ghost use Rattle.whole_runs.specs.Carrying.{in_run};
 ghost use Rattle.text_runs.specs.StopPlaces.{StopInText};
 ghost use Rattle.text_runs.specs.KeptEntries.{FarRefused, entries_in, places_in, started_with, report_with, says_after};
+ghost use Rattle.whole_runs.specs.Reading.{Told, read_with, read_report};
 ghost use Rattle.whole_runs.specs.Whole.{Headed, Roomy, Prepared, Lasting, Ran, progress_with, end_of};
 
 use crate::entry_loop::{self, Carrier};
+use crate::reading;
 use listing::Writer;
 use llsc::refusals::Refusal;
-use notation::items::Items;
-use notation::{First, items};
+use notation::First;
+use notation::items::Fault;
 use positions::{Sizes, StopReport};
 use text_runs::runs::{self, Finished, Run};
 use text_runs::{limits, lists, reports};
@@ -72,9 +74,58 @@ fn started<B: Starter>(
     runs::ended(run.held, run.entries, outcome, report, &mut to)
 }
 
-// "then 10 and 11 over the whole text": its items are read once, into the list of its entries.
+// A text whose items are read into a list: refused at its fault, or its entries carried out.
+fn carried_on<B: Starter>(
+    held: B,
+    traced: bool,
+    first: First,
+    read: Result<usize, Fault>,
+    entries: &[u64],
+    words: &mut [u64],
+    list: &mut [u8],
+) -> Finished<B>
+    requires { (B.lendable held) × (Roomy list.old) × (first.initial ≤ largest) × (Told read (length entries.now)) }
+    ensures is { end_of B.machine result (B.memory result.held words.new) list.new
+        ≡ read_with B.machine traced first read entries.now (B.memory held words.old) list.old }
+    ensures report { result.report ≡ read_report B.machine traced first read entries.now (B.memory held words.old) list.old }
+    ensures kept { (B.lendable result.held) × (B.lent result.held ≡ B.lent held) }
+{
+    match read {
+        Ok(count) => started(held, traced, first, &entries[..count], words, list),
+        Err(fault) => {
+            let report = StopReport::AtFault(fault.place);
+            runs::refused(held, fault.cause, report, list)
+        }
+    }
+}
+
+// "then 10 and 11 over the whole text", of any length: its items are read once, into a list that is long enough for all.
+// Kept: never inlined: a caller that needs no such list has no room of its size to go over on the stack.
+#[inline(never)]
+#[tactic(auto, using(crate::proofs::TextLaws::read_told))]
+fn checked_in_full<B: Starter>(
+    held: B,
+    traced: bool,
+    first: First,
+    words: &mut [u64],
+    text: &[u8],
+    list: &mut [u8],
+) -> Finished<B>
+    requires { (B.lendable held) × (Roomy list.old) × (Headed text.now first) }
+    ensures is { end_of B.machine result (B.memory result.held words.new) list.new
+        ≡ says_after B.machine traced text.now first.n first.w first.initial first.items (B.memory held words.old) list.old }
+    ensures report { StopInText B.machine traced (B.memory held words.old) text.now list.old result.report }
+    ensures kept { (B.lendable result.held) × (B.lent result.held ≡ B.lent held) }
+{
+    let mut entries = lists::full_list();
+    let read = reading::read_into(text, first.items, &mut entries);
+    carried_on(held, traced, first, read, &entries, words, list)
+}
+
+// "then 10 and 11 over the whole text": the items of a short text are read into a short list, which is enough if it is
+// not full then.
 // Kept: text ends here, words and list go on to the loop: a struct of the three would be taken apart by this function.
-#[tactic(auto, using(crate::proofs::WholeLaws::checked_laws))]
+#[tactic(auto, using(crate::proofs::TextLaws::read_told))]
 fn checked<B: Starter>(
     held: B,
     traced: bool,
@@ -89,21 +140,14 @@ fn checked<B: Starter>(
     ensures report { StopInText B.machine traced (B.memory held words.old) text.now list.old result.report }
     ensures kept { (B.lendable result.held) × (B.lent result.held ≡ B.lent held) }
 {
-    let mut kept = lists::empty_list();
-    let read = match items::read_items(text, first.items, limits::DEEPEST, &mut kept) {
-        Ok(read) => read,
-        Err(fault) => {
-            let report = StopReport::AtFault(fault.place);
-            return runs::refused(held, fault.cause, report, list);
-        }
-    };
-    match read {
-        Items::Ended(count) => started(held, traced, first, &kept[..count], words, list),
-        Items::Closed(next, _) => {
-            let report = StopReport::AtFault(next - 1);
-            runs::refused(held, Refusal::TextBroken, report, list)
+    if text.len() <= limits::SHORT_TEXT {
+        let mut entries = lists::short_list();
+        let read = reading::read_into(text, first.items, &mut entries);
+        if !reading::is_full(read, entries.len()) {
+            return carried_on(held, traced, first, read, &entries, words, list);
         }
     }
+    checked_in_full(held, traced, first, words, text, list)
 }
 
 // The text run, with its listing or, where `traced`, its trace: why it was refused, if it was, the entries done, the bytes
