@@ -17,7 +17,7 @@
  * besklaun_run_board less than 128 KiB, the judges less than 64 KiB, the others less than 32 KiB. Where a thread has
  * less, the system ends the process.
  *
- * `number` is 0, or the number of the cause of a refusal (docs/NOTATION.md, docs/JUDGE.md, docs/BOARDS.md).
+ * `number` is 0, or the number of the cause of a refusal (BESKLAUN_NO_SUCH_PROCESS and its like, below).
  */
 #ifndef BESKLAUN_H
 #define BESKLAUN_H
@@ -29,6 +29,43 @@
 #ifdef __cplusplus
 extern "C" {
 #endif
+
+/* The version, also as a number: 10,000 for each major version, 100 for each minor one. */
+#define BESKLAUN_VERSION "0.2.0"
+#define BESKLAUN_VERSION_NUMBER 200
+
+/* The number of the version that is linked. Definition: version_number, besklaun/specs/Version. */
+uint32_t besklaun_version(void);
+
+/* The causes of a refusal (docs/NOTATION.md, docs/JUDGE.md, docs/INTERLEAVINGS.md, docs/BOARDS.md). 13 is given to
+ * nothing. */
+#define BESKLAUN_N_OUT_OF_RANGE          1 /* N is not 1 to 16 */
+#define BESKLAUN_W_OUT_OF_RANGE          2 /* W is not 1 to 64 */
+#define BESKLAUN_TOO_LITTLE_LENT         3 /* too little memory is lent, or the list is no whole number of values */
+#define BESKLAUN_NO_SUCH_PROCESS         4 /* the process is not below N */
+#define BESKLAUN_START_AT_BUSY           5 /* a start at a process that has an open call */
+#define BESKLAUN_STEP_AT_IDLE            6 /* a step at a process that has no open call */
+#define BESKLAUN_NEVER_LINKED            7 /* an SC or VL where no LL of the process was ever answered */
+#define BESKLAUN_VALUE_NOT_W_WORDS       8 /* a value that has not W words */
+#define BESKLAUN_NUMBER_OUT_OF_RANGE     9 /* a number of the lent memory is out of its range */
+#define BESKLAUN_TEXT_BROKEN            10 /* the text breaks the notation */
+#define BESKLAUN_TOO_DEEP               11 /* the text opens a ninth group */
+#define BESKLAUN_TOO_MUCH               12 /* the text has more than 16,384 bytes, or more than 60,000 commands */
+#define BESKLAUN_NO_ROOM                14 /* there is no room for another line */
+#define BESKLAUN_NO_SUCH_SUCCESS        15 /* a success that is not in the list */
+#define BESKLAUN_TOO_MANY_CALLS         16 /* more than 512 calls */
+#define BESKLAUN_ANSWER_NOT_AFTER_START 17 /* a call that is answered no later than it starts */
+#define BESKLAUN_NO_LISTING             18 /* the bytes are no listing */
+#define BESKLAUN_SEASON_FULL            19 /* 4,096 listings are taken */
+#define BESKLAUN_TOO_MANY_TURNS         20 /* more than 32 turns of a process */
+#define BESKLAUN_NO_SUCH_NUMBER         21 /* no schedule has this number */
+#define BESKLAUN_NOT_A_SCHEDULE         22 /* the turns are of no such schedule, or of another process than 0 and 1 */
+#define BESKLAUN_R_OUT_OF_RANGE         23 /* R is not 1 to 8 */
+#define BESKLAUN_NO_SUCH_RECORD         24 /* the record is not below R */
+#define BESKLAUN_BAD_TRAILER            25 /* the file has no right trailer, or more than 16,777,216 bytes */
+#define BESKLAUN_BAD_RECORD             26 /* the file has a bad record, or a tick that falls */
+#define BESKLAUN_PROCESS_IN_BOTH        27 /* a process is in both files */
+#define BESKLAUN_TOO_LITTLE_ROOM        28 /* too little room for the merged file, or it would have more than 16,777,216 bytes */
 
 /* Judging a log (docs/JUDGE.md): whether the moments that it claims are a linearization of its calls. */
 

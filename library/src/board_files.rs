@@ -1,20 +1,35 @@
 //! Trace files of boards (docs/BOARDS.md). A merge takes less than 16 KiB of
 //! stack, a run less than 128 KiB.
 
+use crate::refusals::{number_of, outcome, Refusal};
+
 #[repr(C)]
 struct Merged {
     number: u8,
     written: usize,
 }
 
-/// What a run of a file returns: its number, 0 at `end`, the commands done
-/// and the bytes written.
+/// What a run of a file returns: whether it came to its `end`, the commands
+/// done and the bytes written.
 #[derive(Clone, Copy, PartialEq, Eq, Debug)]
-#[repr(C)]
 pub struct BoardRun {
-    pub number: u8,
+    pub outcome: Result<(), Refusal>,
     pub done: usize,
     pub written: usize,
+}
+
+impl BoardRun {
+    /// 0 at `end`, or the C of `refused C E`.
+    pub fn number(&self) -> u8 {
+        number_of(self.outcome)
+    }
+}
+
+#[repr(C)]
+struct Ran {
+    number: u8,
+    done: usize,
+    written: usize,
 }
 
 extern "C" {
@@ -26,7 +41,7 @@ extern "C" {
         file_count: usize,
         listing: *mut u8,
         listing_count: usize,
-    ) -> BoardRun;
+    ) -> Ran;
 
     fn besklaun_merge(
         first: *const u8,
@@ -39,9 +54,9 @@ extern "C" {
 }
 
 /// Two files made one, at the front of the bytes lent: how many bytes it has,
-/// or the number of the refusal, which leaves all bytes as they were. Room
-/// for the bytes of both files is enough.
-pub fn merge(first: &[u8], second: &[u8], out: &mut [u8]) -> Result<usize, u8> {
+/// or why it is refused, which leaves all bytes as they were. Room for the
+/// bytes of both files is enough.
+pub fn merge(first: &[u8], second: &[u8], out: &mut [u8]) -> Result<usize, Refusal> {
     // SAFETY: pointer and count are those of slices, and the borrow checker
     // keeps the last apart from the others
     let merged = unsafe {
@@ -54,10 +69,7 @@ pub fn merge(first: &[u8], second: &[u8], out: &mut [u8]) -> Result<usize, u8> {
             out.len(),
         )
     };
-    match merged.number {
-        0 => Ok(merged.written),
-        number => Err(number),
-    }
+    outcome(merged.number).map(|()| merged.written)
 }
 
 /// A file run on a bench of its own, set up for n processes and w words with
@@ -66,7 +78,7 @@ pub fn merge(first: &[u8], second: &[u8], out: &mut [u8]) -> Result<usize, u8> {
 pub fn run_board(n: usize, w: usize, initial: u32, file: &[u8], listing: &mut [u8]) -> BoardRun {
     // SAFETY: pointer and count are those of slices, and the borrow checker
     // keeps the two apart
-    unsafe {
+    let ran = unsafe {
         besklaun_run_board(
             n,
             w,
@@ -76,5 +88,10 @@ pub fn run_board(n: usize, w: usize, initial: u32, file: &[u8], listing: &mut [u
             listing.as_mut_ptr(),
             listing.len(),
         )
+    };
+    BoardRun {
+        outcome: outcome(ran.number),
+        done: ran.done,
+        written: ran.written,
     }
 }

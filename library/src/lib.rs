@@ -6,10 +6,14 @@
 
 mod board_files;
 mod logs;
+mod refusals;
 mod schedules;
 mod texts;
+mod versions;
 
 pub use board_files::{merge, run_board, BoardRun};
 pub use logs::{judge, judge_with_reason, Object, Reason, Verdict};
+pub use refusals::{NoRefusal, Refusal};
 pub use schedules::{number_for, schedule_after, schedule_for, Schedule};
 pub use texts::{run_text, trace_text, TextRun};
+pub use versions::{version, VERSION};

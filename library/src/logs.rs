@@ -2,10 +2,12 @@
 
 use std::fmt;
 
+use crate::refusals::{outcome, Refusal};
+
 /// What the judge says: refused for a cause, yes, or no.
 #[derive(Clone, Copy, PartialEq, Eq, Debug)]
 pub enum Verdict {
-    Refused(u8),
+    Refused(Refusal),
     Yes,
     No,
 }
@@ -13,7 +15,7 @@ pub enum Verdict {
 impl fmt::Display for Verdict {
     fn fmt(&self, to: &mut fmt::Formatter) -> fmt::Result {
         match self {
-            Verdict::Refused(number) => write!(to, "refused {number}"),
+            Verdict::Refused(cause) => write!(to, "refused {}", cause.number()),
             Verdict::Yes => write!(to, "yes"),
             Verdict::No => write!(to, "no"),
         }
@@ -149,10 +151,10 @@ pub fn judge(n: usize, w: usize, value: &[u64], log: &[u64]) -> Verdict {
 }
 
 fn verdict(number: u8, yes: bool) -> Verdict {
-    match (number, yes) {
-        (_, true) => Verdict::Yes,
-        (0, _) => Verdict::No,
-        _ => Verdict::Refused(number),
+    match outcome(number) {
+        Err(cause) => Verdict::Refused(cause),
+        Ok(()) if yes => Verdict::Yes,
+        Ok(()) => Verdict::No,
     }
 }
 

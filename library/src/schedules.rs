@@ -1,6 +1,7 @@
 //! Small schedules (docs/INTERLEAVINGS.md): every way in which processes 0 and
-//! 1 can take a and b turns, in dictionary order, with numbers from 0. What is
-//! refused comes back as its number: 20, 21 or 22.
+//! 1 can take a and b turns, in dictionary order, with numbers from 0.
+
+use crate::refusals::{outcome, Refusal};
 
 /// The turns of no more than 32 + 32.
 const MOST_TURNS: usize = 64;
@@ -52,32 +53,25 @@ extern "C" {
 }
 
 /// The schedule for a number.
-pub fn schedule_for(a: usize, b: usize, number: u64) -> Result<Schedule, u8> {
+pub fn schedule_for(a: usize, b: usize, number: u64) -> Result<Schedule, Refusal> {
     let mut turns = [0; MOST_TURNS];
     // SAFETY: pointer and count are those of an array
     let found = unsafe { besklaun_schedule_for(a, b, number, turns.as_mut_ptr(), MOST_TURNS) };
     let count = found.count;
-    accepted(found.refusal, Schedule { count, turns })
+    outcome(found.refusal).map(|()| Schedule { count, turns })
 }
 
 /// The number for a schedule.
-pub fn number_for(a: usize, b: usize, turns: &[u8]) -> Result<u64, u8> {
+pub fn number_for(a: usize, b: usize, turns: &[u8]) -> Result<u64, Refusal> {
     // SAFETY: pointer and count are those of a slice
     let numbered = unsafe { besklaun_number_for(a, b, turns.as_ptr(), turns.len()) };
-    accepted(numbered.refusal, numbered.number)
+    outcome(numbered.refusal).map(|()| numbered.number)
 }
 
 /// The turns of the schedule after, in the place of those lent; false where
 /// these were the last, which stay.
-pub fn schedule_after(a: usize, b: usize, turns: &mut [u8]) -> Result<bool, u8> {
+pub fn schedule_after(a: usize, b: usize, turns: &mut [u8]) -> Result<bool, Refusal> {
     // SAFETY: pointer and count are those of a slice
     let after = unsafe { besklaun_schedule_after(a, b, turns.as_mut_ptr(), turns.len()) };
-    accepted(after.refusal, !after.last)
-}
-
-fn accepted<T>(refusal: u8, reply: T) -> Result<T, u8> {
-    match refusal {
-        0 => Ok(reply),
-        _ => Err(refusal),
-    }
+    outcome(after.refusal).map(|()| !after.last)
 }

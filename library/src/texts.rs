@@ -1,14 +1,39 @@
 //! Schedule texts (docs/NOTATION.md), each run on a bench of its own. A run
 //! takes less than 640 KiB of stack.
 
-/// What a text run returns: its number, 0 at `end`, the commands carried
-/// out and the bytes written.
+use crate::refusals::{number_of, outcome, Refusal};
+
+/// What a text run returns: whether it came to its `end`, the commands
+/// carried out and the bytes written.
 #[derive(Clone, Copy, PartialEq, Eq, Debug)]
-#[repr(C)]
 pub struct TextRun {
-    pub number: u8,
+    pub outcome: Result<(), Refusal>,
     pub entries: usize,
     pub written: usize,
+}
+
+impl TextRun {
+    /// 0 at `end`, or the C of `refused C E`.
+    pub fn number(&self) -> u8 {
+        number_of(self.outcome)
+    }
+}
+
+#[repr(C)]
+struct Ran {
+    number: u8,
+    entries: usize,
+    written: usize,
+}
+
+impl From<Ran> for TextRun {
+    fn from(ran: Ran) -> TextRun {
+        TextRun {
+            outcome: outcome(ran.number),
+            entries: ran.entries,
+            written: ran.written,
+        }
+    }
 }
 
 extern "C" {
@@ -17,32 +42,35 @@ extern "C" {
         text_count: usize,
         listing: *mut u8,
         listing_count: usize,
-    ) -> TextRun;
+    ) -> Ran;
 
     fn besklaun_trace_text(
         text: *const u8,
         text_count: usize,
         trace: *mut u8,
         trace_count: usize,
-    ) -> TextRun;
+    ) -> Ran;
 }
 
 /// A text run whose listing goes to the bytes lent, 744 or more.
 pub fn run_text(text: &[u8], listing: &mut [u8]) -> TextRun {
     // SAFETY: pointer and count are those of slices, and the borrow checker
     // keeps the two apart
-    unsafe {
+    let ran = unsafe {
         besklaun_run_text(
             text.as_ptr(),
             text.len(),
             listing.as_mut_ptr(),
             listing.len(),
         )
-    }
+    };
+    ran.into()
 }
 
 /// The same run with its trace (docs/TRACE.md), 872 bytes or more.
 pub fn trace_text(text: &[u8], trace: &mut [u8]) -> TextRun {
     // SAFETY: as above
-    unsafe { besklaun_trace_text(text.as_ptr(), text.len(), trace.as_mut_ptr(), trace.len()) }
+    let ran =
+        unsafe { besklaun_trace_text(text.as_ptr(), text.len(), trace.as_mut_ptr(), trace.len()) };
+    ran.into()
 }

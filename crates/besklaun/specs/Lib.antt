@@ -2,3 +2,4 @@ pub mod BoardRuns
 pub mod Judgements
 pub mod OwnBench
 pub mod TurnBytes
+pub mod Version

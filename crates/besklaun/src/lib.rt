@@ -8,3 +8,4 @@ pub mod board_files;
 pub mod logs;
 pub mod schedules;
 pub mod texts;
+pub mod versions;

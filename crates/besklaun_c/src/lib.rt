@@ -13,13 +13,21 @@ ghost use Rattle.besklaun.specs.BoardRuns.{board_run};
 ghost use Rattle.besklaun.specs.Judgements.{judgement_of, reasoned_of};
 ghost use Rattle.besklaun.specs.OwnBench.{text_run};
 ghost use Rattle.besklaun.specs.TurnBytes.{schedule_into, number_told, after_into};
+ghost use Rattle.besklaun.specs.Version.{version_number};
 
 use besklaun::board_files::BoardRun;
 use besklaun::logs::{Judgement, Reasoned};
 use besklaun::schedules::{FoundTurns, TurnsAfter, TurnsNumber};
 use besklaun::texts::TextRun;
-use besklaun::{board_files, logs, schedules, texts};
+use besklaun::{board_files, logs, schedules, texts, versions};
 use boards::Merged;
+
+#[unsafe(no_mangle)]
+pub extern "C" fn besklaun_version() -> u32
+    ensures { result ≡ version_number }
+{
+    versions::besklaun_version()
+}
 
 // The judge (02, CR 1).
 

@@ -5,7 +5,7 @@
 use std::collections::BTreeMap;
 use std::thread;
 
-use besklaun::{merge, run_board, BoardRun};
+use besklaun::{merge, run_board, BoardRun, Refusal};
 use witness::boards::{self as separately, case, limits, pair, Numbers};
 use witness::schedule::LISTING;
 
@@ -57,20 +57,29 @@ fn causes_in_their_order() {
     let (first, second) = (process_0(), process_1());
     let falls = file(b"", &[record(2, 0, 0, 0), record(1, 0, 0, 0)]);
     let same = file(b"", &[record(7, 0, 0, 0)]);
-    assert_eq!(merge(&falls, &second[1..], &mut []), Err(25));
-    assert_eq!(merge(&second[1..], &falls, &mut []), Err(25));
-    assert_eq!(merge(&same, &falls, &mut []), Err(26));
-    assert_eq!(merge(&falls, &same, &mut []), Err(26));
-    assert_eq!(merge(&first, &same, &mut []), Err(27));
-    assert_eq!(merge(&first, &second, &mut [BEFORE; 71]), Err(28));
+    assert_eq!(
+        merge(&falls, &second[1..], &mut []),
+        Err(Refusal::BadTrailer)
+    );
+    assert_eq!(
+        merge(&second[1..], &falls, &mut []),
+        Err(Refusal::BadTrailer)
+    );
+    assert_eq!(merge(&same, &falls, &mut []), Err(Refusal::BadRecord));
+    assert_eq!(merge(&falls, &same, &mut []), Err(Refusal::BadRecord));
+    assert_eq!(merge(&first, &same, &mut []), Err(Refusal::ProcessInBoth));
+    assert_eq!(
+        merge(&first, &second, &mut [BEFORE; 71]),
+        Err(Refusal::TooLittleRoom)
+    );
 }
 
 #[test]
 fn empty_slices() {
     let none = file(b"", &[]);
-    assert_eq!(merge(&[], &[], &mut []), Err(25));
-    assert_eq!(merge(&none, &[], &mut []), Err(25));
-    assert_eq!(merge(&none, &none, &mut []), Err(28));
+    assert_eq!(merge(&[], &[], &mut []), Err(Refusal::BadTrailer));
+    assert_eq!(merge(&none, &[], &mut []), Err(Refusal::BadTrailer));
+    assert_eq!(merge(&none, &none, &mut []), Err(Refusal::TooLittleRoom));
 }
 
 #[test]
@@ -126,6 +135,7 @@ fn alike(first: &[u8], second: &[u8], room: u64) -> u8 {
         expected[..bytes.len()].copy_from_slice(bytes);
     }
     let said = merge(first, second, &mut out);
+    let said = said.map_err(Refusal::number);
     assert_eq!(said, separately.map(|bytes| bytes.len()));
     assert!(out == expected, "other bytes");
     said.err().unwrap_or(0)
@@ -163,7 +173,7 @@ fn load_and_store() -> Vec<u8> {
 
 fn returned(number: u8, done: usize, written: usize) -> BoardRun {
     BoardRun {
-        number,
+        outcome: Refusal::try_from(number).map_or(Ok(()), Err),
         done,
         written,
     }
@@ -192,7 +202,7 @@ fn causes_of_a_run() {
     let falls = file(b"", &[record(2, 0, 0, 1), record(1, 0, 0, 0)]);
     assert_eq!(ran(1, 1, 5, &falls, 744).1, b"refused 26 0\n");
     assert_eq!(ran(1, 1, 5, &whole, 752).1, b"0 L 10 5\nrefused 14 11\n");
-    assert_eq!(ran(1, 1, 5, &whole, 753).0.number, 0);
+    assert_eq!(ran(1, 1, 5, &whole, 753).0.outcome, Ok(()));
     assert_eq!(run_board(1, 1, 5, &[], &mut []), returned(14, 0, 0));
 }
 
@@ -211,7 +221,7 @@ fn as_the_separately_written_run() {
         let told = returned(listed.number, listed.done as usize, listed.written);
         assert_eq!(run, told, "case {index}");
         assert!(listing == expected, "case {index}: other bytes");
-        *seen.entry(run.number).or_insert(0) += 1;
+        *seen.entry(run.number()).or_insert(0) += 1;
         most = most.max(run.done);
     }
     let numbers: Vec<_> = seen.keys().copied().collect();
@@ -227,7 +237,7 @@ fn the_longest_run() {
     let records: Vec<_> = call.into_iter().cycle().take(all).collect();
     let longest = file(b"free", &records);
     let (run, listing) = ran(1, 1, 5, &longest, longest.len() + 744);
-    assert_eq!((run.number, run.done), (0, all));
+    assert_eq!((run.outcome, run.done), (Ok(()), all));
     let (lines, last) = listing.split_at(listing.len() - b"end 1398100\n".len());
     assert_eq!(last, b"end 1398100\n");
     assert_eq!(lines, b"0 L 10 5\n".repeat(all / 11));
@@ -238,5 +248,8 @@ fn the_longest_run() {
 fn stack_of_a_run() {
     let small = thread::Builder::new().stack_size(128 * 1024);
     let ran = small.spawn(|| run_board(16, 64, 5, &load_and_store(), &mut [0; 744]));
-    assert_eq!(ran.unwrap().join().unwrap().number, 5);
+    assert_eq!(
+        ran.unwrap().join().unwrap().outcome,
+        Err(Refusal::StartAtBusy)
+    );
 }

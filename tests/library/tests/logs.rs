@@ -4,7 +4,7 @@
 use std::collections::BTreeSet;
 use std::thread;
 
-use besklaun::{judge, judge_with_reason, Object, Reason, Verdict};
+use besklaun::{judge, judge_with_reason, Object, Reason, Refusal, Verdict};
 use witness::judge::{self as separately, bench_log, sample};
 
 /// The log that docs/JUDGE.md shows, of two processes and one word that
@@ -37,24 +37,60 @@ fn causes_in_the_order_of_the_document() {
     let cut = &calls[..27];
     let mut answered_at_its_start = SHOWN;
     answered_at_its_start[1][3] = 12288;
-    assert_eq!(judge(0, 0, &[], cut), Verdict::Refused(1));
-    assert_eq!(judge(17, 1, &[5], calls), Verdict::Refused(1));
-    assert_eq!(judge(usize::MAX, usize::MAX, &[], &[]), Verdict::Refused(1));
-    assert_eq!(judge(2, 0, &[], cut), Verdict::Refused(2));
-    assert_eq!(judge(2, usize::MAX, &[5], calls), Verdict::Refused(2));
-    assert_eq!(judge(1, 1, &[], cut), Verdict::Refused(4));
-    assert_eq!(judge(2, 1, &[], calls), Verdict::Refused(8));
-    assert_eq!(judge(2, 1, &[5, 5], calls), Verdict::Refused(8));
-    assert_eq!(judge(2, 1, &[5], cut), Verdict::Refused(8));
+    assert_eq!(
+        judge(0, 0, &[], cut),
+        Verdict::Refused(Refusal::NOutOfRange)
+    );
+    assert_eq!(
+        judge(17, 1, &[5], calls),
+        Verdict::Refused(Refusal::NOutOfRange)
+    );
+    assert_eq!(
+        judge(usize::MAX, usize::MAX, &[], &[]),
+        Verdict::Refused(Refusal::NOutOfRange)
+    );
+    assert_eq!(
+        judge(2, 0, &[], cut),
+        Verdict::Refused(Refusal::WOutOfRange)
+    );
+    assert_eq!(
+        judge(2, usize::MAX, &[5], calls),
+        Verdict::Refused(Refusal::WOutOfRange)
+    );
+    assert_eq!(
+        judge(1, 1, &[], cut),
+        Verdict::Refused(Refusal::NoSuchProcess)
+    );
+    assert_eq!(
+        judge(2, 1, &[], calls),
+        Verdict::Refused(Refusal::ValueNotWWords)
+    );
+    assert_eq!(
+        judge(2, 1, &[5, 5], calls),
+        Verdict::Refused(Refusal::ValueNotWWords)
+    );
+    assert_eq!(
+        judge(2, 1, &[5], cut),
+        Verdict::Refused(Refusal::ValueNotWWords)
+    );
     let many = answered_at_its_start.concat().repeat(129);
-    assert_eq!(judge(2, 1, &[5], &many), Verdict::Refused(16));
-    assert_eq!(judge(2, 1, &[5], &many[..3584]), Verdict::Refused(17));
+    assert_eq!(
+        judge(2, 1, &[5], &many),
+        Verdict::Refused(Refusal::TooManyCalls)
+    );
+    assert_eq!(
+        judge(2, 1, &[5], &many[..3584]),
+        Verdict::Refused(Refusal::AnswerNotAfterStart)
+    );
 }
 
 #[test]
 fn empty_slices() {
     assert_eq!(judge(2, 1, &[5], &[]), Verdict::Yes);
-    assert_eq!(judge(2, 1, &[], &[]), Verdict::Refused(8));
+    assert_eq!(
+        judge(2, 1, &[], &[]),
+        Verdict::Refused(Refusal::ValueNotWWords)
+    );
 }
 
 #[test]
@@ -97,10 +133,10 @@ fn reasons() {
     let object = Object::Truth(false);
     let expected = Reason::Answer { call: 3, object };
     assert_eq!(why(&linked), (Verdict::No, expected));
-    let none = (Verdict::Refused(8), Reason::Value);
+    let none = (Verdict::Refused(Refusal::ValueNotWWords), Reason::Value);
     assert_eq!(judge_with_reason(2, 1, &[], &[]), none);
     let huge = judge_with_reason(2, usize::MAX, &[5], SHOWN.as_flattened());
-    assert_eq!(huge, (Verdict::Refused(2), Reason::None));
+    assert_eq!(huge, (Verdict::Refused(Refusal::WOutOfRange), Reason::None));
 }
 
 /// Condition, calls, and what the object answers, on thousands of logs.
@@ -118,7 +154,7 @@ fn reasons_as_the_separately_written_judge() {
         assert_eq!(reason.condition(), expected.condition, "{what}");
         assert_eq!(reason.condition() != 0, verdict == Verdict::No, "{what}");
         // the 513th call is told by the number alone
-        if verdict != Verdict::Refused(16) {
+        if verdict != Verdict::Refused(Refusal::TooManyCalls) {
             assert_eq!(calls_of(reason), expected.calls, "{what}");
         }
         assert_eq!(object_of(reason, log), expected.object, "{what}");
@@ -170,6 +206,6 @@ fn shown(verdict: Verdict) -> String {
     match verdict {
         Verdict::Yes => "yes".to_string(),
         Verdict::No => "no".to_string(),
-        Verdict::Refused(number) => format!("refused {number}"),
+        Verdict::Refused(cause) => format!("refused {}", cause.number()),
     }
 }

@@ -4,7 +4,7 @@
 use std::collections::BTreeSet;
 use std::thread;
 
-use besklaun::{number_for, schedule_after, schedule_for};
+use besklaun::{number_for, schedule_after, schedule_for, Refusal};
 use witness::interleaving::{answer, every_schedule, questions, ways, Question};
 
 #[test]
@@ -25,7 +25,7 @@ fn every_schedule_once_and_in_order() {
         let stays = last.clone();
         assert_eq!(schedule_after(a, b, &mut last), Ok(false));
         assert_eq!(last, stays);
-        assert_eq!(schedule_for(a, b, number), Err(21));
+        assert_eq!(schedule_for(a, b, number), Err(Refusal::NoSuchNumber));
         assert_eq!(u128::from(number), ways(a as u64, b as u64));
     }
 }
@@ -43,24 +43,24 @@ fn numbers_near_the_largest() {
         let mut last = first.turns().to_vec();
         last.reverse();
         assert_eq!(schedule_for(a, b, count - 1).unwrap().turns(), last);
-        assert_eq!(schedule_for(a, b, count), Err(21));
-        assert_eq!(schedule_for(a, b, u64::MAX), Err(21));
+        assert_eq!(schedule_for(a, b, count), Err(Refusal::NoSuchNumber));
+        assert_eq!(schedule_for(a, b, u64::MAX), Err(Refusal::NoSuchNumber));
     }
 }
 
 #[test]
 fn refusals_in_their_order() {
-    assert_eq!(schedule_for(33, 0, u64::MAX), Err(20));
-    assert_eq!(schedule_for(0, usize::MAX, 0), Err(20));
-    assert_eq!(number_for(33, 0, &[2]), Err(20));
-    assert_eq!(schedule_after(0, 33, &mut [2]), Err(20));
-    assert_eq!(schedule_for(1, 1, 2), Err(21));
-    assert_eq!(number_for(1, 1, &[0, 0]), Err(22));
-    assert_eq!(number_for(1, 1, &[0, 1, 2]), Err(22));
-    assert_eq!(number_for(1, 1, &[0, 1, 1]), Err(22));
-    assert_eq!(number_for(1, 1, &[]), Err(22));
+    assert_eq!(schedule_for(33, 0, u64::MAX), Err(Refusal::TooManyTurns));
+    assert_eq!(schedule_for(0, usize::MAX, 0), Err(Refusal::TooManyTurns));
+    assert_eq!(number_for(33, 0, &[2]), Err(Refusal::TooManyTurns));
+    assert_eq!(schedule_after(0, 33, &mut [2]), Err(Refusal::TooManyTurns));
+    assert_eq!(schedule_for(1, 1, 2), Err(Refusal::NoSuchNumber));
+    assert_eq!(number_for(1, 1, &[0, 0]), Err(Refusal::NotASchedule));
+    assert_eq!(number_for(1, 1, &[0, 1, 2]), Err(Refusal::NotASchedule));
+    assert_eq!(number_for(1, 1, &[0, 1, 1]), Err(Refusal::NotASchedule));
+    assert_eq!(number_for(1, 1, &[]), Err(Refusal::NotASchedule));
     let mut turns = [1, 255];
-    assert_eq!(schedule_after(1, 1, &mut turns), Err(22));
+    assert_eq!(schedule_after(1, 1, &mut turns), Err(Refusal::NotASchedule));
     assert_eq!(turns, [1, 255]);
 }
 
@@ -116,7 +116,7 @@ fn told(question: &Question) -> String {
             })
         }
     };
-    said.unwrap_or_else(|refusal| format!("refused {refusal}"))
+    said.unwrap_or_else(|cause: Refusal| format!("refused {}", cause.number()))
 }
 
 fn bytes(turns: &[u64]) -> Vec<u8> {

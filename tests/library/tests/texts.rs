@@ -6,7 +6,7 @@ use std::fs;
 use std::path::{Path, PathBuf};
 use std::thread;
 
-use besklaun::{run_text, trace_text, TextRun};
+use besklaun::{run_text, trace_text, Refusal, TextRun};
 use witness::rng::Rng;
 use witness::schedule::{self as separately, Form, LISTING, TRACE};
 use witness::texts::{limit_texts, text};
@@ -64,7 +64,7 @@ fn writes(run: Run, text: &[u8], expected: &[u8]) {
         ["refused", number, entries] => (number, entries),
         _ => panic!("another last line: {last:?}"),
     };
-    assert_eq!(ran.number.to_string(), number);
+    assert_eq!(ran.number().to_string(), number);
     assert_eq!(ran.entries.to_string(), entries);
 }
 
@@ -75,7 +75,7 @@ fn too_little_room() {
         for room in [0, 1, least - 1] {
             let mut lent = vec![BEFORE; room];
             let expected = TextRun {
-                number: 14,
+                outcome: Err(Refusal::NoRoom),
                 entries: 0,
                 written: 0,
             };
@@ -84,7 +84,7 @@ fn too_little_room() {
         }
         let mut lent = vec![BEFORE; least];
         let expected = TextRun {
-            number: 0,
+            outcome: Ok(()),
             entries: 0,
             written: 6,
         };
@@ -133,7 +133,7 @@ fn alike(run: Run, form: &Form, text: &[u8], room: usize) {
     let ran = run(text, &mut lent);
     let (outcome, _) = separately::run_text(text, form, &mut expected, None);
     let shown = text.escape_ascii();
-    assert_eq!(ran.number, outcome.number, "{shown}");
+    assert_eq!(ran.number(), outcome.number, "{shown}");
     assert_eq!(ran.entries as u64, outcome.entries, "{shown}");
     assert_eq!(ran.written, outcome.written, "{shown}");
     assert!(lent == expected, "{shown}");

@@ -3,6 +3,8 @@
 
 use std::fmt::Write;
 
+use besklaun::Refusal;
+
 use crate::reasons;
 use crate::records::{number_at, records, MOST_BYTES, RECORD, SIGN, TRAILER};
 use crate::{Board, Ended};
@@ -48,7 +50,7 @@ pub fn made(name: &str, text: &[u8]) -> Result<Vec<u8>, Ended> {
         if tick < before {
             let words = format!("the tick is {tick}, below {before}, the tick before it");
             return Err(reasons::refused(
-                26,
+                Refusal::BadRecord,
                 name,
                 &format!("line {number}: {words}"),
             ));

@@ -2,7 +2,7 @@
 
 use std::ffi::OsStr;
 
-use besklaun::{run_board, trace_text, BoardRun};
+use besklaun::{run_board, trace_text, BoardRun, Refusal};
 
 use crate::lines::number;
 use crate::records::records;
@@ -40,7 +40,7 @@ fn run(bench: &Bench, board: &Board) -> (BoardRun, Vec<u8>) {
     loop {
         let (n, w) = (bench.n as usize, bench.w as usize);
         let run = run_board(n, w, bench.initial, &board.bytes, &mut listing);
-        if run.number != 14 {
+        if run.outcome != Err(Refusal::NoRoom) {
             listing.truncate(run.written);
             return (run, listing);
         }
@@ -50,11 +50,11 @@ fn run(bench: &Bench, board: &Board) -> (BoardRun, Vec<u8>) {
 
 /// What is printed, with the words of a refusal.
 fn ended(run: &BoardRun, printed: Vec<u8>, bench: &Bench, board: &Board) -> Result<Vec<u8>, Ended> {
-    match run.number {
-        0 => Ok(printed),
-        number => Err(Ended::Refused {
+    match run.outcome {
+        Ok(()) => Ok(printed),
+        Err(cause) => Err(Ended::Refused {
             printed,
-            words: reasons::stopped(number, run.done, bench, board),
+            words: reasons::stopped(cause, run.done, bench, board),
         }),
     }
 }
@@ -68,21 +68,20 @@ pub fn listed(bench: &Bench, board: &Board) -> Result<Vec<u8>, Ended> {
 /// is refused. The two runs must agree.
 pub fn traced(bench: &Bench, board: &Board) -> Result<Vec<u8>, Ended> {
     let (run, listing) = run(bench, board);
-    if matches!(run.number, 25 | 26) {
+    if let Err(Refusal::BadTrailer | Refusal::BadRecord) = run.outcome {
         return ended(&run, listing, bench, board);
     }
-    let most = if run.number == 0 {
-        run.done
-    } else {
-        run.done + 1
-    };
+    let most = run.done + usize::from(run.outcome.is_err());
     let text = schedule_of(bench, board, most)?;
     let mut trace = vec![0; TRACE_ROOM * (most.min(MOST_ENTRIES) + 1)];
     let by_text = trace_text(text.as_bytes(), &mut trace);
-    if (by_text.number, by_text.entries) != (run.number, run.done) {
+    if (by_text.outcome, by_text.entries) != (run.outcome, run.done) {
         return Err(Ended::Trouble(format!(
             "the run of the file gave {} after {} commands, that of its schedule {} after {}",
-            run.number, run.done, by_text.number, by_text.entries
+            run.number(),
+            run.done,
+            by_text.number(),
+            by_text.entries
         )));
     }
     trace.truncate(by_text.written);

@@ -2,7 +2,7 @@
 
 use std::str;
 
-use besklaun::{judge, run_text, trace_text, Verdict};
+use besklaun::{judge, run_text, trace_text, Refusal, Verdict};
 
 use crate::plan::Plan;
 use crate::trace::{told, Told};
@@ -18,10 +18,10 @@ pub struct Bench {
     trace: Vec<u8>,
 }
 
-/// A traced run: its number, 0 at `end`, what the trace tells, and its last
-/// line.
+/// A traced run: whether it came to its `end`, what the trace tells, and its
+/// last line.
 pub struct Run {
-    pub number: u8,
+    pub outcome: Result<(), Refusal>,
     pub told: Told,
     pub last: String,
 }
@@ -52,7 +52,7 @@ impl Bench {
         let lines = trace.trim_end_matches('\n');
         let (accesses, last) = lines.rsplit_once('\n').unwrap_or(("", lines));
         Run {
-            number: run.number,
+            outcome: run.outcome,
             told: told(accesses, self.w),
             last: last.to_string(),
         }
@@ -120,7 +120,7 @@ mod tests {
                 continue;
             };
             let run = bench.traced(&text);
-            if run.number == 0 {
+            if run.outcome.is_ok() {
                 assert_eq!(run.listing(), listed);
             }
         }
@@ -138,7 +138,7 @@ mod tests {
         let first = text.lines().next()?;
         let plan = Plan::read(&format!("{first}\n\n\n\n")).ok()?;
         let mut bench = Bench::of(&plan);
-        let number = bench.traced(&plan.first_line()).number;
-        (number == 0).then_some(bench)
+        let outcome = bench.traced(&plan.first_line()).outcome;
+        outcome.is_ok().then_some(bench)
     }
 }

@@ -8,7 +8,7 @@
 //! otherwise they are run again, and then more of them are right. What is known
 //! of the turns that a schedule shares with the one before it is kept.
 
-use besklaun::Verdict;
+use besklaun::{Refusal, Verdict};
 
 use crate::bench::{Bench, Run};
 use crate::case::Case;
@@ -154,9 +154,9 @@ impl<'a> Carrying<'a> {
                 true => [0, 1].map(|p: usize| self.case.lists[p].len()),
                 false => made.state.taken(),
             };
-            match (wrong, run.number) {
-                (None, 0) => return Ok(run),
-                (None, number) => return Err(not_carried_out(number, &text)),
+            match (wrong, run.outcome) {
+                (None, Ok(())) => return Ok(run),
+                (None, Err(cause)) => return Err(not_carried_out(cause, &text)),
                 _ => {}
             }
         }
@@ -207,8 +207,9 @@ fn shown_by(run: &Run, made: &Made) -> Vec<bool> {
     shown
 }
 
-fn not_carried_out(number: u8, text: &str) -> Ended {
+fn not_carried_out(cause: Refusal, text: &str) -> Ended {
     Ended::Trouble(format!(
-        "a schedule was refused with {number}; its text is\n{text}"
+        "a schedule was refused with {}; its text is\n{text}",
+        cause.number()
     ))
 }

@@ -3,16 +3,18 @@
 //! answered before, and with 4 where there is no process p. So the other
 //! process has no say in it: each list alone shows it.
 
+use besklaun::Refusal;
+
 use crate::bench::Bench;
 use crate::plan::{Call, Plan};
 use crate::text::{written, Item};
 use crate::Ended;
 
-/// A call, and the number with which the bench refuses it, 0 for none.
+/// A call, and why the bench refuses it, if it does.
 #[derive(Clone, Copy, PartialEq, Eq, Debug)]
 pub struct Listed {
     pub call: Call,
-    pub refusal: u8,
+    pub refusal: Option<Refusal>,
 }
 
 pub struct Case {
@@ -44,32 +46,36 @@ fn tried(
 ) -> Result<(Vec<Listed>, usize), Ended> {
     let listed = |call: &Call| Listed {
         call: *call,
-        refusal: 0,
+        refusal: None,
     };
     let mut list: Vec<Listed> = calls.iter().map(listed).collect();
     loop {
-        let taken: Vec<usize> = (0..list.len()).filter(|k| list[*k].refusal == 0).collect();
+        let taken: Vec<usize> = (0..list.len())
+            .filter(|k| list[*k].refusal.is_none())
+            .collect();
         let items: Vec<Item> = taken
             .iter()
             .flat_map(|k| [Item::Start(p, list[*k].call), Item::Finish(p)])
             .collect();
         let run = bench.traced(&written(first_line, &items));
         let commands = run.told.answered.len();
-        match run.number {
-            0 => return Ok((list, commands + calls.len() - taken.len())),
+        match run.outcome {
+            Ok(()) => return Ok((list, commands + calls.len() - taken.len())),
             // every call before the refused one was finished
-            4 | 7 => list[taken[run.told.answers.lines().count()]].refusal = run.number,
-            number => return Err(not_taken(number)),
+            Err(cause @ (Refusal::NoSuchProcess | Refusal::NeverLinked)) => {
+                list[taken[run.told.answers.lines().count()]].refusal = Some(cause);
+            }
+            Err(cause) => return Err(not_taken(cause)),
         }
     }
 }
 
-fn not_taken(number: u8) -> Ended {
-    match number {
-        1 => Ended::refused(1, "N is not 1 to 16"),
-        2 => Ended::refused(2, "W is not 1 to 64"),
+fn not_taken(cause: Refusal) -> Ended {
+    match cause {
+        Refusal::NOutOfRange | Refusal::WOutOfRange => Ended::refused(cause),
         _ => Ended::Trouble(format!(
-            "a list of calls is too long for one schedule text, which was refused with {number}"
+            "a list of calls is too long for one schedule text, which was refused with {}",
+            cause.number()
         )),
     }
 }

@@ -1,6 +1,6 @@
 //! Every schedule of a case, in dictionary order, process 0 before process 1.
 
-use besklaun::{number_for, schedule_for};
+use besklaun::{number_for, schedule_for, Refusal};
 
 use crate::bench::Bench;
 use crate::carrying::Carrying;
@@ -72,10 +72,13 @@ fn count(a: usize, b: usize) -> Result<u64, Ended> {
     Ok(number_for(a, b, &last).map_err(not_numbered)? + 1)
 }
 
-fn not_numbered(number: u8) -> Ended {
-    match number {
-        20 => Ended::refused(20, "A or B is above 32"),
-        _ => Ended::Trouble(format!("the numbering refused a schedule with {number}")),
+fn not_numbered(cause: Refusal) -> Ended {
+    match cause {
+        Refusal::TooManyTurns => Ended::Refused("refused 20: A or B is above 32\n".to_string()),
+        _ => Ended::Trouble(format!(
+            "the numbering refused a schedule with {}",
+            cause.number()
+        )),
     }
 }
 

@@ -37,8 +37,8 @@ pub enum Ended {
 }
 
 impl Ended {
-    fn refused(number: u8, cause: &str) -> Ended {
-        Ended::Refused(format!("refused {number}: {cause}\n"))
+    fn refused(cause: besklaun::Refusal) -> Ended {
+        Ended::Refused(format!("{cause}\n"))
     }
 }
 

@@ -31,8 +31,8 @@ fn refused_calls(case: &Case, taken: [usize; 2]) -> String {
     let mut told = String::new();
     for (p, list) in case.lists.iter().enumerate() {
         for (place, listed) in list.iter().take(taken[p]).enumerate() {
-            if listed.refusal != 0 {
-                let (number, call) = (listed.refusal, listed.call);
+            if let Some(cause) = listed.refusal {
+                let (number, call) = (cause.number(), listed.call);
                 told += &format!(
                     "refused {number}: process {p}, call {}, {call}\n",
                     place + 1

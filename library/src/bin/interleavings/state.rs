@@ -26,7 +26,7 @@ impl State {
         let next = case.lists[p].get(self.taken[p])?;
         self.taken[p] += 1;
         self.steps[p] = 0;
-        self.busy[p] = next.refusal == 0;
+        self.busy[p] = next.refusal.is_none();
         self.busy[p].then_some(Item::Start(p, next.call))
     }
 
@@ -49,7 +49,7 @@ impl State {
     pub fn rest(&self, case: &Case, p: usize) -> Vec<Item> {
         let open = self.busy[p].then_some(Item::Finish(p));
         let left = case.lists[p][self.taken[p]..].iter();
-        let taken = left.filter(|next| next.refusal == 0);
+        let taken = left.filter(|next| next.refusal.is_none());
         let started = taken.flat_map(|next| [Item::Start(p, next.call), Item::Finish(p)]);
         open.into_iter().chain(started).collect()
     }

@@ -97,7 +97,7 @@ impl Survey {
 
 fn not_yes(verdict: Verdict, text: &str) -> Ended {
     let said = match verdict {
-        Verdict::Refused(cause) => format!("refused {cause}"),
+        Verdict::Refused(cause) => format!("refused {}", cause.number()),
         _ => "no".to_string(),
     };
     Ended::Refused(format!("judge {said}\n\n{text}"))
@@ -105,6 +105,8 @@ fn not_yes(verdict: Verdict, text: &str) -> Ended {
 
 #[cfg(test)]
 mod tests {
+    use besklaun::Refusal;
+
     use super::*;
 
     fn schedule(text: &str) -> impl FnOnce() -> Schedule + '_ {
@@ -142,7 +144,10 @@ mod tests {
 
     #[test]
     fn another_verdict_shows_its_schedule() {
-        for (verdict, said) in [(Verdict::No, "no"), (Verdict::Refused(16), "refused 16")] {
+        for (verdict, said) in [
+            (Verdict::No, "no"),
+            (Verdict::Refused(Refusal::TooManyCalls), "refused 16"),
+        ] {
             match noted(&mut Survey::default(), "2 1 5\n1l\n", "end 1\n", verdict) {
                 Err(Ended::Refused(told)) => {
                     assert_eq!(told, format!("judge {said}\n\n2 1 5\n1l\n"))

@@ -48,9 +48,9 @@ fn merged(first: &Path, second: &Path, out: &Path) -> Result<(), Failure> {
     let a = files::read(first, MOST_BYTES).map_err(Failure::Trouble)?;
     let b = files::read(second, MOST_BYTES).map_err(Failure::Trouble)?;
     let mut bytes = vec![0; a.len() + b.len()];
-    let written = besklaun::merge(&a, &b, &mut bytes).map_err(|number| {
-        let reason = reasons::refused(number, (first, &a), (second, &b));
-        Failure::Refused(format!("refused {number}: {reason}"))
+    let written = besklaun::merge(&a, &b, &mut bytes).map_err(|cause| {
+        let reason = reasons::refused(cause, (first, &a), (second, &b));
+        Failure::Refused(format!("refused {}: {reason}", cause.number()))
     })?;
     files::write(out, &bytes[..written]).map_err(Failure::Trouble)
 }

@@ -1,7 +1,9 @@
-//! Why a pair is refused. The number is the library's; this only looks for
+//! Why a pair is refused. The cause is the library's; this only looks for
 //! the words, so a mistake here could make a message wrong, never a file.
 
 use std::path::Path;
+
+use besklaun::Refusal;
 
 use crate::records::{fault, records, TRAILER};
 
@@ -10,19 +12,19 @@ const NO_RECORDS: [u8; TRAILER] = *b"\0\0\0\0\0\0\0\0TRAL";
 
 type Named<'a> = (&'a Path, &'a [u8]);
 
-pub fn refused(number: u8, first: Named, second: Named) -> String {
-    match number {
-        25 | 26 => at_fault(number, first, second),
-        27 => shared(first, second),
+pub fn refused(cause: Refusal, first: Named, second: Named) -> String {
+    match cause {
+        Refusal::BadTrailer | Refusal::BadRecord => at_fault(cause, first, second),
+        Refusal::ProcessInBoth => shared(first, second),
         _ => "the merged file would be longer than 16,777,216 bytes".to_string(),
     }
 }
 
-/// The first of the two files that alone gives the number, and why.
-fn at_fault(number: u8, first: Named, second: Named) -> String {
-    let alone = |file: &Named| besklaun::merge(file.1, &NO_RECORDS, &mut []) == Err(number);
+/// The first of the two files that alone is refused for this cause, and why.
+fn at_fault(cause: Refusal, first: Named, second: Named) -> String {
+    let alone = |file: &Named| besklaun::merge(file.1, &NO_RECORDS, &mut []) == Err(cause);
     let (path, bytes) = [first, second].into_iter().find(alone).unwrap_or(second);
-    format!("'{}': {}", path.display(), fault(number, bytes))
+    format!("'{}': {}", path.display(), fault(cause, bytes))
 }
 
 fn shared(first: Named, second: Named) -> String {

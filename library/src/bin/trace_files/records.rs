@@ -1,6 +1,8 @@
 //! The bytes of a trace file, and the words for what is wrong with it. The
-//! number of a refusal is the library's; this only looks for the words, so a
+//! cause of a refusal is the library's; this only looks for the words, so a
 //! mistake here could make a message wrong, never a file or a run.
+
+use besklaun::Refusal;
 
 pub const MOST_BYTES: usize = 16_777_216;
 pub const TRAILER: usize = 12;
@@ -19,10 +21,10 @@ pub fn records(bytes: &[u8]) -> impl Iterator<Item = (usize, &[u8])> {
     places.zip(bytes[offset..end].chunks_exact(RECORD))
 }
 
-/// Why a file that is refused with 25 or 26 is refused.
-pub fn fault(number: u8, bytes: &[u8]) -> String {
-    match number {
-        25 => bad_trailer(bytes),
+/// Why a file that is refused for its trailer or for a record is refused.
+pub fn fault(cause: Refusal, bytes: &[u8]) -> String {
+    match cause {
+        Refusal::BadTrailer => bad_trailer(bytes),
         _ => bad_record(bytes),
     }
 }

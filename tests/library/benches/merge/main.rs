@@ -13,7 +13,7 @@ use witness::rng::Rng;
 
 const TURNS: usize = 9;
 
-type Merge = fn(&[u8], &[u8], &mut [u8]) -> Result<usize, u8>;
+type Merge<E> = fn(&[u8], &[u8], &mut [u8]) -> Result<usize, E>;
 
 fn main() -> ExitCode {
     println!("| Records of each file | Ticks | Proved, MB/s | Plain Rust, MB/s | Ratio of times |");
@@ -41,7 +41,7 @@ fn row(count: u32, ticks: &str, step: u32) -> bool {
     rate >= 200.0 || ratio <= 2.0
 }
 
-fn seconds(merge: Merge, a: &[u8], b: &[u8]) -> (f64, Vec<u8>) {
+fn seconds<E>(merge: Merge<E>, a: &[u8], b: &[u8]) -> (f64, Vec<u8>) {
     let mut out = vec![0; a.len() + b.len()];
     let mut best = f64::MAX;
     for _ in 0..TURNS {
