@@ -1,3 +1,4 @@
+pub mod TextRuns
 pub mod AcceptedRows
 pub mod SmallWords
 pub mod LineLengths
