@@ -19,7 +19,7 @@ use Rattle.boards.specs.Files.{BoardRecord}
 use Rattle.text_runs.specs.TextRun.{most_entries, room_needed, process_of, order_of, value_of}
 use Rattle.text_runs.specs.TextRun as TR
 use Rattle.semantics.specs.TextRun.{figure2, Progress, stopped, lines_of, trace_line, counted, commanded, single, carry}
-use Rattle.text_runs.proofs.SingleEntries.{outcome}
+use Rattle.text_runs.specs.TrueTraces.{outcome}
 use Rattle.entry.specs.RunState.{RunState, progress, Ready, Small, answer_line}
 use Rattle.entry.proofs.WordLaws.{Below}
 use Rattle.entry.proofs.CommandLaws.{decides}

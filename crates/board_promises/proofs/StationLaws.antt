@@ -24,7 +24,7 @@ use Rattle.board_commands.specs.BoardRun.{order_of, run_records}
 use Rattle.text_runs.specs.TextRun as TR
 use Rattle.text_runs.specs.TextRun.{room_needed, process_of, value_of}
 use Rattle.semantics.specs.TextRun.{figure2, Progress, stopped, lines_of, counted}
-use Rattle.text_runs.proofs.SingleEntries.{outcome}
+use Rattle.text_runs.specs.TrueTraces.{outcome}
 use Rattle.board_listing.specs.BoardListing.{entry_of, obey_all}
 
 -- The entry of a record is its command: only an SC's value is looked at.

@@ -26,7 +26,8 @@ use Rattle.text_runs.specs.TextRun.{most_entries, room_needed, process_of, order
 use Rattle.text_runs.specs.TextRun as T
 use Rattle.text_runs.specs.Parts as P
 use Rattle.text_runs.specs.Parts.{before_entry}
-use Rattle.text_runs.proofs.SingleEntries.{outcome, made_commanded}
+use Rattle.text_runs.specs.TrueTraces.{outcome}
+use Rattle.text_runs.proofs.SingleEntries.{made_commanded}
 use Rattle.text_runs.proofs.KeptLaws.{either}
 use Rattle.moir_model.specs.declared.Bench.{Bench}
 use Rattle.moir_model.specs.declared.Process.{Process}

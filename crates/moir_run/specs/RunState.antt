@@ -4,7 +4,7 @@ use Rattle.std.specs.Prelude.{◌≡◌, ℕ, ◌+◌, ◌≤◌, ◌<◌, List,
 use Rattle.notation.specs.declared.Entry.{Entry}
 use Rattle.text_runs.specs.TextRun.{most_entries, lines_of}
 use Rattle.text_runs.specs.Runs.{last_room}
-use Rattle.text_runs.proofs.SingleEntries.{outcome}
+use Rattle.text_runs.specs.TrueTraces.{outcome}
 use Rattle.moir_model.specs.Machine.{Memory}
 use Rattle.moir_semantics.specs.TextRun.{figure6, Progress}
 use Rattle.moir_semantics.proofs.SmallWords.{Small}

@@ -30,34 +30,9 @@ use Rattle.moir_access.proofs.Theorems.{trace_is_true, process_gets, line_shown,
 use Rattle.text_runs.specs.TextRun.{process_of, order_of, value_of, carry_all, begun}
 use Rattle.text_runs.proofs.ToldLaws as T
 use Rattle.moir_semantics.specs.TextRun.{figure6, Progress, access_now}
+use Rattle.moir_semantics.specs.TrueLines.{StepTrue, StartTrue, EntryTrue, Told, trace_begun}
 use Rattle.moir_semantics.proofs.AcceptedRows.{unrefused, left_by, cleared, in_order}
 use Rattle.moir_semantics.proofs.TableLengths.{command_shaped, set_up_shaped}
-
--- What the trace line of an entry says of its command, which found the memory m and left a reply and a memory.
--- Of a step: the access shown tells the truth, its process gets what is shown, and the line is Figure 6's.
-pub record StepTrue (p : ℕ) (m : Memory) (out : Reply × Memory) : Type 0 where
-  pub tells : TellsTruth (figure6.shows m p) m.bench m.words out.1.bench out.1.words
-  pub gets : let q = record_at m.records (record { 0 = p }) in
-      Gets (point_of q.line) (figure6.shows m p) q (record { bench = out.1.bench; process = record_at out.1.records (record { 0 = p }); reply = out.0 })
-  pub line : (figure6.shows m p).line ≡ figure_line (point_of (record_at m.records (record { 0 = p })).line)
-
--- Of a start: docs/TRACE.md, "a start touches nothing shared".
-abbrev pub StartTrue : Memory → Reply × Memory → Type 0
-StartTrue m out = Untouched m.bench m.words out.1.bench out.1.words
-
-abbrev pub EntryTrue : Entry → Memory → Reply × Memory → Type 0
-EntryTrue (StartLl p) m out = StartTrue m out
-EntryTrue (StartVl p) m out = StartTrue m out
-EntryTrue (StartSc p k) m out = StartTrue m out
-EntryTrue (Step p) m out = StepTrue p m out
-EntryTrue (Finish p) m out = StepTrue p m out
-
--- a line that is true of its command, and a run that goes on only by such
-abbrev pub TrueLine : Entry → Progress → Type 0
-TrueLine e s = T.TrueLine figure6 EntryTrue e s
-
-abbrev pub Told : Progress → Progress → Type 0
-Told s t = T.Told figure6 TrueLine s t
 
 -- a number that stands for a point of the list is that point's
 found : (k : ℕ) (ys : List Point) → some (λ y. eqb k (line_number y)) ys ≡ true → line_number (find k ys) ≡ k
@@ -141,10 +116,6 @@ truthful = record {
   kept = λ e s h z. command_shaped s.memory (process_of e) (order_of e) (value_of s.memory.bench.w e) h;
   true_of = λ e s h z. entry_true s.memory h e z;
 }
-
--- the run of a text that says `a`, after its set-up of the lent memory m
-abbrev pub trace_begun : Memory → Said → List ℕ → Progress
-trace_begun m a listing = begun figure6 true (set_up m a.n a.w (replicate a.w a.initial)).1 listing 0
 
 -- Every line of a trace is true of its own command: over the entries of any text, after any accepted set-up of any
 -- lent memory.

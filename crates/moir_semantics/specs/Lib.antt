@@ -1,2 +1,3 @@
 pub mod TextRun
 pub mod TextOrder
+pub mod TrueLines

@@ -9,8 +9,8 @@ use Rattle.verdicts.specs.declared.Fault.TheVariants as fault
 use Rattle.verdicts.specs.declared.Shown.{Shown}
 use Rattle.verdicts.specs.Log.{Entry}
 use Rattle.verdicts.specs.Verdicts.{judged, VerdictSays}
+use Rattle.verdicts.specs.ToldAnswers.{Unlike}
 use Rattle.verdicts.specs.Reasons.{judged_with_reason, verdict_of, reason_for, reason_of_no, numbered_in_order}
-use Rattle.reasons.proofs.ToldAnswers.{Unlike}
 use Rattle.histories.specs.Promises.{EveryHistoryEarnsYes, YesIsRight}
 use Rattle.station_histories.specs.StationPromises.{EveryHistoryEarnsYesByRecord}
 use Rattle.model.specs.Machine.{Memory}

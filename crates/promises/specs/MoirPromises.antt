@@ -17,7 +17,7 @@ use Rattle.notation.specs.Grammar.{Said}
 use Rattle.text_runs.specs.TextRun.{carry_all}
 use Rattle.moir_semantics.specs.TextRun.{figure6}
 use Rattle.moir_semantics.specs.TextOrder.{TextOrder}
-use Rattle.moir_semantics.proofs.TraceTruth.{Told, trace_begun}
+use Rattle.moir_semantics.specs.TrueLines.{Told, trace_begun}
 use Rattle.promises.specs.Promises.{some_cause}
 
 -- PROMISE 1 of its command and its set-up. "Rows 1 to 9 serve this bench".

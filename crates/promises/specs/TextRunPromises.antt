@@ -16,7 +16,7 @@ use Rattle.text_runs.specs.TextRun.{room_needed, longest_text, run_with}
 use Rattle.text_runs.specs.RunCommands.{Carries}
 use Rattle.semantics.specs.TextRun.{figure2, Ended, carry_all}
 use Rattle.semantics_laws.specs.Finishing.{UntilAnswered, FinishBounded}
-use Rattle.semantics_laws.proofs.TraceTruth.{Told, trace_begun}
+use Rattle.semantics_laws.specs.TrueLines.{Told, trace_begun}
 use Rattle.station_run.specs.TextPromises.{Record0Alone, TextSetUp}
 use Rattle.station_texts.specs.EntryByEntry.{EntryByEntry}
 use Rattle.marking.specs.Marks.{MarksMeanApart, TraceShowsLine, MarkedChangePlaces}

@@ -18,9 +18,9 @@ use Rattle.verdicts.specs.declared.Shown.TheVariants.{Value, Truth}
 use Rattle.verdicts.specs.Log.{Entry}
 use Rattle.verdicts.specs.Verdicts.{kind_of, answer_of, answers_of, kind_known, apart, differ, inside, truth_told, answers_alike, same_answers, ll_before}
 use Rattle.verdicts.specs.Reasons.{one_at_fault, two_at_fault, at_one, at_two, or_else, reason_of_no}
-use Rattle.verdicts.specs.Reasons.{Numbered, numbered, insert_numbered, sort_numbered, numbered_in_order, tells_alike, feed_entry}
+use Rattle.verdicts.specs.Reasons.{Numbered, timed_of_numbered, numbered, insert_numbered, sort_numbered, numbered_in_order, tells_alike, feed_entry}
 use Rattle.verdicts.specs.Reasons.{Standing, in_value, standing_after, words_shown, object_answers, words_at, answer_told, not_alike}
-use Rattle.verdicts.proofs.ReasonLaws.{timed_of_numbered}
+use Rattle.verdicts.specs.ToldAnswers.{Unlike}
 
 not_both : true ≡ false → ⊥
 not_both e = let z : ◌≡◌ {A = ℕ} 1 0 = ap (λ b. cond b 1 0) e in omega arith
@@ -53,19 +53,6 @@ module _ (value : List ℕ) (all : List Entry) where
 
   abbrev In : Numbered → Type 0
   In c = words_at c.index all ≡ c.entry.words
-
-  -- the calls cs, fed to o: those before one of them are answered alike, and that one otherwise, as the reason says
-  pub record Unlike (o : Object) (cs : List Numbered) (k : ℕ) (shown : Shown) : Type 0 where
-    pub before : List Numbered
-    pub call : Numbered
-    pub after : List Numbered
-    pub parts : cs ≡ before ++ (call ∷ after)
-    pub index : k ≡ call.index
-    pub earlier : List Answer
-    pub later : List Answer
-    pub answers : serve o (map fed (map timed_of_numbered cs)) ≡ earlier ++ (answer_told value all call.entry shown ∷ later)
-    pub alike : same_answers earlier (answers_of (map timed_of_numbered before)) ≡ true
-    pub unlike : (truth_told call.entry && answers_alike (answer_told value all call.entry shown) (answer_of call.entry)) ≡ false
 
   module _ (c : Numbered) (o : Object) (s : Standing) (st : Stands o s) where
     abbrev e : Entry
@@ -103,7 +90,7 @@ module _ (value : List ℕ) (all : List Entry) where
         go false true h = wrote (o.link e.process)
         go false false h = st
 
-    found : (cs : List Numbered) → tells_alike e o ≡ false → Unlike o (c ∷ cs) c.index shown
+    found : (cs : List Numbered) → tells_alike e o ≡ false → Unlike value all o (c ∷ cs) c.index shown
     found cs z = record {
       before = [];
       call = c;
@@ -117,7 +104,7 @@ module _ (value : List ℕ) (all : List Entry) where
       unlike = ap (λ a. truth_told e && answers_alike a (answer_of e)) (sym told_is) ∙ z;
     }
 
-    passed : (cs : List Numbered) (k : ℕ) (t : Shown) → tells_alike e o ≡ true → Unlike (feed_entry e o) cs k t → Unlike o (c ∷ cs) k t
+    passed : (cs : List Numbered) (k : ℕ) (t : Shown) → tells_alike e o ≡ true → Unlike value all (feed_entry e o) cs k t → Unlike value all o (c ∷ cs) k t
     passed cs k t z u = record {
       before = c ∷ u.before;
       call = u.call;
@@ -131,17 +118,17 @@ module _ (value : List ℕ) (all : List Entry) where
       unlike = u.unlike;
     }
 
-  unlike_in : (o : Object) (s : Standing) (cs : List Numbered) → Stands o s → All In cs → (k : ℕ) (t : Shown) → not_alike o s cs ≡ Some (Answer·fault k t) → Unlike o cs k t
+  unlike_in : (o : Object) (s : Standing) (cs : List Numbered) → Stands o s → All In cs → (k : ℕ) (t : Shown) → not_alike o s cs ≡ Some (Answer·fault k t) → Unlike value all o cs k t
   unlike_in o s [] st i k t h = absurd (not_both (sym (ap is_some h)))
   unlike_in o s (c ∷ cs) st i k t h =
       go (tells_alike c.entry o) refl h (unlike_in (feed_entry c.entry o) (standing_after c o s) cs (stands_after c o s st i.0) i.1 k t)
     where
       go : (b : Bool) → tells_alike c.entry o ≡ b
           → cond b (not_alike (feed_entry c.entry o) (standing_after c o s) cs) (Some (object_answers c o s)) ≡ Some (Answer·fault k t)
-          → (not_alike (feed_entry c.entry o) (standing_after c o s) cs ≡ Some (Answer·fault k t) → Unlike (feed_entry c.entry o) cs k t)
-          → Unlike o (c ∷ cs) k t
+          → (not_alike (feed_entry c.entry o) (standing_after c o s) cs ≡ Some (Answer·fault k t) → Unlike value all (feed_entry c.entry o) cs k t)
+          → Unlike value all o (c ∷ cs) k t
       go true z h u = passed c o s st cs k t z (u h)
-      go false z h u = subst (λ j. Unlike o (c ∷ cs) j t) (ap index_told h) (subst (Unlike o (c ∷ cs) c.index) (ap shown_told h) (found c o s st cs z))
+      go false z h u = subst (λ j. Unlike value all o (c ∷ cs) j t) (ap index_told h) (subst (Unlike value all o (c ∷ cs) c.index) (ap shown_told h) (found c o s st cs z))
 
   -- sorted or not, an entry goes with its index
   insert_in : (c : Numbered) (ds : List Numbered) → In c → All In ds → All In (insert_numbered c ds)

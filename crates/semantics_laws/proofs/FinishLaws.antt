@@ -20,7 +20,8 @@ use Rattle.semantics_laws.proofs.AcceptedSteps.{unrefused, stepped_busy}
 use Rattle.semantics_laws.proofs.OpenCalls.{Open, open_in, open_fewer, busy_open, reached_n, one_step_more}
 use Rattle.text_runs.proofs.UntilAnswered as R
 use Rattle.text_runs.proofs.UntilAnswered.{busy_after}
-use Rattle.text_runs.proofs.SingleEntries.{outcome, Made, single_made, single_entries}
+use Rattle.text_runs.specs.TrueTraces.{outcome}
+use Rattle.text_runs.proofs.SingleEntries.{Made, single_made, single_entries}
 
 -- the run after an accepted step of p
 abbrev next : ℕ → Progress → Progress

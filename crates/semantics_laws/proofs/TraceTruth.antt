@@ -24,41 +24,14 @@ use Rattle.notation.specs.Grammar.{Said}
 use Rattle.doings.specs.declared.Item.{Item}
 use Rattle.doings.specs.declared.Item.TheVariants.{X, Bank, Help, Half}
 use Rattle.doings.specs.Items.{InBench, half_holding, item_at}
-use Rattle.access.specs.Accesses.{item_of}
-use Rattle.access.specs.Truth.{TellsTruth, DependsOn}
 use Rattle.access.proofs.Theorems.{trace_is_true, step_depends}
 use Rattle.semantics.specs.Reached.{Reached}
 use Rattle.text_runs.specs.TextRun.{process_of, order_of, value_of}
 use Rattle.text_runs.proofs.ToldLaws as T
-use Rattle.semantics.specs.TextRun.{figure2, Progress, carry_all, begun}
+use Rattle.semantics.specs.TextRun.{figure2, carry_all}
 use Rattle.semantics.proofs.ReachedLaws.{reached_set_up, reached_command}
+use Rattle.semantics_laws.specs.TrueLines.{StepTrue, StartTrue, EntryTrue, Told, trace_begun}
 use Rattle.semantics_laws.proofs.AcceptedSteps.{unrefused, left_by, stepped, at_work}
-
--- What the trace line of an entry says of its command, which found the memory m and left m'.
--- Of a step: README, "every access that led to them": the access shown tells the truth, in the sense of `TellsTruth`.
--- And the item shown is the one that the step depends on, in the sense of `DependsOn`.
-pub record StepTrue (p : ℕ) (m m' : Memory) : Type 0 where
-  pub tells : TellsTruth (record { 0 = p }) (figure2.shows m p) m.bench m.words m'.bench m'.words
-  pub depends : let q = record_at m.records (record { 0 = p }) in
-      DependsOn (point_of q.line) (record { 0 = p }) m.bench q m.words (item_of (figure2.shows m p).act)
-
--- Of a start: docs/TRACE.md, "a start touches nothing shared".
-abbrev pub StartTrue : Memory → Memory → Type 0
-StartTrue m m' = (i : Item) → InBench m.bench i → item_at i m'.bench m'.words ≡ item_at i m.bench m.words
-
-abbrev pub EntryTrue : Entry → Memory → Memory → Type 0
-EntryTrue (StartLl p) m m' = StartTrue m m'
-EntryTrue (StartVl p) m m' = StartTrue m m'
-EntryTrue (StartSc p k) m m' = StartTrue m m'
-EntryTrue (Step p) m m' = StepTrue p m m'
-EntryTrue (Finish p) m m' = StepTrue p m m'
-
--- a line that is true of its command, and a run that goes on only by such
-abbrev pub TrueLine : Entry → Progress → Type 0
-TrueLine e s = T.TrueLine figure2 (λ e m out. EntryTrue e m out.1) e s
-
-abbrev pub Told : Progress → Progress → Type 0
-Told s t = T.Told figure2 TrueLine s t
 
 -- an accepted step
 step_true : {m : Memory} → Reached m → (p : ℕ) → refusal m p order.Step [] ≡ 0 → StepTrue p m (obeyed m (record { 0 = p }) order.Step []).1
@@ -115,10 +88,6 @@ truthful = record {
   kept = λ e s r z. reached_command r (process_of e) (order_of e) (value_of s.memory.bench.w e);
   true_of = λ e s r z. entry_true r e z;
 }
-
--- the run of a text that says `a`, after its set-up of the lent memory m
-abbrev pub trace_begun : Memory → Said → List ℕ → Progress
-trace_begun m a listing = begun true (set_up m a.n a.w (replicate a.w a.initial)).1 listing 0
 
 -- Every line of a trace is true of its own command: over the entries of any text, after any accepted set-up of any
 -- lent memory.

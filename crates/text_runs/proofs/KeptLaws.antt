@@ -15,7 +15,7 @@ use Rattle.text_runs.specs.TextRun.{most_entries, room_needed, process_of, order
 use Rattle.text_runs.specs.TextRun.{Progress, stopped, replied, commanded, single, unanswered, steps, finish, carry, carry_all}
 use Rattle.text_runs.specs.StopPlaces.{stop_index}
 use Rattle.text_runs.specs.KeptEntries.{FarRefused}
-use Rattle.text_runs.proofs.SingleEntries.{outcome}
+use Rattle.text_runs.specs.TrueTraces.{outcome}
 
 -- what holds of both arms of a test, each where it is taken
 pub either : {A : Type 0} (P : A → Type 0) (t : Bool) {a b : A} → (t ≡ true → P a) → (t ≡ false → P b) → P (cond t a b)

@@ -13,8 +13,9 @@ use Rattle.text_runs.specs.Machines.{Machine}
 use Rattle.text_runs.specs.TextRun.{most_entries, process_of, order_of, value_of}
 use Rattle.text_runs.specs.TextRun.{Progress, trace_line, lines_of, counted, carry_all, begun, ended}
 use Rattle.text_runs.specs.RunCommands.{obeying, next, Accepted, answer_lines, Carries}
-use Rattle.text_runs.proofs.SingleEntries.{outcome, made_commanded}
-use Rattle.text_runs.proofs.ToldLaws.{Told, begins, writes, stops, Walk, walked}
+use Rattle.text_runs.specs.TrueTraces.{outcome, Told, begins, writes, stops}
+use Rattle.text_runs.proofs.SingleEntries.{made_commanded}
+use Rattle.text_runs.proofs.ToldLaws.{Walk, walked}
 
 -- an accepted entry, with fewer than 60,000 done
 record Done (M : Machine) (e : Entry) (t : Progress M) : Type 0 where

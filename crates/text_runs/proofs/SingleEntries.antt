@@ -8,32 +8,29 @@ use lib.ListN.{length}
 use borrow.Author.Tests.{eq-eqb, ne_eqb, leb-false}
 use Rattle.notation.specs.declared.Entry.{Entry}
 use Rattle.text_runs.specs.Machines.{Machine}
-use Rattle.text_runs.specs.TextRun.{most_entries, room_needed, process_of, order_of, value_of}
+use Rattle.text_runs.specs.TextRun.{most_entries, room_needed}
 use Rattle.text_runs.specs.TextRun.{Progress, stopped, lines_of, counted, commanded, single}
+use Rattle.text_runs.specs.TrueTraces.{outcome}
 
 module _ (M : Machine) where
-  -- the command of an entry, on a run in progress: its reply and the memory after it
-  abbrev pub outcome : Entry → Progress M → M.Reply × M.Memory
-  outcome e s = M.command s.memory (process_of e) (order_of e) (value_of (M.width s.memory) e)
-
   -- accepted, with room for one entry more
   pub record Made (e : Entry) (s : Progress M) : Type 0 where
-    pub accepted : M.number_of (outcome e s).0 ≡ 0
+    pub accepted : M.number_of (outcome M e s).0 ≡ 0
     pub fewer : s.entries < most_entries
-    pub is : single M e s ≡ counted M s (outcome e s).1 (lines_of M s e (outcome e s))
+    pub is : single M e s ≡ counted M s (outcome M e s).1 (lines_of M s e (outcome M e s))
 
-  pub made_commanded : (e : Entry) (s : Progress M) → M.number_of (outcome e s).0 ≡ 0 → commanded M e s ≡ counted M s (outcome e s).1 (lines_of M s e (outcome e s))
-  made_commanded e s z = simp (eq-eqb (M.number_of (outcome e s).0) 0 z)
+  pub made_commanded : (e : Entry) (s : Progress M) → M.number_of (outcome M e s).0 ≡ 0 → commanded M e s ≡ counted M s (outcome M e s).1 (lines_of M s e (outcome M e s))
+  made_commanded e s z = simp (eq-eqb (M.number_of (outcome M e s).0) 0 z)
 
   -- a command whose run goes on was accepted
-  command_accepted : (e : Entry) (s : Progress M) → (commanded M e s).stop ≡ 0 → M.number_of (outcome e s).0 ≡ 0
-  command_accepted e s g = by (M.number_of (outcome e s).0) refl
+  command_accepted : (e : Entry) (s : Progress M) → (commanded M e s).stop ≡ 0 → M.number_of (outcome M e s).0 ≡ 0
+  command_accepted e s g = by (M.number_of (outcome M e s).0) refl
     where
-      by : (k : ℕ) → M.number_of (outcome e s).0 ≡ k → k ≡ 0
+      by : (k : ℕ) → M.number_of (outcome M e s).0 ≡ k → k ≡ 0
       by zero z = refl
       by (suc k) z =
-          let halted : commanded M e s ≡ stopped M (M.number_of (outcome e s).0) s = simp (ne_eqb (M.number_of (outcome e s).0) 0 (λ y. omega (arith, y, z))) in
-          let stop : M.number_of (outcome e s).0 ≡ 0 = sym (ap (λ (t : Progress M). t.stop) halted) ∙ g in
+          let halted : commanded M e s ≡ stopped M (M.number_of (outcome M e s).0) s = simp (ne_eqb (M.number_of (outcome M e s).0) 0 (λ y. omega (arith, y, z))) in
+          let stop : M.number_of (outcome M e s).0 ≡ 0 = sym (ap (λ (t : Progress M). t.stop) halted) ∙ g in
           omega (arith, stop, z)
 
   -- a run that goes on after it went on before it
@@ -48,10 +45,10 @@ module _ (M : Machine) where
   -- it makes one entry or none
   pub single_entries : (e : Entry) (s : Progress M) → (single M e s).entries ≤ s.entries + 1
   unfolding single
-  single_entries e s = by (eqb s.stop 0) (leb most_entries s.entries) (ltb (length s.listing - s.written) (room_needed s.traced)) (eqb (M.number_of (outcome e s).0) 0)
+  single_entries e s = by (eqb s.stop 0) (leb most_entries s.entries) (ltb (length s.listing - s.written) (room_needed s.traced)) (eqb (M.number_of (outcome M e s).0) 0)
     where
       by : (a b c d : Bool)
-          → (cond a (cond b (stopped M 12 s) (cond c (stopped M 14 s) (cond d (counted M s (outcome e s).1 (lines_of M s e (outcome e s))) (stopped M (M.number_of (outcome e s).0) s)))) s).entries
+          → (cond a (cond b (stopped M 12 s) (cond c (stopped M 14 s) (cond d (counted M s (outcome M e s).1 (lines_of M s e (outcome M e s))) (stopped M (M.number_of (outcome M e s).0) s)))) s).entries
           ≤ s.entries + 1
       by false b c d = omega arith
       by true true c d = omega arith

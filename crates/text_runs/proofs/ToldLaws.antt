@@ -14,13 +14,8 @@ use Rattle.notation.specs.declared.Entry.TheVariants.{StartLl, StartVl, StartSc,
 use Rattle.text_runs.specs.Machines.{Machine}
 use Rattle.text_runs.specs.TextRun.{most_entries, room_needed, process_of}
 use Rattle.text_runs.specs.TextRun.{Progress, stopped, trace_line, lines_of, counted, commanded, single, unanswered, steps, carry, carry_all, begun}
-use Rattle.text_runs.proofs.SingleEntries.{outcome, made_commanded}
-
--- A run goes from s on only by entries of which `Line` is so, and may stop.
-pub data Told (M : Machine) (Line : Entry → Progress M → Type 0) (s : Progress M) : Progress M → Type 0 where
-  begins : Told M Line s s
-  writes : {t : Progress M} → Told M Line s t → (e : Entry) → Line e t → Told M Line s (commanded M e t)
-  stops : {t : Progress M} → Told M Line s t → (k : ℕ) → Told M Line s (stopped M k t)
+use Rattle.text_runs.specs.TrueTraces.{outcome, TrueLine, Told, begins, writes, stops}
+use Rattle.text_runs.proofs.SingleEntries.{made_commanded}
 
 -- What a walk along a run asks: `Holds` is so of a run that is stopped, and of one after an accepted entry; and of such an
 -- entry, with fewer than 60,000 done, `Line` is so.
@@ -81,16 +76,6 @@ module _ (M : Machine) {Holds : Progress M → Type 0} {Line : Entry → Progres
   -- the entries of any text
   pub walked : (es : List Entry) → Holds s → Told M Line s (carry_all M es s)
   walked es h = let first : Goes s = record { told = begins; holds = h } in (all_told es first).told
-
--- An accepted entry ("one line for each command"). What it writes is its trace line, made of the memory that its
--- command found, and the line of its answer, if any; and the trace line is true of that memory, the reply and the
--- memory that the command left.
-pub record TrueLine (M : Machine) (True : Entry → M.Memory → M.Reply × M.Memory → Type 0) (e : Entry) (s : Progress M) : Type 0 where
-  pub accepted : M.number_of (outcome M e s).0 ≡ 0
-  pub written : (commanded M e s).listing
-      ≡ sets s.listing s.written (trace_line M (s.entries + 1) s.memory e (outcome M e s).0 ++ M.line_of (outcome M e s).1 (process_of e) (outcome M e s).0)
-  pub left : (commanded M e s).memory ≡ (outcome M e s).1
-  pub truth : True e s.memory (outcome M e s)
 
 -- What makes every line true: `Inv` is kept by an accepted command of an entry, and `True` is so of such a command on a
 -- memory with it.

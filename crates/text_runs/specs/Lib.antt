@@ -6,3 +6,4 @@ pub mod KeptEntries
 pub mod Parts
 pub mod Runs
 pub mod Returned
+pub mod TrueTraces

@@ -17,7 +17,7 @@ use Rattle.verdicts.specs.declared.Fault.{Fault}
 use Rattle.verdicts.specs.Log.{Entry, entries}
 use Rattle.verdicts.specs.Verdicts.{timed_of, each_two, kind_known, apart, differ, inside, truth_told, same_answers, in_order, answers_of, served_alike, ll_before}
 use Rattle.verdicts.specs.Verdicts.{earns_yes, first_cause, log_checked, said_of, judged}
-use Rattle.verdicts.specs.Reasons.{first_with, one_at_fault, two_at_fault, Numbered, numbered, insert_numbered, sort_numbered, numbered_in_order}
+use Rattle.verdicts.specs.Reasons.{timed_of_numbered, first_with, one_at_fault, two_at_fault, Numbered, numbered, insert_numbered, sort_numbered, numbered_in_order}
 use Rattle.verdicts.specs.Reasons.{tells_alike, feed_entry, standing_after, Standing, in_value, object_answers, not_alike}
 use Rattle.verdicts.specs.Reasons.{at_one, at_two, reasons, first_reason, reason_of_no, cause_of, log_faults, log_refused, explained, judged_with_reason}
 use Rattle.verdicts.specs.Reasons.{verdict_of, reason_given, reason_for}
@@ -84,10 +84,6 @@ one_told f (Some k) = refl
 two_told : (f : ℕ → ℕ → Fault) (r : Option (ℕ × ℕ)) → none (at_two f r) ≡ none r
 two_told f None = refl
 two_told f (Some ks) = refl
-
--- the calls in moment order, with and without their index
-abbrev pub timed_of_numbered : Numbered → Timed
-timed_of_numbered c = timed_of c.entry
 
 insert_is : (c : Numbered) (ds : List Numbered) → map timed_of_numbered (insert_numbered c ds) ≡ insert (timed_of_numbered c) (map timed_of_numbered ds)
 insert_is c [] = refl

@@ -1,3 +1,4 @@
 pub mod Log
 pub mod Verdicts
 pub mod Reasons
+pub mod ToldAnswers

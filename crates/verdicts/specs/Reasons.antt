@@ -3,6 +3,7 @@ use Rattle.std.specs.Prelude.{ℕ, zero, suc, ◌+◌, ◌/◌, List, [], ◌∷
 use Rattle.std.specs.Prelude.{Option, Some, None, Result, Ok, Err}
 use Rattle.llsc.specs.Answers.{Answer, ll_words, sc_truth, vl_truth}
 use Rattle.llsc.specs.Object.{Object, fresh, tell, feed}
+use Rattle.llsc.specs.Linearizable.{Timed}
 use Rattle.llsc.specs.Rows.{some, row1, row2}
 use Rattle.llsc.specs.declared.refusals.Refusal.{Refusal}
 use Rattle.llsc.specs.declared.refusals.Refusal.TheVariants.{NOutOfRange as NOutOfRange·row, WOutOfRange as WOutOfRange·row}
@@ -21,7 +22,7 @@ use Rattle.verdicts.specs.declared.LogRefusal.TheVariants.{NOutOfRange, WOutOfRa
 use Rattle.verdicts.specs.declared.Judgement.{Judgement}
 use Rattle.verdicts.specs.declared.Judgement.TheVariants.{Refused, Yes, No}
 use Rattle.verdicts.specs.Log.{Entry, width, entries, begun}
-use Rattle.verdicts.specs.Verdicts.{kind_of, answer_of, kind_known, apart, differ, inside, truth_told, answers_alike, ll_before}
+use Rattle.verdicts.specs.Verdicts.{timed_of, kind_of, answer_of, kind_known, apart, differ, inside, truth_told, answers_alike, ll_before}
 use Rattle.verdicts.specs.Verdicts.{row4log, row8log, row16, row17, first_cause}
 
 -- how many entries stand before the first that passes a test: the index of that entry
@@ -59,6 +60,10 @@ sort_numbered (c ∷ cs) sorted = sort_numbered cs (insert_numbered c sorted)
 
 abbrev pub numbered_in_order : List Entry → List Numbered
 numbered_in_order es = sort_numbered (numbered 0 es) []
+
+-- a call as the object is fed it
+abbrev pub timed_of_numbered : Numbered → Timed
+timed_of_numbered c = timed_of c.entry
 
 -- the object's answer to an entry's call is the entry's: a truth that is neither 0 nor 1 is like none
 abbrev pub tells_alike : Entry → Object → Bool
