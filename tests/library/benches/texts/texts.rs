@@ -31,11 +31,11 @@ pub fn short_texts() -> Vec<Text> {
     texts
 }
 
-/// Process 0 makes an LL, an SC and a VL, again and again: so many of the
-/// starts and steps of which they are made.
+/// Process 0 makes an LL and a VL, again and again: so many of the starts and
+/// steps of which they are made.
 fn single_entries(w: usize, entries: usize) -> String {
     let call = |start, steps| [vec![start], vec!["0."; steps]].concat();
-    let calls = [call("0l", 4 * w + 6), call("0s7", 2 * w + 4), call("0v", 1)].concat();
+    let calls = [call("0l", 4 * w + 6), call("0v", 1)].concat();
     let taken: Vec<&str> = calls.into_iter().cycle().take(entries).collect();
     taken.join(" ")
 }
