@@ -5,7 +5,7 @@ use mathlib.Core.List.{List, map}
 use Prim.Native.Nat.{ℕ, ◌≤◌, ◌<◌}
 use lib.Dec.{eqb}
 use lib.ListN.{length, take, replicate}
-use borrow.Author.Tests.{eq-eqb, ne_eqb, lt-ltb, le-ltb}
+use borrow.Author.Tests.{eq-eqb, lt-ltb, le-ltb}
 use Rattle.notation.specs.declared.Entry.{Entry}
 use Rattle.notation.specs.Grammar.{Text, bytes, says, deepest}
 use Rattle.notation.specs.Readers.{Headed, NotHeaded}
@@ -23,13 +23,6 @@ use Rattle.text_runs.specs.TextRun.{Progress, room_needed, longest_text, carry_a
 use Rattle.text_runs.specs.KeptEntries.{entries_in, refused_with, started_with, says_after}
 use Rattle.text_runs.proofs.KeptLaws.{kept_run}
 use Rattle.text_runs.specs.Whole.{FarRefused}
-
--- a set-up that is refused, and one that is not
-pub not_begun : {A B : Type 0} (k : ℕ) (F : B → A) (x m : B) (e : A) → (k ≡ 0 → ⊥) → cond (eqb k 0) (F (cond (eqb k 0) x m)) e ≡ e
-not_begun k F x m e n = simp (ne_eqb k 0 n)
-
-pub is_begun : {A B : Type 0} (k : ℕ) (F : B → A) (x m : B) (e : A) → k ≡ 0 → cond (eqb k 0) (F (cond (eqb k 0) x m)) e ≡ F x
-is_begun k F x m e z = simp (eq-eqb k 0 z)
 
 -- a text with a fault
 module _ (M : Machine) (t : Bool) (s : List ℕ) (n w v items : ℕ) (m : M.Memory) (list : List ℕ) where
