@@ -175,5 +175,6 @@ unfolding access_of step_at
 step_depends {b} {q} {p} {ws} s y ne b₂ ws₂ s₂ a =
     let l₂ = one_record b₂.n in
     let one_item = one_at y ne b.n b.w p (own_in (one_record b.n) b.w p q ws) in
-    let again = subst (Follows l₂ p b₂ ws₂ (stepped_in l₂ y p b₂ q ws₂)) (sym (same_doing s s₂ (λ i. item_of (access_of y p b q ws).act ≡ i) y a)) (step_follows (stands s₂) (ranged s₂) y) in
+    let same = same_doing s s₂ (λ i. item_of (access_of y p b q ws).act ≡ i) y a in
+    let again = subst (Follows l₂ p b₂ ws₂ (stepped_in l₂ y p b₂ q ws₂)) (sym same) (step_follows (stands s₂) (ranged s₂) y) in
     alike_left s s₂ (paper_line y) (doing_now y p b q ws) one_item (step_follows (stands s) (ranged s) y) again a

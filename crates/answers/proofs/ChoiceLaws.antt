@@ -8,13 +8,7 @@ pub either {ℓ} : {A : Type ℓ} (P : A → Type 0) (t : Bool) (a b : A)
 either P true a b f g = f refl
 either P false a b f g = g refl
 
--- what is read on has a property where both ways have it;
-pub either_read : {A B : Type 0} (P : Result B (List ℕ) → Type 0) (r : Result A (List ℕ)) (f : A → Result B (List ℕ))
-    → ((a : A) → r ≡ Ok a → P (f a)) → ((rest : List ℕ) → r ≡ Err rest → P (Err rest)) → P (read_on r f)
-either_read P (Ok a) f h k = h a refl
-either_read P (Err rest) f h k = k rest refl
-
--- and of a value that is read, it is enough that the value before has its own.
+-- of a value that is read on, it is enough that the value before has its own.
 pub when_read : {A B : Type 0} (Q : A → Type 0) (R : B → Type 0) (r : Result A (List ℕ)) (f : A → Result B (List ℕ))
     → IfOk r Q → ((a : A) → Q a → IfOk (f a) R) → IfOk (read_on r f) R
 when_read Q R (Ok a) f h k = k a h

@@ -14,12 +14,6 @@ use Rattle.answers.specs.Shape.{largest}
 use Rattle.std.specs.Prelude.{Ok, Err}
 use Rattle.answers.specs.Readers.{first, is_digit, digits_after, number_in, spaced_number, words_in, expected}
 
-pub below_digits : (c : ℕ) → c < 48 → is_digit c ≡ false
-below_digits c h = ap (λ (t : Bool). t && leb c 57) (lt-leb 48 c h)
-
-pub above_digits : (c : ℕ) → 57 < c → is_digit c ≡ false
-above_digits c h = simp (le-leb 48 c (omega arith), lt-leb c 57 h)
-
 pub a_digit : (c : ℕ) → 48 ≤ c → c ≤ 57 → is_digit c ≡ true
 a_digit c h k = simp (le-leb 48 c h, le-leb c 57 k)
 

@@ -103,13 +103,6 @@ pub record Going (n w : ℕ) (l₀ : List Sum) (bs : List ℕ) (l : List Sum) (r
   pub within : length rest ≤ length bs
   pub below : AllBelow n (72057594037927935 + (length bs - length rest) * largest) l
 
-pub going_start : (n w : ℕ) (l : List Sum) (bs : List ℕ) → Readable n l bs → Going n w l bs l bs
-going_start n w l bs h = record {
-  same = refl;
-  within = omega arith;
-  below = weaker n 72057594037927935 (72057594037927935 + (length bs - length bs) * largest) l (omega arith) h.below;
-}
-
 module _ {n w : ℕ} {l₀ : List Sum} {bs : List ℕ} {l : List Sum} {rest : List ℕ}
     (h : Readable n l₀ bs) (g : Going n w l₀ bs l rest) where
   -- where no digit stands, the last line is read

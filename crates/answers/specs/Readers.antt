@@ -1,7 +1,8 @@
 -- A listing read part by part (CR 2, row 18: "answer lines and a last line in 01's shape"). Each part says what it has
 -- read and the bytes after it, or the bytes from the first wrong byte on: that byte's place is a part of the reply. What is
 -- read to its end is exactly a `Shaped` listing, and gains what its answers add: proofs/Theorems.
-use Rattle.std.specs.Prelude.{ℕ, zero, suc, ◌+◌, ◌-◌, ◌*◌, ◌≤◌, ◌≡◌, List, [], ◌∷◌, Bool, false, ◌&&◌, cond, eqb, ltb, leb, length, get_or, drop, Option, Some, None, Result, Ok, Err}
+use Rattle.std.specs.Prelude.{ℕ, zero, suc, ◌+◌, ◌-◌, ◌*◌, ◌≤◌, ◌≡◌, List, [], ◌∷◌, length, get_or, drop}
+use Rattle.std.specs.Prelude.{Bool, false, ◌&&◌, cond, eqb, ltb, leb, Option, Some, None, Result, Ok, Err}
 use Rattle.std.specs.Borrow.{Bor}
 use Rattle.std.specs.Result.{IsErrAnd}
 use Rattle.listing.specs.Quoted.{quoted, byte}

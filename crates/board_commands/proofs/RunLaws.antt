@@ -18,7 +18,8 @@ use Rattle.board_commands.specs.declared.RunLeft.{RunLeft}
 use Rattle.board_commands.specs.ByValue.{decided, left_with, processes_after, after_one, records_run}
 
 -- what is left, and what is still to be done, is the whole
-pub record Running (rs : List (List ℕ)) (s₀ : Station) (all₀ : List StationProcess) (len : ℕ) (ws₀ : List ℕ) (s : Station) (all : List StationProcess) (ws : List ℕ) (done : ℕ) : Type 0 where
+pub record Running (rs : List (List ℕ)) (s₀ : Station) (all₀ : List StationProcess) (len : ℕ) (ws₀ : List ℕ)
+    (s : Station) (all : List StationProcess) (ws : List ℕ) (done : ℕ) : Type 0 where
   pub long : length ws ≡ length ws₀
   pub same : records_run 0 (read rs) s₀ all₀ len ws₀ ≡ records_run done (read (drop done rs)) s all len ws
 

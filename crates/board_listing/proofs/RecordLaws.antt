@@ -18,7 +18,7 @@ use Rattle.notation.specs.Grammar.{largest}
 use Rattle.boards.specs.Files.{BoardRecord}
 use Rattle.text_runs.specs.TextRun.{most_entries, room_needed, process_of, order_of, value_of}
 use Rattle.text_runs.specs.TextRun as TR
-use Rattle.semantics.specs.TextRun.{figure2, Progress, stopped, lines_of, trace_line, counted, commanded, single, carry}
+use Rattle.semantics.specs.TextRun.{figure2, Progress, stopped, lines_of, trace_line, counted, commanded, single}
 use Rattle.text_runs.specs.TrueTraces.{outcome}
 use Rattle.entry.specs.RunState.{RunState, progress, Ready, Small, answer_line}
 use Rattle.entry.proofs.WordLaws.{Below}
@@ -27,18 +27,6 @@ use Rattle.entry.proofs.DecisionLaws.{done}
 use Rattle.entry.proofs.SingleLaws.{value_every, refused_becomes, answered_becomes}
 use Rattle.board_listing.specs.BoardListing.{entry_of}
 use Rattle.board_listing.specs.ListedRun.{recounted, Between}
-
--- the entry of a record is one command
-either : (P : Entry → Type 0) (t : Bool) {a b : Entry} → P a → P b → P (cond t a b)
-either P true x y = x
-either P false x y = y
-
-pub one_command : (r : BoardRecord) (s : Progress) → carry (entry_of r) s ≡ single (entry_of r) s
-unfolding TR.carry
-one_command r s =
-    let P : Entry → Type 0 = λ e. carry e s ≡ single e s in
-    either P (eqb r.order 0) {a = Step r.process} refl
-    (either P (eqb r.order 1) {a = StartLl r.process} refl (either P (eqb r.order 2) {a = StartSc r.process _} {b = StartVl r.process} refl refl))
 
 module _ (e : Entry) (s : Progress) (z : s.stop ≡ 0) (none : s.entries ≡ 0) (listed : s.traced ≡ false) where
   abbrev tight : Bool

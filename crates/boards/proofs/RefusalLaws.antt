@@ -94,7 +94,8 @@ module _ (bs : List ℕ) where
   unfolding good_trailer
   ends_elsewhere n = grind (arith, common_steps)
 
-  pub is_good : 12 ≤ length bs → length bs ≤ largest → ends_with nat_eq bs (84 ∷ 82 ∷ 65 ∷ 76 ∷ []) ≡ true → offset bs + 12 * count bs + 12 ≡ length bs → good_trailer bs ≡ true
+  pub is_good : 12 ≤ length bs → length bs ≤ largest → ends_with nat_eq bs (84 ∷ 82 ∷ 65 ∷ 76 ∷ []) ≡ true
+      → offset bs + 12 * count bs + 12 ≡ length bs → good_trailer bs ≡ true
   unfolding good_trailer
   is_good h k e f =
       ap₂ ◌&&◌ (le-leb 12 (length bs) h) (ap₂ ◌&&◌ (le-leb (length bs) largest k) (ap₂ ◌&&◌ (sym (marks_are h) ∙ e) (eq-eqb (offset bs + 12 * count bs + 12) (length bs) f)))

@@ -93,7 +93,8 @@ same_words_lem s s₂ c (LlAnswered k) e = ap (λ (o : Own StationProcess). answ
 same_words_lem s s₂ c (ScAnswered t k) e = refl
 same_words_lem s s₂ c (VlAnswered t k) e = refl
 
-pub same_saying : (s s₂ : StationMemory) (c : StationOrder) → reply_to s c ≡ reply_to s₂ c → own_of (leaves s c) (number_of c) ≡ own_of (leaves s₂ c) (number_of c) → said_to s c ≡ said_to s₂ c
+pub same_saying : (s s₂ : StationMemory) (c : StationOrder) → reply_to s c ≡ reply_to s₂ c
+    → own_of (leaves s c) (number_of c) ≡ own_of (leaves s₂ c) (number_of c) → said_to s c ≡ said_to s₂ c
 same_saying s s₂ c e f = ap (station_says (leaves s c) c.process) e ∙ same_words_lem (leaves s c) (leaves s₂ c) c (reply_to s₂ c) f
 
 -- the same doing

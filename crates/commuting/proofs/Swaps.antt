@@ -21,7 +21,7 @@ use Rattle.doings.proofs.Looks.{look_unseen, looks_swap, apart_sym}
 use Rattle.commuting.specs.Parts.{StationItem, item_of, put_item, own_of, put_own}
 use Rattle.commuting.specs.StationDoings.{shared_after, outcome_of, effect_on}
 use Rattle.commuting.proofs.StationParts.{Sized, Present, present_named, same_station_item, item_put, item_other, item_again, item_sized, items_swap}
-use Rattle.commuting.proofs.StationOwns.{item_own, own_item, item_own_swap, own_other, owns_swap}
+use Rattle.commuting.proofs.StationOwns.{item_own, own_item, item_own_swap, owns_swap}
 
 -- the item of a doing is there, and can hold what p's act leaves in it
 abbrev pub PresentT : StationMemory → Touching StationItem StationProcess → Type 0
@@ -171,14 +171,8 @@ module _ (s : StationMemory) (z : Sized s) (p q : ProcessNumber) (ne : q.0 ≢ p
   below_p : p.0 < m.n
   below_p = omega (arith, hp, shared_n s z t p)
 
-  below_q : q.0 < m.n
-  below_q = omega (arith, hq, shared_n s z t p)
-
   pub same_outcome : outcome_of u q (effect_on t p s).1 ≡ outcome_of u q s
   same_outcome = outcome_put m (shared_sized s z t p) p below_p o fits u q (present_shared s z t u p ku) ∙ outcome_shared s z p q ne t u kt ku xt a
-
-  pub same_own : own_of (effect_on t p s).1 q ≡ own_of s q
-  same_own = own_other m (shared_sized s z t p) p below_p o fits q below_q ne ∙ shared_own s z t p q hq kt
 
   pub both : (effect_on u q (effect_on t p s).1).1 ≡ put_own q (outcome_of u q s).1 (put_own p o (shared_after u q m))
   both =

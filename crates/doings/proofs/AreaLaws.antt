@@ -120,7 +120,8 @@ module _ {n rows : ℕ} {l : Layout} (laid : Laid n rows l) (w : ℕ) where
     pub areas_swap : (g : Own P) → Areas w g → put_areas l w q g (put_areas l w p o ws) ≡ put_areas l w p o (put_areas l w q g ws)
     areas_swap g y =
         let r = l.returns + p.0 in let s = l.offers + p.0 in let t = l.returns + q.0 in let u = l.offers + q.0 in
-        let swap : (k m : ℕ) (us vs xs : List ℕ) → k ≢ m → length us ≡ w → length vs ≡ w → sets (sets xs (k * w + 0) us) (m * w + 0) vs ≡ sets (sets xs (m * w + 0) vs) (k * w + 0) us =
+        let swap : (k m : ℕ) (us vs xs : List ℕ) → k ≢ m → length us ≡ w → length vs ≡ w
+        → sets (sets xs (k * w + 0) us) (m * w + 0) vs ≡ sets (sets xs (m * w + 0) vs) (k * w + 0) us =
         λ k m us vs xs e a c. sets_comm xs us vs (k * w + 0) (m * w + 0) (rows_apart w k m (length us) (length vs) e a c) in
         let rt : r ≢ t = λ e. ne (omega arith) in
         let su : s ≢ u = λ e. ne (omega arith) in

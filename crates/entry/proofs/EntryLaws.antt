@@ -114,7 +114,8 @@ module _ {len : ℕ} {h : RunState} (e : Entry) (small : Small e) (s : Sound len
             let d = refused_law b list len p o v h.words k (g ∙ seen_same ∙ sym by_rows) n in
             single_commanded e s z m l' (refused_becomes e (refused_outcome b len k) h.words small s r d n)
 
-        pick : (x : Bool) → leb most_entries h.run.entries ≡ x → (y : Bool) → ltb room needed ≡ y → k ≡ cond x 12 (cond y 14 (rows_of o b.n p seen)) → Becomes len (single e) h (stopped_by k)
+        pick : (x : Bool) → leb most_entries h.run.entries ≡ x → (y : Bool) → ltb room needed ≡ y
+            → k ≡ cond x 12 (cond y 14 (rows_of o b.n p seen)) → Becomes len (single e) h (stopped_by k)
         pick true ex y ey g = rw g (single_12 e s z (leb-true most_entries h.run.entries ex))
         pick false ex true ey g = rw g (single_14 e s z (leb-false most_entries h.run.entries ex) (omega (arith, en, ltb-true room needed ey)))
         pick false ex false ey g = by_row (leb-false most_entries h.run.entries ex) (ltb-false room needed ey) g
@@ -145,9 +146,6 @@ module _ {len : ℕ} {h : RunState} (e : Entry) (small : Small e) (s : Sound len
 
       pub place_same : place_of p ≡ p
       place_same = simp (lt-ltb p 16 process_small)
-
-      pub one_more_small : h.run.entries + 1 ≤ 60000
-      one_more_small = omega (arith, free.entries)
 
       going : Going h
       going = single_ready e s z free.entries free.room_left

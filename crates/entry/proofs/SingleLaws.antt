@@ -51,9 +51,6 @@ stops k n l s = record {
   listing = refl;
 }
 
-pub stays : {len : ℕ} {h : RunState} → Sound len h → Kept len h h
-stays s = record { sound = s; words = refl; listing = refl }
-
 module _ {len : ℕ} {h : RunState} (e : Entry) (out : Outcome) (ws : List ℕ) (small : Small e) (s : Sound len h) (r : Ready h)
     (d : ◌≡◌ {A = Outcome × List ℕ} (out, ws) (decided h.run.held.bench h.run.held.all len (process_of e) (order_of e) (value_of h.run.held.bench.w e) h.words)) where
   abbrev m : Memory

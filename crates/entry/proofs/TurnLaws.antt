@@ -11,8 +11,8 @@ use Rattle.taken.specs.declared.Stepped.{Stepped}
 use Rattle.steps.specs.Steps.{offered, obey_on}
 use Rattle.notation.specs.declared.Entry.{Entry}
 use Rattle.listing.specs.declared.Writer.{Writer}
-use Rattle.listing.specs.Writing.{Fits, Writes}
-use Rattle.listing.proofs.WritingLaws.{writes_then, writes_same, fits_same, fits_first}
+use Rattle.listing.specs.Writing.{Writes}
+use Rattle.listing.proofs.WritingLaws.{writes_then, writes_same}
 use Rattle.access.specs.declared.Access.{Access}
 use Rattle.access.specs.TraceLines.{access_text}
 use Rattle.text_runs.specs.Parts as P
@@ -35,7 +35,8 @@ module _ {traced : Bool} {k n w : ℕ} {e : Entry} {t : Taken} {q : Process} {ws
   answer = answer_line n w out.1 (process_of e) out.0.reply
 
   -- what the code has: process, order, access, the words offered, the order obeyed
-  module _ {p : ℕ} {o : Order} {a : Option Access} {ws₁ ws₂ : List ℕ} {st : Stepped} (ep : p ≡ process_of e) (eo : o ≡ order_of e) (ea : a ≡ access_seen traced (record { 0 = p }) n w t q ws)
+  module _ {p : ℕ} {o : Order} {a : Option Access} {ws₁ ws₂ : List ℕ} {st : Stepped}
+      (ep : p ≡ process_of e) (eo : o ≡ order_of e) (ea : a ≡ access_seen traced (record { 0 = p }) n w t q ws)
       (e₁ : ws₁ ≡ offered (order_of e) (record { 0 = p }) n w (value_of w e) ws) (e₂ : ◌≡◌ {A = Stepped × List ℕ} (st, ws₂) (obey_on o (record { 0 = p }) n w t q ws₁)) where
     is_out : ◌≡◌ {A = Stepped × List ℕ} (st, ws₂) out
     is_out = e₂ ∙ rw (e₁, eo, ep)
@@ -58,9 +59,6 @@ module _ {traced : Bool} {k n w : ℕ} {e : Entry} {t : Taken} {q : Process} {ws
     module _ {answered : Bool} (et : answered ≡ answers st.reply) where
       is_shown : P.shown_line access_text k a e answered ≡ shown
       is_shown = ap (P.shown_line access_text k a e) et ∙ same_shown
-
-      pub shown_room : Fits to (P.shown_line access_text k a e answered)
-      shown_room = fits_same (sym is_shown) (fits_first shown answer f.fits)
 
       module _ {to₁ : Writer} (w₁ : Writes to (P.shown_line access_text k a e answered) to₁) where
         wrote_shown : Writes to shown to₁

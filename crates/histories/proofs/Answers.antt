@@ -67,7 +67,8 @@ module _ (g : Timed → Timed) (e : (t : Timed) → (g t).moment ≡ t.moment) w
   insert_map t (u ∷ us) =
       ap₂ (λ i j. cond (leb i j) (g u ∷ insert (g t) (map g us)) (g t ∷ g u ∷ map g us)) (e u) (e t) ∙ go (leb u.moment t.moment) (insert_map t us)
     where
-      go : (b : Bool) → insert (g t) (map g us) ≡ map g (insert t us) → cond b (g u ∷ insert (g t) (map g us)) (g t ∷ g u ∷ map g us) ≡ map g (cond b (u ∷ insert t us) (t ∷ u ∷ us))
+      go : (b : Bool) → insert (g t) (map g us) ≡ map g (insert t us)
+          → cond b (g u ∷ insert (g t) (map g us)) (g t ∷ g u ∷ map g us) ≡ map g (cond b (u ∷ insert t us) (t ∷ u ∷ us))
       go true z = ap (g u ∷◌) z
       go false z = refl
 

@@ -61,7 +61,8 @@ after_join had (x ∷ xs) ys a b =
     (a.0, after_join had' xs ys (all_of (λ t. After had (to_call t)) (λ t. After had' (to_call t)) (λ t f z. had_stays x.call had t.call.process (f z)) xs a.1) b)
 
 -- so each has its LL: `full` is the whole list, of which cs is the rest
-led_from : (full cs : List Call) (had : ℕ → Bool) → ((P : Call → Type 0) → Any P cs → Any P full) → AfterLl had cs → InTurn cs → All (λ c. had c.process ≡ true → Any (Leads c) full) cs
+led_from : (full cs : List Call) (had : ℕ → Bool) → ((P : Call → Type 0) → Any P cs → Any P full) → AfterLl had cs
+    → InTurn cs → All (λ c. had c.process ≡ true → Any (Leads c) full) cs
     → All (λ c. needs_ll c.kind ≡ true → Any (Leads c) full) cs
 led_from full [] had up l f h = tt
 led_from full (x ∷ xs) had up l f h = (
@@ -146,7 +147,8 @@ module _ (N w : ℕ) where
 
     -- a write that changes no mark and no point of another process
     on_write_is : (had' : ℕ → Bool) (h : Shared) (g : Local → Local) (k : Local) → ((l : Local) → (g l).point ≡ l.point) → ((l : Local) → (g l).answered ≡ l.answered)
-        → ((q : ℕ) → had q ≡ true → had' q ≡ true) → (k.answered ≡ true → had' p ≡ true) → (point_needs k.point ≡ true → k.answered ≡ true) → Marked had' (noisy s p h g k)
+        → ((q : ℕ) → had q ≡ true → had' q ≡ true) → (k.answered ≡ true → had' p ≡ true)
+        → (point_needs k.point ≡ true → k.answered ≡ true) → Marked had' (noisy s p h g k)
     on_write_is had' h g k a b c d e = record { marked = λ q. one q (split q p); needs = λ q. two q (split q p) }
       where
         one : (q : ℕ) → Split q p → (upd (λ q. g (s.loc q)) p k q).answered ≡ true → had' q ≡ true
@@ -221,7 +223,8 @@ module _ (N w : ℕ) where
     start_marked : (y : Point) (v : ℕ → ℕ) (ok : Bool) → (point_needs y ≡ true → ok ≡ true → l.answered ≡ true) → Marked had (starts N W t p y v ok s)
     start_marked y v ok f =
         let k = GhostMachine.begin y v l in
-        let begun : ok ≡ true → Marked had (noisy s p (GhostMachine.w_start p t s.sh) (λ l. l) k) = λ z. on_write_is had _ (λ l. l) k (λ _. refl) (λ _. refl) (λ q x. x) (m.marked p) (λ x. f x z) in
+        let begun : ok ≡ true → Marked had (noisy s p (GhostMachine.w_start p t s.sh) (λ l. l) k) = λ z.
+        on_write_is had _ (λ l. l) k (λ _. refl) (λ _. refl) (λ q x. x) (m.marked p) (λ x. f x z) in
         by_test (Marked had) (ltb p N) (λ _. by_test (Marked had) (is_idle l.point) (λ _. by_test (Marked had) ok begun (λ _. m)) (λ _. m)) (λ _. m)
 
   -- a command, and a list of them

@@ -61,7 +61,8 @@ module _ (P : List ℕ → Type 0) where
   abbrev OfCalls : List Call → Type 0
   OfCalls cs = All (λ (c : Call). OfKind c.kind) cs
 
-  offers_from : (cs : List Command) (m : Memory) (k : ℕ) (slots : ℕ → Slot) → All (λ (c : Command). P c.value) cs → ((q : ℕ) → OfSlot (slots q)) → OfCalls (calls_from k (events m cs) slots)
+  offers_from : (cs : List Command) (m : Memory) (k : ℕ) (slots : ℕ → Slot) → All (λ (c : Command). P c.value) cs
+      → ((q : ℕ) → OfSlot (slots q)) → OfCalls (calls_from k (events m cs) slots)
   unfolding calls_from events
   offers_from [] m k slots b a = tt
   offers_from (c ∷ cs) m k slots b a =
@@ -85,7 +86,8 @@ module _ (P : List ℕ → Type 0) where
   abbrev answers : List Timed → List Answer
   answers us = map (λ (t : Timed). t.call.answer) us
 
-  served_words : (us : List Timed) (o : Object) → P o.words → All (λ (t : Timed). OfKind t.call.kind) us → serve o (map fed us) ≡ answers us → All (λ (t : Timed). OfAnswer t.call.answer) us
+  served_words : (us : List Timed) (o : Object) → P o.words → All (λ (t : Timed). OfKind t.call.kind) us
+      → serve o (map fed us) ≡ answers us → All (λ (t : Timed). OfAnswer t.call.answer) us
   served_words [] o a b e = tt
   served_words (u ∷ us) o a b e =
       let p = u.call.process in let k = u.call.kind in

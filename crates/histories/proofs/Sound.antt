@@ -29,10 +29,6 @@ module _ (n w : ℕ) (value log : List ℕ) where
   pub yes_means : judged n w value log ≡ Yes → (number ≡ 0) × (earned ≡ true)
   yes_means e = let s = verdict_says n w value log in (sym s.number ∙ ap number_of e, right (eqb number 0) earned (sym s.yes ∙ ap says_yes e))
 
-  -- the number that a verdict says is that of the refusal
-  pub number_said : number_of (judged n w value log) ≡ number
-  number_said = (verdict_says n w value log).number
-
 two_each : (r : Entry → Entry → Bool) (es : List Entry) → each_two r es ≡ true → Pairs (λ e f. r e f ≡ true) es
 two_each r [] e = tt
 two_each r (x ∷ xs) e = (every_all (r x) xs (left (every (r x) xs) _ e), two_each r xs (right (every (r x) xs) _ e))

@@ -39,10 +39,6 @@ kind_back w ll a = refl
 kind_back w (sc o) a = refl
 kind_back w vl a = refl
 
-bit : (b : Bool) → eqb (cond b 1 0) 1 ≡ b
-bit true = refl
-bit false = refl
-
 abbrev answer_back : ℕ → Kind → Answer → Answer
 answer_back w k a = cond (eqb (kind_number k) 1) (ll_words (words_for w k a)) (cond (eqb (kind_number k) 2) (sc_truth (eqb (truth_for a) 1)) (vl_truth (eqb (truth_for a) 1)))
 

@@ -85,7 +85,8 @@ module _ (w : ℕ) (log : List ℕ) where
         sane = record { inside = s.inside };
       }
 
-      pub moved_head : (e : Head) → e ≡ head entry → e.kind ≡ 1 → length h.links ≡ 16 → e.process < 16 → MovedOn w log k h (record { links = set h.links e.process true; from = h.from })
+      pub moved_head : (e : Head) → e ≡ head entry → e.kind ≡ 1 → length h.links ≡ 16 → e.process < 16
+          → MovedOn w log k h (record { links = set h.links e.process true; from = h.from })
       moved_head e z y l p =
           let process = ap (λ (e : Head). e.process) z in
           subst (λ p. MovedOn w log k h (record { links = set h.links p true; from = h.from })) (sym process)

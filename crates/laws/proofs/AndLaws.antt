@@ -1,16 +1,7 @@
--- A chain of tests: a part that holds is passed, a part that fails answers.
+-- Both parts of a chain of tests that holds.
 use mathlib.Core.Path.{◌≡◌, refl}
 use mathlib.Core.Bool.{Bool, true, false, ◌&&◌}
 
-pub pass : (a : Bool) {r b : Bool} → a ≡ true → r ≡ b → r ≡ (a && b)
-pass true e h = h
-pass false {r} {b} e h = cc
-
-pub fail : (a b : Bool) → a ≡ false → false ≡ (a && b)
-fail true b e = cc
-fail false b e = refl
-
--- and both parts of a chain that holds
 pub left : (a b : Bool) → (a && b) ≡ true → a ≡ true
 left true b e = refl
 left false b e = e

@@ -31,7 +31,8 @@ module _ (N W n : ℕ) (h : Shared) (p b k v : ℕ) where
   pub others_buf : (q : ℕ) (y : Point) (l : Local) → p < N → q < N → (q ≡ p → ⊥) → h.holders (2 * N + p) ≡ b → SharedClauses N W n h → ProcessClauses N W n y h q l
       → ProcessClauses N W (suc n) y h_w q l
   others_buf q y l hp hq np e g m =
-      let ne : (c : ℕ) → h.holders (2 * N + q) ≡ c → c ≡ b → ⊥ = λ c o z. np (let u = g.holders_differ (2 * N + q) (2 * N + p) (omega arith) (omega arith) (o ∙ z ∙ sym e) in omega arith) in
+      let ne : (c : ℕ) → h.holders (2 * N + q) ≡ c → c ≡ b → ⊥ = λ c o z.
+      np (omega (arith, g.holders_differ (2 * N + q) (2 * N + p) (omega arith) (omega arith) (o ∙ z ∙ sym e))) in
       let f2 = on_with (lines 20 20 y) (lines 10 22 y) (wide 20 20 10 22 y (lit≤ tt) (lit≤ tt)) (λ o. spared h b k v l.mybuf l.word l.offered (ne _ o)) m.owns_mybuf m.offered_part in
       let f2f = on_with (lines 21 22 y) (lines 10 22 y) (wide 21 22 10 22 y (lit≤ tt) (lit≤ tt)) (λ o. spared h b k v l.mybuf W l.offered (ne _ o)) m.owns_mybuf m.offered_whole in
       let f3 = on_with (lines 10 10 y) (lines 10 22 y) (wide 10 10 10 22 y (lit≤ tt) (lit≤ tt)) (λ o. spared h b k v l.mybuf l.word l.returned (ne _ o)) m.owns_mybuf m.returned_part in

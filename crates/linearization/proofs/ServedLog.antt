@@ -156,7 +156,8 @@ module _ {W : ℕ} {v0 : List ℕ} {n S : ℕ} {Val : ℕ → ℕ → ℕ} {T : 
         counted : successes o (insert t log) ≡ suc S
         counted = let z = end_count 1 ew in omega arith
 
-        go : (m i : ℕ) → m < suc n → i ≤ suc S → upd T (suc S) n i ≤ m → (i < suc S → m < upd T (suc S) n (suc i)) → Split i (suc S) → Holds W v0 (upd Val (suc S) w) (insert t log) m i
+        go : (m i : ℕ) → m < suc n → i ≤ suc S → upd T (suc S) n i ≤ m → (i < suc S → m < upd T (suc S) n (suc i))
+            → Split i (suc S) → Holds W v0 (upd Val (suc S) w) (insert t log) m i
         go m i a b c d (same z) =
             let y : n ≤ m = subst (◌≤ m) (ap (upd T (suc S) n) z ∙ upd_same T (suc S) n) c in let u : m ≡ n = omega arith in
             rw (u, z, end_whole) (held, counted)

@@ -73,7 +73,8 @@ module _ (z : State) (p : ℕ) (u : Local → Local) (l : Local) where
   abbrev pub locs : ℕ → Local
   locs = upd (λ q. u (z.loc q)) p l
 
-  pub field : {A : Type 0} (F : Local → A) (SharedClauses : ℕ → A) → F l ≡ SharedClauses p → ((q : ℕ) → (q ≡ p → ⊥) → F (u (z.loc q)) ≡ SharedClauses q) → (q : ℕ) → F (locs q) ≡ SharedClauses q
+  pub field : {A : Type 0} (F : Local → A) (SharedClauses : ℕ → A) → F l ≡ SharedClauses p
+      → ((q : ℕ) → (q ≡ p → ⊥) → F (u (z.loc q)) ≡ SharedClauses q) → (q : ℕ) → F (locs q) ≡ SharedClauses q
   field F SharedClauses a b q = go (split q p)
     where
       go : Split q p → F (locs q) ≡ SharedClauses q
@@ -115,7 +116,8 @@ of_help m = (m.link_x, m.link_bank, m.returned, m.offered)
 abbrev of_words : Local → Bool × (ℕ → Bool) × (ℕ → Bool)
 of_words m = (m.link_x, m.link_bank, m.link_help)
 
-module _ (N W : ℕ) (x : XPlace) (ks : List BankPlace) (hs : List HelpPlace) (ws : List ℕ) (p t : ℕ) (z : State) (hp : p < N) (r : PlacesLike N W x ks hs ws z.sh z.loc) (g : ProcessRanges N (halves W) (z.loc p)) where
+module _ (N W : ℕ) (x : XPlace) (ks : List BankPlace) (hs : List HelpPlace) (ws : List ℕ) (p t : ℕ) (z : State)
+    (hp : p < N) (r : PlacesLike N W x ks hs ws z.sh z.loc) (g : ProcessRanges N (halves W) (z.loc p)) where
   abbrev h : Shared
   h = z.sh
 
@@ -160,9 +162,11 @@ module _ (N W : ℕ) (x : XPlace) (ks : List BankPlace) (hs : List HelpPlace) (w
   }) e k
 
   -- a step on Bank[i]
-  on_bank_is : (i : ℕ) → i < 2 * N → (k' : BankPlace) (q' : Process) (h' : Shared) (u : Local → Local) (l : Local) → BankLike N k' (h'.bank i) (λ q. (locs z p u l q).link_bank i) → q' ≡ record_of l
+  on_bank_is : (i : ℕ) → i < 2 * N → (k' : BankPlace) (q' : Process) (h' : Shared) (u : Local → Local) (l : Local)
+      → BankLike N k' (h'.bank i) (λ q. (locs z p u l q).link_bank i) → q' ≡ record_of l
       → not_bank h' ≡ not_bank h → of_bank l ≡ of_bank f → ((m : Local) → of_bank (u m) ≡ of_bank m) → ((m : Local) → record_of (u m) ≡ record_of m)
-      → ((j : ℕ) → (j ≡ i → ⊥) → h'.bank j ≡ h.bank j) → ((j : ℕ) → (j ≡ i → ⊥) → l.link_bank j ≡ f.link_bank j) → ((j : ℕ) → (j ≡ i → ⊥) → (m : Local) → (u m).link_bank j ≡ m.link_bank j)
+      → ((j : ℕ) → (j ≡ i → ⊥) → h'.bank j ≡ h.bank j) → ((j : ℕ) → (j ≡ i → ⊥) → l.link_bank j ≡ f.link_bank j)
+      → ((j : ℕ) → (j ≡ i → ⊥) → (m : Local) → (u m).link_bank j ≡ m.link_bank j)
       → Made N W p z (record { bench = bench x (set ks i k') hs; process = q'; reply = Accepted }, ws) (noisy z p h' u l)
   on_bank_is i hi k' q' h' u l new e sh own oth k bs ls us = made _ ws q' Accepted h' u l refl refl (record {
     x = x_same N x (ap (λ c. c.0) sh) (ap (λ c. c.1) sh) (λ q. ap (λ c. c.0) (keeps z p u l of_bank own oth q)) r.x;

@@ -119,9 +119,12 @@ module _ (N W n p : ℕ) (s : State) where
 module _ (N W : ℕ) where
   started : (n p : ℕ) (y : Point) (w : ℕ → ℕ) (ok : Bool) (s : State) → Wrote W s [] (starts N W n p y w ok s)
   started n p y w ok s =
+      let still : Wrote W s [] s = quiet_call W s s refl refl in
       by_test (Wrote W s []) (ltb p N)
-      (λ _. by_test (Wrote W s []) (is_idle (s.loc p).point) (λ _. by_test (Wrote W s []) ok (λ _. quiet_call W s _ refl refl) (λ _. quiet_call W s s refl refl)) (λ _. quiet_call W s s refl refl))
-      (λ _. quiet_call W s s refl refl)
+      (λ _. by_test (Wrote W s []) (is_idle (s.loc p).point)
+      (λ _. by_test (Wrote W s []) ok (λ _. quiet_call W s _ refl refl) (λ _. still))
+      (λ _. still))
+      (λ _. still)
 
   by_command : (n : ℕ) (c : Cmd) (s : State) → Wrote W s (call_f N W n c s) (exec N W n c s)
   unfolding call_f exec GhostMachine.step
@@ -133,7 +136,9 @@ module _ (N W : ℕ) where
   -- one after the other
   then : (s t u : State) (now rest : List Timed) → Wrote W s now t → Wrote W t rest u → Wrote W s (now ++ rest) u
   then s t u now rest a b = record {
-    number = ap (λ cs. successes cs + s.sh.successes) both ∙ ap (λ k. k + s.sh.successes) (successes_append (calls_of now) (calls_of rest)) ∙ (let x = a.number in let y = b.number in omega arith);
+    number = ap (λ cs. successes cs + s.sh.successes) both
+        ∙ ap (λ k. k + s.sh.successes) (successes_append (calls_of now) (calls_of rest))
+        ∙ (let x = a.number in let y = b.number in omega arith);
     words = ap (last_written _) both ∙ last_written_append _ (calls_of now) (calls_of rest) ∙ ap (λ v. last_written v (calls_of rest)) a.words ∙ b.words;
   }
     where

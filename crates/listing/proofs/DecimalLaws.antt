@@ -41,7 +41,10 @@ few : (f k n : ℕ) → n < tens (suc k) → length (digits f n) ≤ suc k
 unfolding digits tens
 few zero k n h = omega arith
 few (suc f) zero n h = choice 1 (ltb n 10) ((48 + n) ∷ []) (digits f (n / 10) ++ (48 + n % 10) ∷ []) (omega arith) (λ e. absurd (omega (arith, ltb-false n 10 e)))
-few (suc f) (suc k) n h = choice (suc (suc k)) (ltb n 10) ((48 + n) ∷ []) (digits f (n / 10) ++ (48 + n % 10) ∷ []) (omega arith) (λ e. omega (arith, length-append (digits f (n / 10)) ((48 + n % 10) ∷ []), few f k (n / 10) (tenth n (tens (suc k)) h)))
+few (suc f) (suc k) n h =
+    let front = digits f (n / 10) in let last = (48 + n % 10) ∷ [] in
+    choice (suc (suc k)) (ltb n 10) ((48 + n) ∷ []) (front ++ last) (omega arith)
+    (λ e. omega (arith, length-append front last, few f k (n / 10) (tenth n (tens (suc k)) h)))
 
 -- a number below 10 to the k has at most k digits
 pub at_most : (k n : ℕ) → 0 < k → n < tens k → length (decimal n) ≤ k

@@ -8,7 +8,9 @@ use Rattle.listing.specs.Divisions.{divide, divided}
 use Rattle.listing.specs.Lines.{letter_s, letter_v, answer_head, words_of, ll_line, truth_line, end_line, refused_line}
 
 -- the whole listing of case A
-case-A : ll_line 0 8 (5 ∷ []) ++ (truth_line 0 letter_s 5 true ++ (ll_line 1 8 (7 ∷ []) ++ (truth_line 0 letter_v 1 false ++ end_line 26))) ≡ quoted "0 L 8 5\n0 S 5 1\n1 L 8 7\n0 V 1 0\nend 26\n"
+case-A : ll_line 0 8 (5 ∷ []) ++ (truth_line 0 letter_s 5 true
+    ++ (ll_line 1 8 (7 ∷ []) ++ (truth_line 0 letter_v 1 false ++ end_line 26)))
+    ≡ quoted "0 L 8 5\n0 S 5 1\n1 L 8 7\n0 V 1 0\nend 26\n"
 unfolding ll_line truth_line end_line answer_head words_of decimal digits
 case-A = refl
 

@@ -40,7 +40,9 @@ words_length (w ∷ ws) h = omega (arith, length-append (decimal w) (words_of ws
 
 pub ll_length : (p count : ℕ) (ws : List ℕ) → p < 16 → count ≤ 519 → length ws ≤ 64 → ((i : ℕ) → get_or ws i 0 ≤ 4294967295) → length (ll_line p count ws) ≤ 713
 unfolding ll_line
-ll_length p count ws h k l m = joined (answer_head p letter_l count) (words_of ws ++ line_feed ∷ []) 8 705 (head_length p letter_l count h k) (joined (words_of ws) (line_feed ∷ []) 704 1 (omega (arith, words_length ws m)) (omega arith))
+ll_length p count ws h k l m =
+    joined (answer_head p letter_l count) (words_of ws ++ line_feed ∷ []) 8 705 (head_length p letter_l count h k)
+    (joined (words_of ws) (line_feed ∷ []) 704 1 (omega (arith, words_length ws m)) (omega arith))
 
 truth_three : (b : Bool) → length (truth b) ≤ 3
 truth_three true = omega arith
@@ -56,4 +58,7 @@ end_length e h = omega (arith, joined (decimal e) (line_feed ∷ []) 5 1 (entrie
 
 pub refused_length : (c e : ℕ) → c ≤ 15 → e ≤ 60000 → length (refused_line c e) ≤ 17
 unfolding refused_line
-refused_length c e k h = omega (arith, joined (decimal c) (space ∷ (decimal e ++ line_feed ∷ [])) 2 7 (process_digits c (omega arith)) (omega (arith, joined (decimal e) (line_feed ∷ []) 5 1 (entries_digits e h) (omega arith))))
+refused_length c e k h =
+    let place = joined (decimal e) (line_feed ∷ []) 5 1 (entries_digits e h) (omega arith) in
+    let rest = space ∷ (decimal e ++ line_feed ∷ []) in
+    omega (arith, joined (decimal c) rest 2 7 (process_digits c (omega arith)) (omega (arith, place)))

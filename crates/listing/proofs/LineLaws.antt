@@ -22,7 +22,9 @@ module _ (bs : List ℕ) (i : ℕ) (h : i < length bs) where
 words_append : (a b : List ℕ) → words_of (a ++ b) ≡ words_of a ++ words_of b
 unfolding words_of
 words_append [] b = refl
-words_append (x ∷ a) b = ap (λ (y : List ℕ). (space ∷ []) ++ (decimal x ++ y)) (words_append a b) ∙ ap (λ (y : List ℕ). (space ∷ []) ++ y) (sym (append_assoc (decimal x) (words_of a) (words_of b)))
+words_append (x ∷ a) b =
+    ap (λ (y : List ℕ). (space ∷ []) ++ (decimal x ++ y)) (words_append a b)
+    ∙ ap (λ (y : List ℕ). (space ∷ []) ++ y) (sym (append_assoc (decimal x) (words_of a) (words_of b)))
 
 words_one : (x : ℕ) → words_of (x ∷ []) ≡ (space ∷ []) ++ decimal x
 unfolding words_of

@@ -16,7 +16,10 @@ sets_append l i (x ∷ a) b = ap (λ (k : ℕ). sets (sets (set l i x) (suc i) a
 
 -- a write goes on
 pub then : {l l' l'' : List ℕ} {i j k : ℕ} {a b : List ℕ} → Wrote l i a l' j → Wrote l' j b l'' k → Wrote l i (a ++ b) l'' k
-then {l} {i = i} {j = j} {a = a} {b = b} p q = record { place = omega (arith, p.place, q.place, length-append a b); list = q.list ∙ ap (λ (x : List ℕ). sets x j b) p.list ∙ ap (λ (x : ℕ). sets (sets l i a) x b) p.place ∙ sets_append l i a b }
+then {l} {i = i} {j = j} {a = a} {b = b} p q = record {
+  place = omega (arith, p.place, q.place, length-append a b);
+  list = q.list ∙ ap (λ (x : List ℕ). sets x j b) p.list ∙ ap (λ (x : ℕ). sets (sets l i a) x b) p.place ∙ sets_append l i a b;
+}
 
 pub none : (l : List ℕ) (i : ℕ) → Wrote l i [] l i
 none l i = record { place = omega arith; list = refl }
@@ -42,7 +45,10 @@ pub stays : {l l' bs : List ℕ} {i k : ℕ} → Room l i bs → Wrote l i bs l'
 stays {l} {bs = bs} {i = i} {k = k} r w = w.list ∙ sets-eq bs l i r.fits ∙ ap (λ (x : ℕ). take i l ++ bs ++ drop x l) (sym w.place)
 
 pub grows : {l l' bs : List ℕ} {i k : ℕ} → Room l i bs → Wrote l i bs l' k → take k l' ≡ take i l ++ bs
-grows {l} {bs = bs} {i = i} {k = k} r w = ap (take k) (stays r w) ∙ take_at (take i l ++ bs) (drop k l) k (omega (arith, length-append (take i l) bs, length-take i l, w.place, r.fits, min-eq_left {n = i} {m = length l} (omega (arith, r.fits))))
+grows {l} {bs = bs} {i = i} {k = k} r w =
+    let short = min-eq_left {n = i} {m = length l} (omega (arith, r.fits)) in
+    ap (take k) (stays r w)
+    ∙ take_at (take i l ++ bs) (drop k l) k (omega (arith, length-append (take i l) bs, length-take i l, w.place, r.fits, short))
 
 -- room for a part, and for the rest after it
 pub room_first : {l : List ℕ} {i : ℕ} (a b : List ℕ) → Room l i (a ++ b) → Room l i a

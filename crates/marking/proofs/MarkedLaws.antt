@@ -88,7 +88,8 @@ feed_end (b ∷ bs) = by (is_feed b) refl (feed_end bs)
     by true e end = let one : end_of 0 (length (b ∷ bs)) ≡ 1 = rw (lt-ltb 0 (length (b ∷ bs)) (omega arith)) refl in subst (LineEnd (b ∷ bs)) (sym one) (feed_here b bs e)
     by false e end = subst (LineEnd (b ∷ bs)) (further (feed_at bs) (length bs) (ltb (feed_at bs) (length bs)) refl) (feed_later b bs e end)
 
-pub line_end_found : (bs : List ℕ) {o : Option ℕ} {k : ℕ} {Q : ℕ → Type 0} → o ≡ position is_feed bs → MatchOption o (k ≡ length bs) Q → ((i : ℕ) → Q i → k ≡ i + 1) → LineEnd bs k
+pub line_end_found : (bs : List ℕ) {o : Option ℕ} {k : ℕ} {Q : ℕ → Type 0} → o ≡ position is_feed bs
+    → MatchOption o (k ≡ length bs) Q → ((i : ℕ) → Q i → k ≡ i + 1) → LineEnd bs k
 line_end_found bs {o} {k} {Q} e m q = by (ltb (feed_at bs) (length bs)) (feed_end bs) (subst (λ (x : Option ℕ). MatchOption x (k ≡ length bs) Q) e m)
   where
     by : (t : Bool) → LineEnd bs (cond t (feed_at bs + 1) (length bs)) → MatchOption (cond t (Some (feed_at bs)) None) (k ≡ length bs) Q → LineEnd bs k

@@ -53,7 +53,10 @@ lt_power (suc a) = let z = lt_power a in let y = pow-suc 2 a in omega arith
 
 -- 2 ^ p more, where bit p is 0, stays below 2 ^ n
 sum_below : (a p n : ℕ) → p < n → a < 2 ^ n → bit a p ≡ 0 → a + 2 ^ p < 2 ^ n
-sum_below a p n hp ha e = rw whole ((div-lt_iff_lt-mul (pow_pos p)).0 (let y = raised a p in let z : a / 2 ^ p < 2 ^ (n - p - 1) * 2 = (div-lt_iff_lt-mul (pow_pos p)).1 (rw (sym whole) ha) in omega arith))
+sum_below a p n hp ha e =
+    let y = raised a p in
+    let z : a / 2 ^ p < 2 ^ (n - p - 1) * 2 = (div-lt_iff_lt-mul (pow_pos p)).1 (rw (sym whole) ha) in
+    rw whole ((div-lt_iff_lt-mul (pow_pos p)).0 (omega arith))
   where
     whole : 2 ^ n ≡ 2 ^ (n - p - 1) * 2 * 2 ^ p
     whole = let z : n ≡ (n - p - 1) + 1 + p = omega arith in ap (λ x. 2 ^ x) z ∙ pow-add 2 (n - p - 1 + 1) p ∙ ap (λ x. x * 2 ^ p) (pow-add 2 (n - p - 1) 1)

@@ -45,7 +45,9 @@ run_c = record {
   k = 5;
   entries = 58;
   commands = l 0 ++ steps 2 0 ++ l 1 ++ steps 10 1 ++ s 1 1 7 ++ steps 8 1 ++ steps 6 0 ++ l 1 ++ steps 10 1 ++ s 1 1 9 ++ steps 8 1 ++ steps 7 0 ++ v 0 ++ steps 1 0;
-  shows = answer 1 (ll_words (5 ∷ [])) 10 ∷ answer 1 (sc_truth true) 8 ∷ answer 1 (ll_words (7 ∷ [])) 10 ∷ answer 1 (sc_truth true) 8 ∷ answer 0 (ll_words (5 ∷ [])) 15 ∷ answer 0 (vl_truth false) 1 ∷ [];
+  shows =
+      answer 1 (ll_words (5 ∷ [])) 10 ∷ answer 1 (sc_truth true) 8 ∷ answer 1 (ll_words (7 ∷ [])) 10 ∷ answer 1 (sc_truth true) 8
+      ∷ answer 0 (ll_words (5 ∷ [])) 15 ∷ answer 0 (vl_truth false) 1 ∷ [];
 }
 
 -- 1 1 5: 0l 0! 0s6 0! 0s7 0!

@@ -40,7 +40,9 @@ unchecked_line14 = record {
   k = 5;
   entries = 57;
   commands = l 1 ++ steps 10 1 ++ s 1 1 7 ++ steps 6 1 ++ l 0 ++ steps 1 0 ++ s 1 1 8 ++ steps 7 1 ++ steps 5 0 ++ l 1 ++ steps 10 1 ++ s 1 1 9 ++ steps 8 1 ++ steps 4 0;
-  shows = answer 1 (ll_words (5 ∷ [])) 10 ∷ answer 1 (sc_truth true) 6 ∷ answer 1 (sc_truth false) 7 ∷ answer 1 (ll_words (7 ∷ [])) 10 ∷ answer 1 (sc_truth true) 8 ∷ answer 0 (ll_words (7 ∷ [])) 10 ∷ [];
+  shows =
+      answer 1 (ll_words (5 ∷ [])) 10 ∷ answer 1 (sc_truth true) 6 ∷ answer 1 (sc_truth false) 7
+      ∷ answer 1 (ll_words (7 ∷ [])) 10 ∷ answer 1 (sc_truth true) 8 ∷ answer 0 (ll_words (7 ∷ [])) 10 ∷ [];
 }
 
 -- "Lines 6 and 7 skipped and the handed-over words taken": 0l 0. 1l 1! 1s7 1! 0! 0v 0!, whose LL would then show 5 after 12 steps

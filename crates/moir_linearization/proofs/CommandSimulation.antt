@@ -32,7 +32,7 @@ use Rattle.llsc.specs.Answers.{refused, accepted}
 use Rattle.moir_model.specs.Replies.{Said}
 use Rattle.moir_model.specs.Replies as S
 use Rattle.moir_model.specs.History as H
-use Rattle.moir_model.specs.History.{Event, header_changes}
+use Rattle.moir_model.specs.History.{header_changes}
 use Rattle.moir_linearization.specs.After.{after}
 use Rattle.moir_linearization.proofs.PointRanges.{is_idle, busy, copying}
 use Rattle.moir_linearization.proofs.PointFacts.{point_of_lem}

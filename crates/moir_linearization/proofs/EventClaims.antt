@@ -35,9 +35,6 @@ use Rattle.moir_linearization.specs.Linearizable.{NamedWroteAs, FalseWithCauseAs
 use Rattle.moir_linearization.proofs.SuccessCounts.{none_before}
 
 module _ (N M W : ℕ) (h_w : 0 < W) (ES : List Event) where
-  abbrev S : ℕ → ℕ
-  S = successes_up_to ES
-
   -- a fact P of each call, from what holds when a step answers, and of the calls left open
   module _ (P : Call → Type 0) (Q : ℕ → List Command → State → Type 0)
       (keeps : (m : ℕ) (c : Command) (cs : List Command) (s : State) → Q m (c ∷ cs) s → Q (suc m) cs (exec N M W (suc m) (ghost W c) s))

@@ -54,65 +54,65 @@ pub record State : Type 0 where
 -- Setters; `abbrev`: a field of a set record computes everywhere.
 -- a step to the point q
 abbrev pub to : Point → Local → Local
-to q l = record { point = q; word = l.word; count = l.count + 1; mark = l.mark; keep = l.keep; x_tag = l.x_tag; x_pid = l.x_pid; old_tag = l.old_tag; old_pid = l.old_pid; new_tag = l.new_tag; new_pid = l.new_pid; h_tag = l.h_tag; h_pid = l.h_pid; y_tag = l.y_tag; y_val = l.y_val; z_tag = l.z_tag; z_val = l.z_val; returned = l.returned; offered = l.offered; start_version = l.start_version; read_version = l.read_version; start = l.start; key = l.key; named = l.named }
+to q l = record l { point = q; count = l.count + 1 }
 
 -- the word place
 abbrev pub set_word : ℕ → Local → Local
-set_word k l = record { point = l.point; word = k; count = l.count; mark = l.mark; keep = l.keep; x_tag = l.x_tag; x_pid = l.x_pid; old_tag = l.old_tag; old_pid = l.old_pid; new_tag = l.new_tag; new_pid = l.new_pid; h_tag = l.h_tag; h_pid = l.h_pid; y_tag = l.y_tag; y_val = l.y_val; z_tag = l.z_tag; z_val = l.z_val; returned = l.returned; offered = l.offered; start_version = l.start_version; read_version = l.read_version; start = l.start; key = l.key; named = l.named }
+set_word k l = record l { word = k }
 
 -- lines 10 and 11: x and keep, with the version read and the command's number
 abbrev pub read_header : ℕ → ℕ → ℕ → ℕ → Local → Local
-read_header t q v n l = record { point = l.point; word = l.word; count = l.count; mark = l.mark; keep = t; x_tag = t; x_pid = q; old_tag = l.old_tag; old_pid = l.old_pid; new_tag = l.new_tag; new_pid = l.new_pid; h_tag = l.h_tag; h_pid = l.h_pid; y_tag = l.y_tag; y_val = l.y_val; z_tag = l.z_tag; z_val = l.z_val; returned = l.returned; offered = l.offered; start_version = l.start_version; read_version = v; start = l.start; key = n; named = l.named }
+read_header t q v n l = record l { keep = t; x_tag = t; x_pid = q; read_version = v; key = n }
 
 -- lines 2 and 6
 abbrev pub set_y : ℕ → ℕ → Local → Local
-set_y t v l = record { point = l.point; word = l.word; count = l.count; mark = l.mark; keep = l.keep; x_tag = l.x_tag; x_pid = l.x_pid; old_tag = l.old_tag; old_pid = l.old_pid; new_tag = l.new_tag; new_pid = l.new_pid; h_tag = l.h_tag; h_pid = l.h_pid; y_tag = t; y_val = v; z_tag = l.z_tag; z_val = l.z_val; returned = l.returned; offered = l.offered; start_version = l.start_version; read_version = l.read_version; start = l.start; key = l.key; named = l.named }
+set_y t v l = record l { y_tag = t; y_val = v }
 
 -- line 4
 abbrev pub set_z : ℕ → ℕ → Local → Local
-set_z t v l = record { point = l.point; word = l.word; count = l.count; mark = l.mark; keep = l.keep; x_tag = l.x_tag; x_pid = l.x_pid; old_tag = l.old_tag; old_pid = l.old_pid; new_tag = l.new_tag; new_pid = l.new_pid; h_tag = l.h_tag; h_pid = l.h_pid; y_tag = l.y_tag; y_val = l.y_val; z_tag = t; z_val = v; returned = l.returned; offered = l.offered; start_version = l.start_version; read_version = l.read_version; start = l.start; key = l.key; named = l.named }
+set_z t v l = record l { z_tag = t; z_val = v }
 
 -- line 7
 abbrev pub set_h : ℕ → ℕ → Local → Local
-set_h t q l = record { point = l.point; word = l.word; count = l.count; mark = l.mark; keep = l.keep; x_tag = l.x_tag; x_pid = l.x_pid; old_tag = l.old_tag; old_pid = l.old_pid; new_tag = l.new_tag; new_pid = l.new_pid; h_tag = t; h_pid = q; y_tag = l.y_tag; y_val = l.y_val; z_tag = l.z_tag; z_val = l.z_val; returned = l.returned; offered = l.offered; start_version = l.start_version; read_version = l.read_version; start = l.start; key = l.key; named = l.named }
+set_h t q l = record l { h_tag = t; h_pid = q }
 
 -- line 8
 abbrev pub set_returned : ℕ → ℕ → Local → Local
-set_returned k v l = record { point = l.point; word = l.word; count = l.count; mark = l.mark; keep = l.keep; x_tag = l.x_tag; x_pid = l.x_pid; old_tag = l.old_tag; old_pid = l.old_pid; new_tag = l.new_tag; new_pid = l.new_pid; h_tag = l.h_tag; h_pid = l.h_pid; y_tag = l.y_tag; y_val = l.y_val; z_tag = l.z_tag; z_val = l.z_val; returned = upd l.returned k v; offered = l.offered; start_version = l.start_version; read_version = l.read_version; start = l.start; key = l.key; named = l.named }
+set_returned k v l = record l { returned = upd l.returned k v }
 
 -- line 14
 abbrev pub set_old : ℕ → ℕ → Local → Local
-set_old t q l = record { point = l.point; word = l.word; count = l.count; mark = l.mark; keep = l.keep; x_tag = l.x_tag; x_pid = l.x_pid; old_tag = t; old_pid = q; new_tag = l.new_tag; new_pid = l.new_pid; h_tag = l.h_tag; h_pid = l.h_pid; y_tag = l.y_tag; y_val = l.y_val; z_tag = l.z_tag; z_val = l.z_val; returned = l.returned; offered = l.offered; start_version = l.start_version; read_version = l.read_version; start = l.start; key = l.key; named = l.named }
+set_old t q l = record l { old_tag = t; old_pid = q }
 
 -- line 18
 abbrev pub set_new : ℕ → ℕ → Local → Local
-set_new t q l = record { point = l.point; word = l.word; count = l.count; mark = l.mark; keep = l.keep; x_tag = l.x_tag; x_pid = l.x_pid; old_tag = l.old_tag; old_pid = l.old_pid; new_tag = t; new_pid = q; h_tag = l.h_tag; h_pid = l.h_pid; y_tag = l.y_tag; y_val = l.y_val; z_tag = l.z_tag; z_val = l.z_val; returned = l.returned; offered = l.offered; start_version = l.start_version; read_version = l.read_version; start = l.start; key = l.key; named = l.named }
+set_new t q l = record l { new_tag = t; new_pid = q }
 
 -- the command at which the call takes effect
 abbrev pub set_key : ℕ → Local → Local
-set_key n l = record { point = l.point; word = l.word; count = l.count; mark = l.mark; keep = l.keep; x_tag = l.x_tag; x_pid = l.x_pid; old_tag = l.old_tag; old_pid = l.old_pid; new_tag = l.new_tag; new_pid = l.new_pid; h_tag = l.h_tag; h_pid = l.h_pid; y_tag = l.y_tag; y_val = l.y_val; z_tag = l.z_tag; z_val = l.z_val; returned = l.returned; offered = l.offered; start_version = l.start_version; read_version = l.read_version; start = l.start; key = n; named = l.named }
+set_key n l = record l { key = n }
 
 -- an answer: idle, count 0 and place 0
 abbrev pub rest : Local → Local
-rest l = record { point = idle; word = 0; count = 0; mark = l.mark; keep = l.keep; x_tag = l.x_tag; x_pid = l.x_pid; old_tag = l.old_tag; old_pid = l.old_pid; new_tag = l.new_tag; new_pid = l.new_pid; h_tag = l.h_tag; h_pid = l.h_pid; y_tag = l.y_tag; y_val = l.y_val; z_tag = l.z_tag; z_val = l.z_val; returned = l.returned; offered = l.offered; start_version = l.start_version; read_version = l.read_version; start = l.start; key = l.key; named = l.named }
+rest l = record l { point = idle; word = 0; count = 0 }
 
 -- the answer of a WLL also sets the mark; b says whether it names a process
 abbrev pub rest_lL : Bool → Local → Local
-rest_lL b l = record { point = idle; word = 0; count = 0; mark = true; keep = l.keep; x_tag = l.x_tag; x_pid = l.x_pid; old_tag = l.old_tag; old_pid = l.old_pid; new_tag = l.new_tag; new_pid = l.new_pid; h_tag = l.h_tag; h_pid = l.h_pid; y_tag = l.y_tag; y_val = l.y_val; z_tag = l.z_tag; z_val = l.z_val; returned = l.returned; offered = l.offered; start_version = l.start_version; read_version = l.read_version; start = l.start; key = l.key; named = b }
+rest_lL b l = record l { point = idle; word = 0; count = 0; mark = true; named = b }
 
 -- a start as command number n
 abbrev pub begin : Point → ℕ → ℕ → (ℕ → ℕ) → Local → Local
-begin q n v w l = record { point = q; word = l.word; count = 0; mark = l.mark; keep = l.keep; x_tag = l.x_tag; x_pid = l.x_pid; old_tag = l.old_tag; old_pid = l.old_pid; new_tag = l.new_tag; new_pid = l.new_pid; h_tag = l.h_tag; h_pid = l.h_pid; y_tag = l.y_tag; y_val = l.y_val; z_tag = l.z_tag; z_val = l.z_val; returned = l.returned; offered = w; start_version = v; read_version = l.read_version; start = n; key = l.key; named = l.named }
+begin q n v w l = record l { point = q; count = 0; offered = w; start_version = v; start = n }
 
 -- the three writes of shared memory: a segment, a word of A, the header (with the ghosts of a success)
 abbrev pub w_seg : ℕ → ℕ → ℕ → Shared → Shared
-w_seg k t v h = record { tag = h.tag; pid = h.pid; seg_tag = upd h.seg_tag k t; seg_val = upd h.seg_val k v; rows = h.rows; successes = h.successes; value = h.value; won_at = h.won_at }
+w_seg k t v h = record h { seg_tag = upd h.seg_tag k t; seg_val = upd h.seg_val k v }
 
 abbrev pub w_row : ℕ → ℕ → ℕ → Shared → Shared
-w_row q k v h = record { tag = h.tag; pid = h.pid; seg_tag = h.seg_tag; seg_val = h.seg_val; rows = upd h.rows q (upd (h.rows q) k v); successes = h.successes; value = h.value; won_at = h.won_at }
+w_row q k v h = record h { rows = upd h.rows q (upd (h.rows q) k v) }
 
 abbrev pub w_header : ℕ → ℕ → (ℕ → ℕ) → ℕ → Shared → Shared
-w_header t q w n h = record { tag = t; pid = q; seg_tag = h.seg_tag; seg_val = h.seg_val; rows = h.rows; successes = suc h.successes; value = w; won_at = n }
+w_header t q w n h = record h { tag = t; pid = q; successes = suc h.successes; value = w; won_at = n }
 
 -- a step that leaves shared memory alone, and one that writes
 abbrev pub quiet : State → ℕ → Local → State
@@ -137,48 +137,47 @@ module _ (M W : ℕ) where
   unfoldable pub step_at : Point → ℕ → ℕ → State → State
   step_at idle n p s = s
   step_at ll10 n p s = quiet s p (to ll2 (read_header s.sh.tag s.sh.pid s.sh.successes n (s.loc p)))
-  step_at ll2 n p s =
-      cond (eqb (s.sh.seg_tag (s.loc p).word) (prev M (s.loc p).x_tag))
-      (quiet s p (to ll4 (set_y (s.sh.seg_tag (s.loc p).word) (s.sh.seg_val (s.loc p).word) (s.loc p))))
-      (quiet s p (to ll7 (set_y (s.sh.seg_tag (s.loc p).word) (s.sh.seg_val (s.loc p).word) (s.loc p))))
-  step_at ll4 n p s = quiet s p (to ll5 (set_z (s.loc p).x_tag (s.sh.rows (s.loc p).x_pid (s.loc p).word) (s.loc p)))
-  step_at ll5 n p s =
-      cond (eq_pair (s.sh.seg_tag (s.loc p).word) (s.sh.seg_val (s.loc p).word) (s.loc p).y_tag (s.loc p).y_val)
-      (noisy s p (w_seg (s.loc p).word (s.loc p).z_tag (s.loc p).z_val s.sh) (to ll6 (s.loc p)))
-      (quiet s p (to ll6 (s.loc p)))
-  step_at ll6 n p s = quiet s p (to ll7 (set_y (s.sh.seg_tag (s.loc p).word) (s.sh.seg_val (s.loc p).word) (s.loc p)))
-  step_at ll7 n p s =
-      cond (eq_pair s.sh.tag s.sh.pid (s.loc p).x_tag (s.loc p).x_pid)
-      (cond (ltb (suc (s.loc p).word) W)
-      (quiet s p (set_word (suc (s.loc p).word) (to ll2 (set_returned (s.loc p).word (s.loc p).y_val (set_h s.sh.tag s.sh.pid (s.loc p))))))
-      (quiet s p (rest_lL false (set_returned (s.loc p).word (s.loc p).y_val (set_h s.sh.tag s.sh.pid (s.loc p))))))
-      (quiet s p (rest_lL true (set_h s.sh.tag s.sh.pid (s.loc p))))
-  step_at sc14 n p s =
-      cond (eqb s.sh.tag (s.loc p).keep)
-      (quiet s p (to sc17 (set_old s.sh.tag s.sh.pid (s.loc p))))
-      (quiet s p (rest (set_old s.sh.tag s.sh.pid (s.loc p))))
-  step_at sc17 n p s =
-      cond (ltb (suc (s.loc p).word) W)
-      (noisy s p (w_row p (s.loc p).word ((s.loc p).offered (s.loc p).word) s.sh) (set_word (suc (s.loc p).word) (to sc17 (s.loc p))))
-      (noisy s p (w_row p (s.loc p).word ((s.loc p).offered (s.loc p).word) s.sh) (set_word 0 (set_new (next M (s.loc p).old_tag) p (to sc19 (s.loc p)))))
-  step_at sc19 n p s =
-      cond (eq_pair s.sh.tag s.sh.pid (s.loc p).old_tag (s.loc p).old_pid)
-      (noisy s p (w_header (s.loc p).new_tag (s.loc p).new_pid (s.loc p).offered n s.sh) (set_key n (to sc2 (s.loc p))))
-      (quiet s p (rest (s.loc p)))
-  step_at sc2 n p s =
-      cond (eqb (s.sh.seg_tag (s.loc p).word) (prev M (s.loc p).new_tag))
-      (quiet s p (to sc4 (set_y (s.sh.seg_tag (s.loc p).word) (s.sh.seg_val (s.loc p).word) (s.loc p))))
-      (quiet s p (to sc7 (set_y (s.sh.seg_tag (s.loc p).word) (s.sh.seg_val (s.loc p).word) (s.loc p))))
-  step_at sc4 n p s = quiet s p (to sc5 (set_z (s.loc p).new_tag (s.sh.rows (s.loc p).new_pid (s.loc p).word) (s.loc p)))
-  step_at sc5 n p s =
-      cond (eq_pair (s.sh.seg_tag (s.loc p).word) (s.sh.seg_val (s.loc p).word) (s.loc p).y_tag (s.loc p).y_val)
-      (noisy s p (w_seg (s.loc p).word (s.loc p).z_tag (s.loc p).z_val s.sh) (to sc6 (s.loc p)))
-      (quiet s p (to sc6 (s.loc p)))
-  step_at sc6 n p s = quiet s p (to sc7 (set_y (s.sh.seg_tag (s.loc p).word) (s.sh.seg_val (s.loc p).word) (s.loc p)))
-  step_at sc7 n p s =
-      cond (eq_pair s.sh.tag s.sh.pid (s.loc p).new_tag (s.loc p).new_pid)
-      (cond (ltb (suc (s.loc p).word) W) (quiet s p (set_word (suc (s.loc p).word) (to sc2 (set_h s.sh.tag s.sh.pid (s.loc p))))) (quiet s p (rest (set_h s.sh.tag s.sh.pid (s.loc p)))))
-      (quiet s p (rest (set_h s.sh.tag s.sh.pid (s.loc p))))
+  step_at ll2 n p s = let l = s.loc p in
+      let read = set_y (s.sh.seg_tag l.word) (s.sh.seg_val l.word) l in
+      cond (eqb (s.sh.seg_tag l.word) (prev M l.x_tag)) (quiet s p (to ll4 read)) (quiet s p (to ll7 read))
+  step_at ll4 n p s = let l = s.loc p in quiet s p (to ll5 (set_z l.x_tag (s.sh.rows l.x_pid l.word) l))
+  step_at ll5 n p s = let l = s.loc p in
+      cond (eq_pair (s.sh.seg_tag l.word) (s.sh.seg_val l.word) l.y_tag l.y_val)
+      (noisy s p (w_seg l.word l.z_tag l.z_val s.sh) (to ll6 l))
+      (quiet s p (to ll6 l))
+  step_at ll6 n p s = let l = s.loc p in quiet s p (to ll7 (set_y (s.sh.seg_tag l.word) (s.sh.seg_val l.word) l))
+  step_at ll7 n p s = let l = s.loc p in
+      let read = set_h s.sh.tag s.sh.pid l in
+      let saved = set_returned l.word l.y_val read in
+      cond (eq_pair s.sh.tag s.sh.pid l.x_tag l.x_pid)
+      (cond (ltb (suc l.word) W) (quiet s p (set_word (suc l.word) (to ll2 saved))) (quiet s p (rest_lL false saved)))
+      (quiet s p (rest_lL true read))
+  step_at sc14 n p s = let l = s.loc p in
+      let read = set_old s.sh.tag s.sh.pid l in
+      cond (eqb s.sh.tag l.keep) (quiet s p (to sc17 read)) (quiet s p (rest read))
+  step_at sc17 n p s = let l = s.loc p in
+      let h = w_row p l.word (l.offered l.word) s.sh in
+      cond (ltb (suc l.word) W)
+      (noisy s p h (set_word (suc l.word) (to sc17 l)))
+      (noisy s p h (set_word 0 (set_new (next M l.old_tag) p (to sc19 l))))
+  step_at sc19 n p s = let l = s.loc p in
+      cond (eq_pair s.sh.tag s.sh.pid l.old_tag l.old_pid)
+      (noisy s p (w_header l.new_tag l.new_pid l.offered n s.sh) (set_key n (to sc2 l)))
+      (quiet s p (rest l))
+  step_at sc2 n p s = let l = s.loc p in
+      let read = set_y (s.sh.seg_tag l.word) (s.sh.seg_val l.word) l in
+      cond (eqb (s.sh.seg_tag l.word) (prev M l.new_tag)) (quiet s p (to sc4 read)) (quiet s p (to sc7 read))
+  step_at sc4 n p s = let l = s.loc p in quiet s p (to sc5 (set_z l.new_tag (s.sh.rows l.new_pid l.word) l))
+  step_at sc5 n p s = let l = s.loc p in
+      cond (eq_pair (s.sh.seg_tag l.word) (s.sh.seg_val l.word) l.y_tag l.y_val)
+      (noisy s p (w_seg l.word l.z_tag l.z_val s.sh) (to sc6 l))
+      (quiet s p (to sc6 l))
+  step_at sc6 n p s = let l = s.loc p in quiet s p (to sc7 (set_y (s.sh.seg_tag l.word) (s.sh.seg_val l.word) l))
+  step_at sc7 n p s = let l = s.loc p in
+      let read = set_h s.sh.tag s.sh.pid l in
+      cond (eq_pair s.sh.tag s.sh.pid l.new_tag l.new_pid)
+      (cond (ltb (suc l.word) W) (quiet s p (set_word (suc l.word) (to sc2 read))) (quiet s p (rest read)))
+      (quiet s p (rest read))
   step_at vl13 n p s = quiet s p (rest (s.loc p))
 
   unfoldable pub step : ℕ → ℕ → State → State

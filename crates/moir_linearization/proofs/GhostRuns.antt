@@ -5,7 +5,7 @@ use mathlib.Core.List.{List, [], ◌∷◌, ◌++◌, map}
 use Prim.Native.Nat.{ℕ, suc, ◌≤◌, ◌<◌}
 use lib.Dec.{ltb, eqb}
 use lib.ListN.{length}
-use Rattle.llsc.specs.Object.{ll, sc, vl}
+use Rattle.llsc.specs.Object.{Kind, ll, sc, vl}
 use Rattle.laws.proofs.Updates.{upd}
 use Rattle.laws.proofs.Parts.{tab}
 use Rattle.moir_model.specs.Points.{Point, idle, ll10, ll2, ll4, ll5, ll6, ll7, sc14, sc17, sc19, sc2, sc4, sc5, sc6, sc7, vl13}
@@ -30,16 +30,22 @@ is_step p (VL q) = false
 is_step p (SC q w f) = false
 is_step p (go q) = eqb q p
 
+-- the open call of p, with the last step's number e
+abbrev pub call_effect : Kind → Answer → ℕ → ℕ → ℕ → State → Effect
+call_effect f a k e p s = record {
+  call = record { process = p; kind = f; start = (s.loc p).start; end = e; answer = a };
+  at = k;
+}
+
 module _ (W : ℕ) where
-  -- the calls of p, with the last step's number e
   abbrev pub ll_effect : Answer → ℕ → ℕ → ℕ → State → Effect
-  ll_effect a k e p s = record { call = record { process = p; kind = ll; start = (s.loc p).start; end = e; answer = a }; at = k }
+  ll_effect = call_effect ll
 
   abbrev pub sc_effect : Bool → ℕ → ℕ → ℕ → State → Effect
-  sc_effect b k e p s = record { call = record { process = p; kind = sc (tab W (s.loc p).offered); start = (s.loc p).start; end = e; answer = sc_truth b }; at = k }
+  sc_effect b k e p s = call_effect (sc (tab W (s.loc p).offered)) (sc_truth b) k e p s
 
   abbrev pub vl_effect : Bool → ℕ → ℕ → ℕ → State → Effect
-  vl_effect b k e p s = record { call = record { process = p; kind = vl; start = (s.loc p).start; end = e; answer = vl_truth b }; at = k }
+  vl_effect b = call_effect vl (vl_truth b)
 
   -- the call that a step of p at point y makes known: an SC's at its header CAS if it succeeds, e being its last step; every other one's at its answer
   abbrev pub effect_at : Point → ℕ → ℕ → ℕ → State → List Effect
@@ -117,13 +123,51 @@ module _ (N M W : ℕ) where
 
 -- the set-up
 abbrev pub loc0 : Local
-loc0 = record { point = idle; word = 0; count = 0; mark = false; keep = 0; x_tag = 0; x_pid = 0; old_tag = 0; old_pid = 0; new_tag = 0; new_pid = 0; h_tag = 0; h_pid = 0; y_tag = 0; y_val = 0; z_tag = 0; z_val = 0; returned = λ k. 0; offered = λ k. 0; start_version = 0; read_version = 0; start = 0; key = 0; named = false }
+loc0 = record {
+  point = idle;
+  word = 0;
+  count = 0;
+  mark = false;
+  keep = 0;
+  x_tag = 0;
+  x_pid = 0;
+  old_tag = 0;
+  old_pid = 0;
+  new_tag = 0;
+  new_pid = 0;
+  h_tag = 0;
+  h_pid = 0;
+  y_tag = 0;
+  y_val = 0;
+  z_tag = 0;
+  z_val = 0;
+  returned = λ k. 0;
+  offered = λ k. 0;
+  start_version = 0;
+  read_version = 0;
+  start = 0;
+  key = 0;
+  named = false;
+}
 
 abbrev pub set_up : (ℕ → ℕ) → State
-set_up v = record { sh = record { tag = 0; pid = 0; seg_tag = λ k. 0; seg_val = v; rows = upd (λ q k. 0) 0 v; successes = 0; value = v; won_at = 0 }; loc = λ p. loc0 }
+set_up v = record {
+  sh = record {
+    tag = 0;
+    pid = 0;
+    seg_tag = λ k. 0;
+    seg_val = v;
+    rows = upd (λ q k. 0) 0 v;
+    successes = 0;
+    value = v;
+    won_at = 0;
+  };
+  loc = λ p. loc0;
+}
 
 -- the order statement over the calls in the order in which they become known
 abbrev pub MoirOrder : Type 0
 MoirOrder =
-    (N M W : ℕ) → 0 < W → (v : ℕ → ℕ) (cs : List Cmd) → BoundedRun N M W 1 cs (set_up v) → (places : ℕ) → length (effects N M W 1 cs (set_up v)) ≤ places
-    → Linearizable places (tab W v) (map (λ (e : Effect). e.call) (effects N M W 1 cs (set_up v)))
+    (N M W : ℕ) → 0 < W → (v : ℕ → ℕ) (cs : List Cmd) → BoundedRun N M W 1 cs (set_up v) →
+    (places : ℕ) → length (effects N M W 1 cs (set_up v)) ≤ places →
+    Linearizable places (tab W v) (map (λ (e : Effect). e.call) (effects N M W 1 cs (set_up v)))

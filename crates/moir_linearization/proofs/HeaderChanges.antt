@@ -25,10 +25,6 @@ module _ (M W n : ℕ) (two : 1 < M) (s : State) (p : ℕ) where
   pub record Changes (y : Point) (u : State) : Type 0 where
     pub seen : changes u.sh ≡ cond (copying y) false (copying (u.loc p).point)
 
-  never : (b : Bool) → cond b false false ≡ false
-  never true = refl
-  never false = refl
-
   -- a step that leaves the header
   keep : (y : Point) (h' : Shared) (c : Local) → h'.tag ≡ h.tag → h'.pid ≡ h.pid
       → cond (copying y) false (copying c.point) ≡ false → Changes y (noisy s p h' c)

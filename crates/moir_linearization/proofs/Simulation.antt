@@ -25,7 +25,6 @@ use Rattle.moir_model.specs.Tags.{tag_values}
 use Rattle.moir_model.specs.Points.{Point, idle, ll10, ll2, ll4, ll5, ll6, ll7, sc14, sc17, sc19, sc2, sc4, sc5, sc6, sc7, vl13}
 use Rattle.moir_model.specs.Words.{put_tag, put_value, put_header}
 use Rattle.moir_model.specs.Machine as L
-use Rattle.moir_model.specs.Machine.{Memory}
 use Rattle.llsc.specs.Answers.{answered}
 use Rattle.moir_model.specs.Replies.{words, says}
 use Rattle.moir_linearization.specs.Linearizable.{Served}

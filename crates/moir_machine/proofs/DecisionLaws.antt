@@ -76,7 +76,8 @@ module _ (b : Bench) (rs : List Process) (ws : List ℕ) (p : ℕ) (o : Order) (
   unfolding command
   decision_law (Ok done) ws' x =
       let h = none_holds b list (length rs) p o (length v) (length ws) x.0 in
-      let q : get_or list p no_process ≡ get_or rs p no_process = gathered_at rs no_process no_process 16 p (omega arith) (omega (arith, h.process, h.n_most)) (omega (arith, h.process, h.records)) in
+      let q : get_or list p no_process ≡ get_or rs p no_process =
+      gathered_at rs no_process no_process 16 p (omega arith) (omega (arith, h.process, h.n_most)) (omega (arith, h.process, h.records)) in
       ap (λ (out : Moved × List ℕ). stored_back b rs p (Ok out.0) out.1) (x.1 ∙ ap (λ (r : Process). obey o (record { 0 = p }) v b r ws) q) ∙
       simp (eq-eqb (refusal m p o v) 0 (sym same_number ∙ x.0))
   decision_law (Err r) ws' x =

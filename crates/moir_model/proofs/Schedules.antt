@@ -54,7 +54,19 @@ abbrev dirty_bench : Bench
 dirty_bench = record { n = 77; w = 0; header = dirty_header; tags = replicate 64 79 }
 
 abbrev dirty_process : Process
-dirty_process = record { line = 16; word = 95; count = 94; answered = true; keep = 76; x = dirty_header; oldhdr = dirty_header; newhdr = dirty_header; h = dirty_header; y = dirty_segment; z = dirty_segment }
+dirty_process = record {
+  line = 16;
+  word = 95;
+  count = 94;
+  answered = true;
+  keep = 76;
+  x = dirty_header;
+  oldhdr = dirty_header;
+  newhdr = dirty_header;
+  h = dirty_header;
+  y = dirty_segment;
+  z = dirty_segment;
+}
 
 abbrev pub dirty : Memory
 dirty = record { bench = dirty_bench; records = replicate 3 dirty_process; words = replicate 15 1234 }

@@ -1,6 +1,6 @@
 -- What an entry brings, and whether `!` stays.
 use mathlib.Core.Path.{◌≡◌, refl, sym, ap, ◌∙◌}
-use mathlib.Core.List.{[], ◌∷◌}
+use mathlib.Core.List.{◌∷◌}
 use Rattle.std.specs.Prelude.{Option, Some, None}
 use Prim.Native.Nat.{ℕ, zero, suc, ◌≤◌}
 use native.Mathlib.Omega.{arith}
@@ -40,13 +40,6 @@ value_some (StartVl p) w h q = absurd (none_some q)
 value_some (StartSc p j) w {k} h q = first_words w k h ∙ ap (λ (i : ℕ). replicate w i) (sym (ap number_or q))
 value_some (Step p) w h q = absurd (none_some q)
 value_some (Finish p) w h q = absurd (none_some q)
-
-pub value_none : (e : Entry) (w : ℕ) → brought_by e ≡ None → value_of w e ≡ []
-value_none (StartLl p) w q = refl
-value_none (StartVl p) w q = refl
-value_none (StartSc p j) w q = absurd (none_some (sym q))
-value_none (Step p) w q = refl
-value_none (Finish p) w q = refl
 
 pub value_count : (e : Entry) (w : ℕ) → words_brought e w ≡ length (value_of w e)
 value_count (StartLl p) w = refl

@@ -340,9 +340,6 @@ module _ {e : Entry} {s : Progress} (f : Free e s) where
   pub process_small : process_of e < 16
   process_small = let r = entry_obeyable.ready in omega (arith, r.process, r.standing.n_most)
 
-  pub width_small : m₁.bench.w ≤ 64
-  width_small = entry_obeyable.ready.standing.w_most
-
   -- what its order makes of its process, the bench and the words
   abbrev pub made : Moved × List ℕ
   made = obey (order_of e) own v₁ m₁.bench q₁ m₁.words

@@ -26,7 +26,8 @@ byte : {c : ℕ} {k : Kind} (m m' : Mode) (es : List Entry) (l : List ℕ) (stac
 unfolding scan go
 byte m m' es l stack os d e p q = simp (e.is, p, q)
 
-quiet : {c : ℕ} {k : Kind} (m m' : Mode) (l : List ℕ) (stack : List Frame) (os : List Entry) (d : ℕ) → Byte c k → move m k ≡ to m' → said m k ≡ [] → scan (c ∷ l) m stack os d ≡ scan l m' stack os d
+quiet : {c : ℕ} {k : Kind} (m m' : Mode) (l : List ℕ) (stack : List Frame) (os : List Entry) (d : ℕ) → Byte c k
+    → move m k ≡ to m' → said m k ≡ [] → scan (c ∷ l) m stack os d ≡ scan l m' stack os d
 quiet m m' l stack os d e p q = byte m m' [] l stack os d e p q ∙ ap (λ (x : List Entry). scan l m' stack x d) (append-nil os)
 
 digits_read : {ds : List ℕ} {v : ℕ} (f : ℕ → Mode) (g : Gathers f) (m : Mode) → Leads m f
@@ -36,10 +37,13 @@ digits_read f g m p (G.more {ds = ds} {v = v} {c = c} {d = d} n e fits) l stack 
     ap (λ (x : List ℕ). scan x m stack os r) (append_assoc ds (c ∷ []) l) ∙ digits_read f g m p n (c ∷ l) stack os r
     ∙ quiet (f v) (f (v * 10 + d)) l stack os r e (g.moves v d ∙ more_fits f v d fits) (g.says v d)
 
-number_read : {ds : List ℕ} {v : ℕ} (e : Bool) → Number ds v → (l : List ℕ) (stack : List Frame) (os : List Entry) (r : ℕ) → scan (ds ++ l) (between e) stack os r ≡ scan l (num v) stack os r
+number_read : {ds : List ℕ} {v : ℕ} (e : Bool) → Number ds v
+    → (l : List ℕ) (stack : List Frame) (os : List Entry) (r : ℕ)
+    → scan (ds ++ l) (between e) stack os r ≡ scan l (num v) stack os r
 number_read e n = digits_read num gathers_num (between e) (leads_num e) n
 
-offer_read : {ds : List ℕ} {v : ℕ} (p : ℕ) → Number ds v → (l : List ℕ) (stack : List Frame) (os : List Entry) (r : ℕ) → scan (ds ++ l) (offer p) stack os r ≡ scan l (offer_num p v) stack os r
+offer_read : {ds : List ℕ} {v : ℕ} (p : ℕ) → Number ds v → (l : List ℕ) (stack : List Frame) (os : List Entry) (r : ℕ)
+    → scan (ds ++ l) (offer p) stack os r ≡ scan l (offer_num p v) stack os r
 offer_read p n = digits_read (offer_num p) (gathers_offer p) (offer p) (leads_offer p) n
 
 gaps_read : {g : List ℕ} (e : Bool) → Gaps g → (l : List ℕ) (stack : List Frame) (os : List Entry) (r : ℕ) → scan (g ++ l) (between e) stack os r ≡ scan l (between e) stack os r

@@ -13,7 +13,7 @@ use Rattle.notation.specs.Places.{ClosesAfter}
 use Rattle.notation.specs.Readers.{Following, Follows}
 use Rattle.notation.specs.Stretches.{Begun}
 use Rattle.notation.specs.Groups.{ItemBroken, ItemsEnded, ItemsClosed}
-use Rattle.notation.specs.Listed.{Keeps, Opened, ItemSays, GroupSays}
+use Rattle.notation.specs.Listed.{Keeps, ItemSays, GroupSays}
 use Rattle.notation.specs.Cursor.{StandAt}
 use Rattle.notation.proofs.GroupLaws.{item_ended, item_broken, item_wrong, items_stray}
 use Rattle.std.proofs.lemmas.Result.{err_from_is_err_and}
@@ -43,9 +43,6 @@ module _ {s s' : List ℕ} (e : s' ≡ s) where
   -- a group that the text's end cuts off
   pub cut_off : {at n body d : ℕ} {es : List Entry} → Begun s at n body → (d ≡ 0 → ⊥) → ItemsEnded s body (d - 1) es → ItemBroken s at d 10 (length s')
   cut_off {at} {d = d} b z i = subst (λ (x : ℕ). ItemBroken s at d 10 x) (sym (ap length e)) (item_ended d b z i)
-
-  pub opened_in : {at n body : ℕ} → Begun s at n body → Opened s' n body
-  opened_in {at} {n} {body} b = record { at = at; begun = subst (λ (x : List ℕ). Begun x at n body) (sym e) b }
 
   pub item_in : {at d from : ℕ} {list list' : List ℕ} {r : Result (ℕ × ℕ) Fault} → ItemSays s' at d list list' from r → ItemSays s at d list list' from r
   item_in {at} {d} {from} {list} {list'} {r} x = subst (λ (y : List ℕ). ItemSays y at d list list' from r) e x

@@ -46,7 +46,8 @@ go_under l leave [] os d f base ih = refl
 go_under l leave (g ∷ stack) os d f base ih = ih done stack (g.before ++ times g.count os) g.room
 go_under l bad stack os d f base ih = refl
 
-pub scan_under : (l : List ℕ) (m : Mode) (stack : List Frame) (os : List Entry) (d : ℕ) (f : Frame) (base : List Frame) → scan l m (stack ++ f ∷ base) os d ≡ under f base (scan l m stack os d)
+pub scan_under : (l : List ℕ) (m : Mode) (stack : List Frame) (os : List Entry) (d : ℕ) (f : Frame) (base : List Frame)
+    → scan l m (stack ++ f ∷ base) os d ≡ under f base (scan l m stack os d)
 unfolding scan
 scan_under [] m stack os d f base = end_under m stack os f base
 scan_under (b ∷ l) m stack os d f base = go_under l (move m (kind_of b)) stack (os ++ said m (kind_of b)) d f base (λ m stack os d. scan_under l m stack os d f base)

@@ -13,7 +13,7 @@ use Rattle.notation.specs.declared.Kind.TheVariants.{Digit, Gap, Marked, Offer, 
 use Rattle.std.specs.Prelude.{Ok, Err}
 use Rattle.notation.specs.Readers.{Digits}
 use Rattle.notation.specs.Bytes.{space, line_feed, kind_of, is_digit}
-use Rattle.notation.specs.Grammar.{largest, digit_ok}
+use Rattle.notation.specs.Grammar.{digit_ok}
 use Rattle.notation.specs.Scan.{between, scan}
 use Rattle.notation.specs.FirstLine.{Place, before_n, in_n, before_w, in_w, before_initial, in_initial, Next, goes, begins, breaks}
 use Rattle.notation.specs.FirstLine.{starting, inside, step, whole, proceed, read_from, past}
@@ -176,9 +176,3 @@ module _ {s : List ℕ} where
     pub headed_reads : (d : ℕ) → read_from d s before_n ≡ whole n w v (scan (drop next s) (between false) [] [] d)
     unfolding proceed
     headed_reads d = after_w d h.n_ends h.w_ends ∙ ended (field_initial n w) d s h.initial_ends
-
-    pub headed_within : next ≤ length s
-    headed_within = ended_within h.initial_ends
-
-    pub headed_small : (n ≤ largest) × (w ≤ largest) × (v ≤ largest)
-    headed_small = (h.n_ends.number.numbered.small, h.w_ends.number.numbered.small, h.initial_ends.number.numbered.small)

@@ -123,7 +123,8 @@ module _ {s : List ℕ} where
       }
 
       -- the `(`
-      opened : kind_of (get_or s place 0) ≡ Open → (stack : List Frame) (os : List Entry) (d : ℕ) → scan (drop at s) (between false) stack os d ≡ opening (drop (place + 1) s) v stack os d (count_ok v)
+      opened : kind_of (get_or s place 0) ≡ Open → (stack : List Frame) (os : List Entry) (d : ℕ)
+          → scan (drop at s) (between false) stack os d ≡ opening (drop (place + 1) s) v stack os d (count_ok v)
       unfolding move said go
       opened k stack os d = (first w).same stack os d ∙ scan_at s place (num v) stack (os ++ []) d h ∙ simp (k, append-nil)
 
@@ -148,7 +149,8 @@ module _ {s : List ℕ} where
   wrong_start : {at place : ℕ} {r : Beginning} → r ≡ Err place → Faults s at (between false) 10 place → StartSays s at r
   wrong_start {at} q f = subst (StartSays s at) (sym q) f
 
-  offer_start : {at p place : ℕ} → Whole s at p place → place < length s → kind_of (get_or s place 0) ≡ Offer → (x : Digits) → NumberAtSays s (place + 1) x → StartSays s at (offer_of p x)
+  offer_start : {at p place : ℕ} → Whole s at p place → place < length s → kind_of (get_or s place 0) ≡ Offer
+      → (x : Digits) → NumberAtSays s (place + 1) x → StartSays s at (offer_of p x)
   offer_start w h e (Ok (k, next)) x = offer_once w h e x
   offer_start {p = p} w h e (Err place) x = then_fault (to_offer w h e) (offer_none p x)
 

@@ -1,6 +1,6 @@
 -- Laws of the readers of items and of groups: what is read is kept, once for each turn.
 use Prim.Native.Nat.{ℕ, ◌-◌, ◌≤◌}
-use mathlib.Core.Path.{◌≡◌, subst, ◌∙◌}
+use mathlib.Core.Path.{◌≡◌, subst}
 use Rattle.std.specs.Prelude.{Ok}
 use mathlib.Core.List.{List, [], ◌∷◌, ◌++◌}
 use mathlib.Core.Bool.{false}
@@ -40,11 +40,6 @@ keeps_then h x y f g = record {
   again = standing_then x.again y.again;
   lists = lists_then h x.lists y.lists;
 }
-
--- a fault after entries
-pub spoilt_then : {s list list₁ list₂ : List ℕ} {from mid : ℕ} {P : List Entry → Type 0} {Q : List ℕ → Type 0} {A B : Type 0}
-    → Keeps s list list₁ from mid P Q → Spoilt list₁ list₂ A → ((es : List Entry) → P es → A → B) → Spoilt list list₂ B
-spoilt_then x y f = record { is = f x.says x.read y.is; lent = y.lent ∙ x.lists.entries.lent }
 
 -- a fault that shows after entries
 pub spoilt_by : {s list list₁ : List ℕ} {from to : ℕ} {P : List Entry → Type 0} {Q : List ℕ → Type 0} {B : Type 0}

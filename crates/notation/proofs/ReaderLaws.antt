@@ -15,7 +15,8 @@ use Rattle.notation.specs.declared.Follow.TheVariants.{Item, Shut, End}
 use Rattle.notation.specs.Bytes.{kind_of, is_gap}
 use Rattle.notation.specs.Grammar.{digit_ok, count_ok}
 use Rattle.notation.specs.Readers as D
-use Rattle.notation.specs.Readers.{Counts, NotHeaded, Beginning, Following, NoneAt, ends, other, Whole, Ended, NotEnded, Signed, Begins, BeginSays, Gapped, Skipped, behind_of, Behind, BehindGaps, After, Follows}
+use Rattle.notation.specs.Readers.{Counts, NotHeaded, Beginning, Following, NoneAt, ends, other, Whole, Ended, NotEnded}
+use Rattle.notation.specs.Readers.{Signed, Begins, BeginSays, Gapped, Skipped, behind_of, Behind, BehindGaps, After, Follows}
 use Rattle.notation.specs.Cursor.{DigitAt}
 use Rattle.notation.proofs.KindLaws.{stray, gap_stray, unsigned, digit_small, ok_small}
 use Rattle.notation.proofs.NumberLaws.{below_or}

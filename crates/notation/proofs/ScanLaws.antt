@@ -129,5 +129,6 @@ module _ {s : List ℕ} where
   pub numbered : {at v next : ℕ} {m : Mode} {f : ℕ → Mode} → Leads m f → Gathers f → Whole s at v next → Goes s at m next (f v) []
   numbered {at} {m = m} {f = f} l g w = then (byte m (f w.d) (Digit w.d) [] at w.here w.is (l.moves w.d) (l.says w.d)) (counted f g (omega (arith, w.here)) w.numbered.counts)
 
-  pub no_number : {at d place : ℕ} {m : Mode} {f : ℕ → Mode} → Leads m f → Gathers f → at < length s → kind_of (get_or s at 0) ≡ Digit d → StrayDigit s (at + 1) d place → Faults s at m 10 place
+  pub no_number : {at d place : ℕ} {m : Mode} {f : ℕ → Mode} → Leads m f → Gathers f → at < length s
+      → kind_of (get_or s at 0) ≡ Digit d → StrayDigit s (at + 1) d place → Faults s at m 10 place
   no_number {at} {d} {m = m} {f = f} l g h e x = then_fault (byte m (f d) (Digit d) [] at h e (l.moves d) (l.says d)) (strayed f g (omega arith) x)

@@ -113,7 +113,8 @@ here s m stack os d = let r = complete m stack os d in record { rest = r.rest; s
 
 -- a fault at the first byte
 pub now_bad : (b : ℕ) (l : List ℕ) (m : Mode) (stack : List Frame) (os : List Entry) (d k : ℕ) → k ≡ 10
-    → ((t : List ℕ) (stack' : List Frame) (os : List Entry) (d : ℕ) → length stack' ≡ length stack → is_end (scan (b ∷ t) m stack' os d) ≡ false) → ScanPlaced (b ∷ l) m stack os d k (suc (length l))
+    → ((t : List ℕ) (stack' : List Frame) (os : List Entry) (d : ℕ) → length stack' ≡ length stack → is_end (scan (b ∷ t) m stack' os d) ≡ false)
+    → ScanPlaced (b ∷ l) m stack os d k (suc (length l))
 now_bad b l m stack os d k e h = record { at = 0; left_is = omega arith; hope = here (b ∷ l) m stack os d; why = broken e (omega arith) h }
 
 -- the reading goes on with the next byte
@@ -200,7 +201,8 @@ suc_inj : {a b : ℕ} → suc a ≡ suc b → a ≡ b
 suc_inj q = omega arith
 
 module _ (b : ℕ) (m : Mode) (n : ℕ) (e : move m (kind_of b) ≡ enter n) where
-  entering : (x : List ℕ) (stack : List Frame) (os : List Entry) (d : ℕ) → count_ok n ≡ true → scan (b ∷ x) m stack os d ≡ entered (scan x) (suc (length x)) n stack (os ++ said m (kind_of b)) d
+  entering : (x : List ℕ) (stack : List Frame) (os : List Entry) (d : ℕ) → count_ok n ≡ true
+      → scan (b ∷ x) m stack os d ≡ entered (scan x) (suc (length x)) n stack (os ++ said m (kind_of b)) d
   unfolding go
   entering x stack os d c = first b x m stack os d (enter n) e ∙ ap (opening x n stack (os ++ said m (kind_of b)) d) c
 
@@ -249,7 +251,8 @@ module _ (b : ℕ) (m : Mode) (e : move m (kind_of b) ≡ leave) where
   leaving x f stack os d = first b x m (f ∷ stack) os d leave e
 
   drop_out : (x : List ℕ) (stack stack' : List Frame) (os : List Entry) (d : ℕ) → length stack' ≡ suc (length stack)
-      → ((stack'' : List Frame) (os' : List Entry) (d' : ℕ) → length stack'' ≡ length stack → is_end (scan x done stack'' os' d') ≡ false) → is_end (scan (b ∷ x) m stack' os d) ≡ false
+      → ((stack'' : List Frame) (os' : List Entry) (d' : ℕ) → length stack'' ≡ length stack → is_end (scan x done stack'' os' d') ≡ false)
+      → is_end (scan (b ∷ x) m stack' os d) ≡ false
   drop_out x stack [] os d q h = absurd (zero≢suc q)
   drop_out x stack (f ∷ stack') os d q h = ap is_end (leaving x f stack' os d) ∙ h stack' (f.before ++ times f.count (os ++ said m (kind_of b))) f.room (suc_inj q)
 
@@ -269,15 +272,21 @@ module _ (b : ℕ) (m : Mode) (e : move m (kind_of b) ≡ leave) where
           (λ t. ap is_end (leaving (take (suc p.at) l ++ t) f stack os d) ∙ h t)
           (record { rest = g.rest; says = g.says; right = leaving (take (suc p.at) l ++ g.rest) (lift f) (map lift stack) os (suc d) ∙ g.right })
 
-lone_close : (b : ℕ) (m : Mode) → move m (kind_of b) ≡ leave → (t : List ℕ) (stack : List Frame) (os : List Entry) (d : ℕ) → length stack ≡ 0 → is_end (scan (b ∷ t) m stack os d) ≡ false
+lone_close : (b : ℕ) (m : Mode) → move m (kind_of b) ≡ leave
+    → (t : List ℕ) (stack : List Frame) (os : List Entry) (d : ℕ) → length stack ≡ 0
+    → is_end (scan (b ∷ t) m stack os d) ≡ false
 unfolding go
 lone_close b m e t [] os d q = ap is_end (first b t m [] os d leave e)
 lone_close b m e t (f ∷ stack) os d q = absurd (zero≢suc (sym q))
 
+-- wherever the reading of l stops, it has told the right place
+abbrev AllPlaced : List ℕ → Type 0
+AllPlaced l = (m : Mode) (stack : List Frame) (os : List Entry) (d : ℕ) → let x = scan l m stack os d in
+    is_end x ≡ false → ScanPlaced l m stack os d (number_of x) (left_of x)
+
 step : (b : ℕ) (l : List ℕ) (m : Mode) (stack : List Frame) (os : List Entry) (d : ℕ) (mv : Move) → move m (kind_of b) ≡ mv
-    → ((m : Mode) (stack : List Frame) (os : List Entry) (d : ℕ) → is_end (scan l m stack os d) ≡ false → ScanPlaced l m stack os d (number_of (scan l m stack os d)) (left_of (scan l m stack os d)))
-    → is_end (go (scan l) l mv stack (os ++ said m (kind_of b)) d) ≡ false → ScanPlaced (b ∷ l) m stack os d (number_of (go (scan l) l mv stack (os ++ said m (kind_of b)) d))
-    (left_of (go (scan l) l mv stack (os ++ said m (kind_of b)) d))
+    → AllPlaced l → let x = go (scan l) l mv stack (os ++ said m (kind_of b)) d in
+    is_end x ≡ false → ScanPlaced (b ∷ l) m stack os d (number_of x) (left_of x)
 unfolding go
 step b l m stack os d (to m') e ih h = on_to b l m stack os d _ _ m' e (ih m' stack (os ++ said m (kind_of b)) d h)
 step b l m stack os d (enter n) e ih h = counted (count_ok n) refl d h

@@ -83,7 +83,9 @@ module _ (f : ℕ → Place) (stop : ℕ) (out : ℕ → Next) (v : ℕ) (b : Li
   unfolding on_digit
   digit_then d h = either (λ (x : Next). Then x b c) (digit_ok v d) (goes (f (v * 10 + d))) breaks h (λ e. tt)
 
-  inside_then : (k : Kind) → Byte c k → ((d : ℕ) → Byte c (Digit d) → digit_ok v d ≡ true → Stands (f (v * 10 + d)) (b ++ c ∷ [])) → (c ≡ stop → Then (out v) b c) → Then (inside f stop out v c k) b c
+  inside_then : (k : Kind) → Byte c k
+      → ((d : ℕ) → Byte c (Digit d) → digit_ok v d ≡ true → Stands (f (v * 10 + d)) (b ++ c ∷ []))
+      → (c ≡ stop → Then (out v) b c) → Then (inside f stop out v c k) b c
   unfolding inside
   inside_then (Digit d) e h s = digit_then d (h d e)
   inside_then Gap e h s = either (λ (x : Next). Then x b c) (eqb c stop) (out v) breaks (λ t. s (eqb-true _ _ t)) (λ t. tt)

@@ -259,9 +259,12 @@ finish top (offer_num p v) b os es s h = record {
 }
 finish top done b os es s h = record { tree = G.items s.i [] G.none; text = append-nil (items_bytes s.i) ∙ sym s.text; saying = sym s.saying ∙ end_same h }
 
-ends : (top : ℕ) (m : Mode) (stack : List Frame) (p b : List ℕ) (os es : List Entry) (d : ℕ) → Opened top stack p d → Stands d m b os → at_end m stack os ≡ end es → Is top (p ++ (b ++ [])) es
+ends : (top : ℕ) (m : Mode) (stack : List Frame) (p b : List ℕ) (os es : List Entry) (d : ℕ) → Opened top stack p d
+    → Stands d m b os → at_end m stack os ≡ end es → Is top (p ++ (b ++ [])) es
 unfolding at_end
-ends top m [] p b os es d o s h = subst (λ (x : List ℕ). Is top x es) (sym (ap (λ (q : List ℕ). q ++ (b ++ [])) o.0 ∙ append-nil b)) (finish top m b os es (subst (λ (e : ℕ). Stands e m b os) o.1 s) h)
+ends top m [] p b os es d o s h =
+    let bytes = ap (λ (q : List ℕ). q ++ (b ++ [])) o.0 ∙ append-nil b in
+    subst (λ (x : List ℕ). Is top x es) (sym bytes) (finish top m b os es (subst (λ (e : ℕ). Stands e m b os) o.1 s) h)
 ends top m (f ∷ stack) p b os es d o s h = absurd (fault_end h)
 
 -- a group that is closed is an item of what is around it

@@ -9,7 +9,7 @@ use lib.Dec.{eqb}
 use lib.ListN.{length, drop, get_or}
 use lib.Seq.{drop-cons, drop-length}
 use Rattle.positions.specs.declared.Seen.{Seen}
-use Rattle.positions.specs.Positions.{on_byte, seen_from, counted, Small}
+use Rattle.positions.specs.Positions.{on_byte, seen_from, counted}
 
 -- no count is above the bytes passed
 pub record Passed (i : ℕ) (s : Seen) : Type 0 where
@@ -29,9 +29,6 @@ pub passed_more : (i b : ℕ) (s : Seen) → Passed i s → Passed (i + 1) (on_b
 unfolding on_byte
 passed_more i b s p = record
     { feeds = counted_most i s.feeds (eqb b 10) p.feeds; since = since_most i s.since (eqb b 10) p.since; spaces = counted_most i s.spaces (eqb b 32) p.spaces }
-
-pub small : {i n : ℕ} {s : Seen} → Passed i s → i < n → n ≤ 18446744073709551615 → Small s
-small p h f = record { feeds = omega (arith, p.feeds); since = omega (arith, p.since); spaces = omega (arith, p.spaces) }
 
 -- what is left to look at, one byte further on
 pub one_further : (bs : List ℕ) (i : ℕ) (s : Seen) → i < length bs → seen_from (drop i bs) s ≡ seen_from (drop (i + 1) bs) (on_byte (get_or bs i 0) s)

@@ -15,7 +15,7 @@ use Rattle.llsc.specs.Rows.{first, row1, row2, row4, row8, row9}
 use Rattle.model.specs.Refusals.{row3, row5, row6, row7}
 use Rattle.llsc.specs.Rows.{brings_value}
 use Rattle.model.specs.Refusals.{in_range, process_ok, buffer_ok, sequence_ok, x_ok, line_ok, count_ok, is_idle}
-use Rattle.rows.specs.CommandRows.{lent_number, ranges_ok, decision_number, late_number, InOrder}
+use Rattle.rows.specs.CommandRows.{ranges_ok, decision_number, late_number, InOrder}
 use Rattle.laws.proofs.AndLaws.{left, right}
 
 -- a row that does not hold is passed, one that does answers
@@ -53,20 +53,10 @@ pub record LentInOrder (n w records words : ℕ) : Type 0 where
   pub words_lent : lent_words n w ≤ words
   pub records_lent : n ≤ records
 
-answers_first : (a b c : Bool) (rest : ℕ) → (◌≡◌ {A = ℕ} (cond a 1 (cond b 2 (cond c 3 0))) 0 → ⊥) → cond a 1 (cond b 2 (cond c 3 0)) ≡ cond a 1 (cond b 2 (cond c 3 rest))
-answers_first true b c rest h = refl
-answers_first false true c rest h = refl
-answers_first false false true rest h = refl
-answers_first false false false rest h = absurd (h refl)
-
 module _ (n w records words : ℕ) where
   -- rows 1, 2, 3 before rows that say `rest`
   abbrev lent_then : ℕ → ℕ
   lent_then rest = cond (row1 n).holds 1 (cond (row2 w).holds 2 (cond (row3 n w records words).holds 3 rest))
-
-  pub lent_answers : (rest : ℕ) → (lent_number n w records words ≡ 0 → ⊥) → lent_number n w records words ≡ lent_then rest
-  unfolding lent_number
-  lent_answers rest h = answers_first (row1 n).holds (row2 w).holds (row3 n w records words).holds rest h
 
   pub record LentPassed (rest : ℕ) : Type 0 where
     pub row_1 : (row1 n).holds ≡ false
@@ -81,10 +71,6 @@ module _ (n w records words : ℕ) where
       let c2 = cleared (row2 w).holds 1 r3 c1.1 in
       let c3 = cleared (row3 n w records words).holds 2 rest c2.1 in
       record { row_1 = c1.0; row_2 = c2.0; row_3 = c3.0; others = c3.1 }
-
-  pub lent_passed : {r rest : ℕ} → lent_number n w records words ≡ 0 → r ≡ rest → r ≡ lent_then rest
-  unfolding lent_number
-  lent_passed e h = let l = none_of_three 0 e in over _ 1 l.row_1 (over _ 2 l.row_2 (over _ 3 l.row_3 h))
 
   in_order : {rest : ℕ} → LentPassed rest → LentInOrder n w records words
   in_order l =

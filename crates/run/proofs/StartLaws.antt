@@ -115,7 +115,9 @@ module _ {len : ℕ} {list : List ℕ} (t : Bool) (held : Held) (ws : List ℕ) 
     }
 
     -- what the code holds after its set-up
-    pub first_state_is : {r : Run Held} {b' : Bench} {all' : List Process} {ws' value : List ℕ} → r ≡ fresh_run (record { bench = b'; all = all' }) t → b' ≡ bench_at_set_up held.bench n w → all' ≡ records_at_set_up held.all n
+    pub first_state_is : {r : Run Held} {b' : Bench} {all' : List Process} {ws' value : List ℕ}
+        → r ≡ fresh_run (record { bench = b'; all = all' }) t → b' ≡ bench_at_set_up held.bench n w
+        → all' ≡ records_at_set_up held.all n
         → ws' ≡ words_at_set_up ws n w (take w value) → value ≡ replicate 64 k → state_with r 0 ws' list 0 ≡ first
     first_state_is {value = value} er eb ea ew ev =
         let v : take w value ≡ replicate w k = ap (take w) ev ∙ take_replicate w 64 k accepted.w_most in

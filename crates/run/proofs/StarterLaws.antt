@@ -21,13 +21,9 @@ use Rattle.entry.specs.declared.state.Held.{Held}
 use Rattle.entry.specs.RunState.{RunState, state_with, state_of, progress, Filled, Sound}
 use Rattle.text_runs.specs.Runs.{last_room, fresh_run}
 use Rattle.whole_runs.specs.Whole.{Prepared}
-use Rattle.entry.proofs.WordLaws.{take_replicate}
 use Rattle.run.specs.Finished.{memory_of, Lending}
 use Rattle.run.proofs.StartLaws as S
 use Rattle.run.proofs.StartLaws.{number_small, set_up_same}
-
-pub prefix_is : {w k : ℕ} {value : List ℕ} → w ≤ 64 → value ≡ replicate 64 k → take w value ≡ replicate w k
-prefix_is {w} {k} h e = ap (take w) e ∙ take_replicate w 64 k h
 
 module _ (f : First) (held : Held) (len : ℕ) (ws : List ℕ) (few : len ≤ 16) (filled : Filled len held.all) where
   abbrev lent : Memory

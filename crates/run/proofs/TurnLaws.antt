@@ -1,15 +1,10 @@
 -- An entry of a run, over what the code has in its hands: its process, the record and the places taken out.
 use mathlib.Core.Path.{◌≡◌, refl, sym, ap, subst, ◌∙◌}
-use mathlib.Core.Bool.{Bool, true, false, cond}
 use mathlib.Core.List.{List}
-use Prim.Native.Nat.{ℕ, ◌+◌, ◌-◌, ◌≤◌, ◌<◌}
+use Prim.Native.Nat.{ℕ, ◌+◌, ◌-◌, ◌<◌}
 use native.Mathlib.Omega.{arith}
-use lib.Dec.{ltb}
 use lib.ListN.{length, get_or, set, take}
-use borrow.Author.Tests.{ltb-true, eq-eqb}
-use Rattle.std.specs.Prelude.{Result, Ok, Err}
-use Rattle.llsc.specs.declared.refusals.Refusal.{Refusal}
-use Rattle.llsc.specs.Refusals.{number_told}
+use borrow.Author.Tests.{eq-eqb}
 use Rattle.model.specs.declared.SequenceNumber.{SequenceNumber}
 use Rattle.llsc.specs.declared.ProcessNumber.{ProcessNumber}
 use Rattle.model.specs.declared.Bench.{Bench}
@@ -32,20 +27,7 @@ use Rattle.whole_runs.specs.Carrying.{gone_on}
 use Rattle.semantics.specs.TextRun.{figure2, Progress, single}
 use Rattle.entry.specs.RunState.{RunState, state_with, state_of, progress, Sound, Becomes, Small}
 use Rattle.entry.specs.Turned.{refusal_of, place_of, Turnable, Turns, stays_at}
-use Rattle.entry.proofs.EntryLaws.{entry_refused, entry_ready, place_same, one_more_small, entry_turnable, entry_made, own_line}
-
--- what the reply of a refusal says of its number
-pub not_refused : (r : Result (Unit {0}) Refusal) {k : ℕ} → number_told r ≡ k → ((x : Refusal) → r ≡ Err x → ⊥) → k ≡ 0
-not_refused (Ok x) e n = sym e
-not_refused (Err x) e n = absurd (n x refl)
-
--- the place of a record is one of sixteen
-pub place_small : (p : ℕ) {place : ℕ} {k : ProcessNumber} → k ≡ record { 0 = place_of p } → place ≡ k.0 → place < 16
-place_small p {place} {k} e d = pick (ltb p 16) refl (d ∙ ap (λ (y : ProcessNumber). y.0) e)
-  where
-    pick : (t : Bool) → ltb p 16 ≡ t → place ≡ cond t p 0 → place < 16
-    pick true x f = omega (arith, f, ltb-true p 16 x)
-    pick false x f = omega (arith, f)
+use Rattle.entry.proofs.EntryLaws.{entry_refused, entry_ready, place_same, entry_turnable, entry_made, own_line}
 
 -- the places taken out, by the places in their tables
 pub taken_at_lem : (b : Bench) {i : SequenceNumber} {j : ProcessNumber} {bank help : ℕ} {places : Taken} → bank ≡ i.0 → help ≡ j.0
@@ -120,9 +102,6 @@ module _ {len n w needed p : ℕ} {k : ProcessNumber} {h : RunState} {e : Entry}
 
     ready : Ready b.n b.w own (record { 0 = process_of e }) h.words
     ready = entry_ready e x.small x.sound x.goes x.needed_is free
-
-    pub turn_more : h.run.entries + 1 ≤ 60000
-    turn_more = one_more_small e x.small x.sound x.goes x.needed_is free
 
     own_number : k ≡ record { 0 = process_of e }
     own_number = x.number_is ∙ ap (λ (i : ℕ). record { 0 = i }) (ap place_of x.process_is ∙ place_same e x.small x.sound x.goes x.needed_is free)

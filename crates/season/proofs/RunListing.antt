@@ -26,7 +26,7 @@ use Rattle.semantics.specs.TextRun.{Progress, stopped, line_of, trace_line, line
 use Rattle.entry.proofs.WordLaws.{Below}
 use Rattle.entry.proofs.SingleLaws.{value_every}
 use Rattle.answers.specs.Shape as G
-use Rattle.answers.specs.Shape.{largest, longest_listing, Answer, Fits, AllFit, no_lines, line, Last, LastFits, end_fits, refused_fits, Shaped, Right}
+use Rattle.answers.specs.Shape.{largest, longest_listing, Answer, Fits, AllFit, no_lines, line, Last, LastFits, end_fits, refused_fits, Right}
 use Rattle.answers.proofs.ChoiceLaws.{either}
 use Rattle.season.proofs.CommandLines.{Adds, nothing, answer, Left, left}
 

@@ -59,7 +59,8 @@ module _ (t : List Process) where
   same_lines s h e below out =
       ap₂ (λ (a : Access) (l : List ℕ). cond s.traced (entry_line (s.entries + 1) a e out.0) [] ++ l) (same_access s.memory h (process_of e) below) (same_line out.1 (process_of e) out.0)
 
-  reply_frame : (s : Progress) → Sixteen s → (e : Entry) (out : Reply × Memory) → (number_of out.0 ≡ 0 → process_of e < 16) → replied (longer t s) e (behind t out) ≡ longer t (replied s e out)
+  reply_frame : (s : Progress) → Sixteen s → (e : Entry) (out : Reply × Memory)
+      → (number_of out.0 ≡ 0 → process_of e < 16) → replied (longer t s) e (behind t out) ≡ longer t (replied s e out)
   reply_frame s h e out below = go (eqb (number_of out.0) 0) refl
     where
       go : (b : Bool) → eqb (number_of out.0) 0 ≡ b → cond b

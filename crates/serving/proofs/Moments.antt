@@ -97,7 +97,8 @@ module _ (M : ℕ) where
   insert_like i t h p none = more (new i t p) none
   insert_like i t h p (more {u} {r} {us} {rs} a b) = rw (same_test i t u r h p a) (go (leb u.moment t.moment) (insert_like i t h p b))
     where
-      go : (c : Bool) → AllLike (suc i) (insert t us) (insert (retimed i t) rs) → AllLike (suc i) (cond c (u ∷ insert t us) (t ∷ u ∷ us)) (cond c (r ∷ insert (retimed i t) rs) (retimed i t ∷ r ∷ rs))
+      go : (c : Bool) → AllLike (suc i) (insert t us) (insert (retimed i t) rs)
+          → AllLike (suc i) (cond c (u ∷ insert t us) (t ∷ u ∷ us)) (cond c (r ∷ insert (retimed i t) rs) (retimed i t ∷ r ∷ rs))
       go true d = more (like_suc a) d
       go false d = more (new i t p) (all_like_suc (more a b))
 

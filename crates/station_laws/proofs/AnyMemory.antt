@@ -49,7 +49,9 @@ module _ (N W : ℕ) (h_w : 0 < halves W) (k : ℕ) (m m' : Memory) (z : State) 
 events_same : (N W : ℕ) (h_w : 0 < halves W) (cs : List Command) (k : ℕ) (m m' : Memory) (z : State) → Holds N W h_w k m z → Holds N W h_w k m' z → events m cs ≡ events m' cs
 unfolding events
 events_same N W h_w [] k m m' z h h' = refl
-events_same N W h_w (c ∷ cs) k m m' z h h' = ap₂ ◌∷◌ (event_same N W h_w k m m' z h h' c) (events_same N W h_w cs (suc k) _ _ _ (holds_after N W h_w k m z h c) (holds_after N W h_w k m' z h' c))
+events_same N W h_w (c ∷ cs) k m m' z h h' =
+    let after = holds_after N W h_w k m z h c in let after' = holds_after N W h_w k m' z h' c in
+    ap₂ ◌∷◌ (event_same N W h_w k m m' z h h' c) (events_same N W h_w cs (suc k) _ _ _ after after')
 
 pub any_memory : (m m' : Memory) → Shaped m → Shaped m' → (n w : ℕ) (value : List ℕ) → 0 < halves w → (set_up m n w value).0 ≡ 0 → (set_up m' n w value).0 ≡ 0
     → (cs : List Command) → events (set_up m n w value).1 cs ≡ events (set_up m' n w value).1 cs

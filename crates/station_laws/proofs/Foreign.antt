@@ -36,7 +36,8 @@ use Rattle.station_laws.proofs.PutBack.{tables_other, process_other, process_put
 use Rattle.station_laws.proofs.Agrees.{station, WordsFor, Agrees, return_stays, offer_stays, buffer_stays}
 
 -- a number of the open call, seen from a record that the command is not about: 0 before it, and 0 after it
-before_it : (b rest : Bool) (k l i v : ℕ) → (b ≡ true → rest ≡ true) → (b ≡ false → rest ≡ false) → (rest ≡ true → v ≡ 0) → (i ≡ cond b k l → ⊥) → cond (not rest && not (eqb l i)) 0 v ≡ 0
+before_it : (b rest : Bool) (k l i v : ℕ) → (b ≡ true → rest ≡ true) → (b ≡ false → rest ≡ false)
+    → (rest ≡ true → v ≡ 0) → (i ≡ cond b k l → ⊥) → cond (not rest && not (eqb l i)) 0 v ≡ 0
 before_it true rest k l i v x y z ne = rw (x refl) (z (x refl))
 before_it false rest k l i v x y z ne = rw (y refl, ne_eqb l i (λ e. ne (sym e)))
 

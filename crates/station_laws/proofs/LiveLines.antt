@@ -186,4 +186,6 @@ module _ (N W p T T' : ℕ) (L L' : Layout) (hp : p < N) (x : XPlace) (ks : List
   obey_alike StartLl v y s k f hb hc hd he h_b l = subst (Begun StartLl v) (s refl) (start_alike StartLl v refl k) l
   obey_alike StartSc v y s k f hb hc hd he h_b l = subst (Begun StartSc v) (s refl) (start_alike StartSc v refl k) l
   obey_alike StartVl v y s k f hb hc hd he h_b l = subst (Begun StartVl v) (s refl) (start_alike StartVl v refl k) l
-  obey_alike Step v y s k f hb hc hd he h_b l = subst (λ z. Alike N W p T T' L L' y (stepped_in L z me at (q y) ws) (stepped_in L' z me at (u y) ws')) (sym (point_of_lem y)) (step_alike y f hb hc hd he h_b l)
+  obey_alike Step v y s k f hb hc hd he h_b l =
+      subst (λ z. Alike N W p T T' L L' y (stepped_in L z me at (q y) ws) (stepped_in L' z me at (u y) ws')) (sym (point_of_lem y))
+      (step_alike y f hb hc hd he h_b l)

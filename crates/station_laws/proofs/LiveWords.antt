@@ -192,7 +192,8 @@ module _ (N W p : ℕ) (hp : p < N) where
         far' : (q j : ℕ) → j < W → (q ≡ l'.buffer i → j ≡ word_of k → ⊥) → cell W (put W ws' (l'.buffer i) k u') q j ≡ cell W ws' q j
         far' = word_other W ws' (l'.buffer i) (word_of k) v' hw
 
-        go : (q j : ℕ) → q < buffers N → j < W → Split q i → Split j (word_of k) → cell W (put W ws (l.buffer i) k u) (l.buffer q) j ≡ cell W (put W ws' (l'.buffer i) k u') (l'.buffer q) j
+        go : (q j : ℕ) → q < buffers N → j < W → Split q i → Split j (word_of k)
+            → cell W (put W ws (l.buffer i) k u) (l.buffer q) j ≡ cell W (put W ws' (l'.buffer i) k u') (l'.buffer q) j
         go q j hq hj (same x) (same y) =
             rw (x, y) (word_set T W ws a.len (l.buffer i) (word_of k) v hw (a.rows.buffer_below i hi) ∙ alike
             ∙ sym (word_set T' W ws' a.len' (l'.buffer i) (word_of k) v' hw (a.rows'.buffer_below i hi)))

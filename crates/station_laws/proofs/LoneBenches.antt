@@ -33,7 +33,8 @@ module _ (s : StationMemory) (shaped : StationShaped s) (n w r : ℕ) (value : L
   abbrev pub lone : RecordNumber → Memory
   lone j = (set_up (lent_alone s j n w) n w value).1
 
-  pub inv : (cs : List StationOrder) → Inv n w r (h_w s shaped n w r value e) (number_after n w r (h_w s shaped n w r value e) 1 cs) (station_after begun cs) (λ j. after (lone j) (given_all j begun cs))
+  pub inv : (cs : List StationOrder)
+      → Inv n w r (h_w s shaped n w r value e) (number_after n w r (h_w s shaped n w r value e) 1 cs) (station_after begun cs) (λ j. after (lone j) (given_all j begun cs))
   inv cs = inv_after n w r (h_w s shaped n w r value e) cs 1 _ _ (set_up_inv s shaped n w r value e)
 
   pub saw : (cs : List StationOrder) (j : RecordNumber) → j.0 < r → seen_all j begun cs ≡ events (lone j) (given_all j begun cs)

@@ -57,7 +57,8 @@ use Rattle.station_laws.proofs.PutBack.{process_back, tables_back, process_other
 use Rattle.station_laws.proofs.Agrees.{station, WordsFor, Agrees, shape, return_stays, offer_stays, return_alone, offer_alone}
 
 -- no row from 4 on holds
-none_late : (o : Order) (i r l : Bool) → (is_start o ≡ true → i ≡ true) → (is_start o ≡ false → i ≡ false) → (needs_ll o ≡ true → r ≡ true) → (brings_value o ≡ true → l ≡ true) → late false o i r l ≡ 0
+none_late : (o : Order) (i r l : Bool) → (is_start o ≡ true → i ≡ true) → (is_start o ≡ false → i ≡ false)
+    → (needs_ll o ≡ true → r ≡ true) → (brings_value o ≡ true → l ≡ true) → late false o i r l ≡ 0
 none_late StartLl i r l a b c d = rw (a refl)
 none_late StartSc i r l a b c d = rw (a refl, c refl, d refl)
 none_late StartVl i r l a b c d = rw (a refl, c refl)
@@ -268,7 +269,9 @@ module _ (N W R : ℕ) (ts : List Tables) (ps : List StationProcess) (ws : List 
         )
 
     -- the answers
-    says_same : (r r' : Reply) → r ≡ r' → (answers_ll r ≡ true → return_area_of after me ≡ return_area alone.bench.n alone.bench.w me alone.words) → station_says after p r ≡ says alone me r'
+    says_same : (r r' : Reply) → r ≡ r'
+        → (answers_ll r ≡ true → return_area_of after me ≡ return_area alone.bench.n alone.bench.w me alone.words)
+        → station_says after p r ≡ says alone me r'
     says_same r r' i t = subst (λ u. station_says after p r ≡ says alone me u) i (go r t)
       where
         go : (r : Reply) → (answers_ll r ≡ true → return_area_of after me ≡ return_area alone.bench.n alone.bench.w me alone.words) → station_says after p r ≡ says alone me r

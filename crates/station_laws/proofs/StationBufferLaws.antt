@@ -58,7 +58,9 @@ module _ (N W R : ℕ) (h_w : 0 < halves W) (k : ℕ) (s : StationMemory) (ms : 
 
   pub held_same : held (project s j) N ≡ held (ms j) N
   held_same =
-      ap₂ ◌++◌ (map_numbers (kept (project s j)) (kept (ms j)) 0 (sequence_numbers N) (λ i x. kept_same i)) (map_numbers (owned (project s j)) (owned (ms j)) 0 N (λ p x. owned_same p (omega arith)))
+      ap₂ ◌++◌
+      (map_numbers (kept (project s j)) (kept (ms j)) 0 (sequence_numbers N) (λ i x. kept_same i))
+      (map_numbers (owned (project s j)) (owned (ms j)) 0 N (λ p x. owned_same p (omega arith)))
 
   pub buffer_same : (b : BufferNumber) → b.0 < buffers N → buffer_of s j b ≡ buffer_words (ms j) b
   buffer_same b hb =

@@ -41,7 +41,8 @@ every_numbers f r h =
     subst (λ n. f n ≡ true) (sym (numbers_at 0 r i k ∙ (let z : 0 + i ≡ i = omega arith in z))) (h i k))
 
 -- a conjunction with four other parts
-exchange : (a x b c d e r b' c' d' e' : Bool) → a && (x && (b && (c && (d && (e && r))))) ≡ true → b' ≡ true → c' ≡ true → d' ≡ true → e' ≡ true → a && (x && (b' && (c' && (d' && (e' && r))))) ≡ true
+exchange : (a x b c d e r b' c' d' e' : Bool) → a && (x && (b && (c && (d && (e && r))))) ≡ true → b' ≡ true → c' ≡ true
+    → d' ≡ true → e' ≡ true → a && (x && (b' && (c' && (d' && (e' && r))))) ≡ true
 exchange a x b c d e r b' c' d' e' h hb hc hd he =
     let h1 = and_true a _ h in let h2 = and_true x _ h1.1 in let h3 = and_true b _ h2.1 in let h4 = and_true c _ h3.1 in let h5 = and_true d _ h4.1 in let h6 = and_true e _ h5.1 in
     ap₂ ◌&&◌ h1.0 (ap₂ ◌&&◌ h2.0 (ap₂ ◌&&◌ hb (ap₂ ◌&&◌ hc (ap₂ ◌&&◌ hd (ap₂ ◌&&◌ he h6.1)))))
@@ -103,8 +104,12 @@ module _ (N W R : ℕ) (h_w : 0 < halves W) (k : ℕ) (s : StationMemory) (ms : 
 
   pub station_in_range_is : station_in_range s ≡ true
   unfolding station_in_range
-  station_in_range_is = ap₂ ◌&&◌ (every_numbers (λ j. bench_ok (bench_of s (record { 0 = j }))) s.r (λ j hj. bench_ok_is (record { 0 = j }) (let x = v.r in omega arith))) (rw (v.n, v.w, v.r) processes)
+  station_in_range_is = ap₂ ◌&&◌ benches (rw (v.n, v.w, v.r) processes)
     where
+      benches : every (λ j. bench_ok (bench_of s (record { 0 = j }))) (numbers 0 s.r) ≡ true
+      benches = every_numbers (λ j. bench_ok (bench_of s (record { 0 = j }))) s.r
+          (λ j hj. bench_ok_is (record { 0 = j }) (let x = v.r in omega arith))
+
       processes : every (station_process_ok N W R) (take N s.processes) ≡ true
       processes = every_true (station_process_ok N W R) no_station_process (take N s.processes) (λ p hp.
           let l = length-take-le N s.processes v.processes in let h : p < N = omega arith in

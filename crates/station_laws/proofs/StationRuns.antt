@@ -241,7 +241,8 @@ module _ (N W R : ℕ) (h_w : 0 < halves W) where
     step_event_is j hj = subst (λ (t : StationMemory). Inv k t ms → seen j t c ≡ event_of (ms j) (given j t c)) (sym form) (λ u. event_here k s.tables s.processes s.words ms u c j hj) v
 
   -- every list
-  pub all_events : (cs : List StationOrder) (k : ℕ) (s : StationMemory) (ms : RecordNumber → Memory) → Inv k s ms → (j : RecordNumber) → j.0 < R → seen_all j s cs ≡ events (ms j) (given_all j s cs)
+  pub all_events : (cs : List StationOrder) (k : ℕ) (s : StationMemory) (ms : RecordNumber → Memory) → Inv k s ms
+      → (j : RecordNumber) → j.0 < R → seen_all j s cs ≡ events (ms j) (given_all j s cs)
   unfolding seen_all given_all events
   all_events [] k s ms v j hj = refl
   all_events (c ∷ cs) k s ms v j hj = ap₂ ◌∷◌ (step_event_is k s ms v c j hj) (all_events cs (suc k) (station_command s c).1 _ (step_inv k s ms v c) j hj)
@@ -250,7 +251,8 @@ module _ (N W R : ℕ) (h_w : 0 < halves W) where
   number_after k [] = k
   number_after k (c ∷ cs) = number_after (suc k) cs
 
-  pub inv_after : (cs : List StationOrder) (k : ℕ) (s : StationMemory) (ms : RecordNumber → Memory) → Inv k s ms → Inv (number_after k cs) (station_after s cs) (λ j. after (ms j) (given_all j s cs))
+  pub inv_after : (cs : List StationOrder) (k : ℕ) (s : StationMemory) (ms : RecordNumber → Memory) → Inv k s ms
+      → Inv (number_after k cs) (station_after s cs) (λ j. after (ms j) (given_all j s cs))
   unfolding station_after given_all after
   inv_after [] k s ms v = v
   inv_after (c ∷ cs) k s ms v = inv_after cs (suc k) (station_command s c).1 _ (step_inv k s ms v c)

@@ -216,7 +216,9 @@ module _ (s : StationMemory) (shaped : StationShaped s) (n w r : ℕ) (value : L
         alone k hk =
             let z : 1 * w ≤ 5 * n * w = mul-le-mul_right w (let x = a.n_low in omega arith) in
             let g : length given ≡ 5 * n * w =
-            length-append value (replicate (5 * n * w - w) 0) ∙ ap₂ ◌+◌ a.value_length (length-replicate (5 * n * w - w) 0) ∙ (let q : w + (5 * n * w - w) ≡ 5 * n * w = omega arith in q) in
+            length-append value (replicate (5 * n * w - w) 0)
+            ∙ ap₂ ◌+◌ a.value_length (length-replicate (5 * n * w - w) 0)
+            ∙ (let q : w + (5 * n * w - w) ≡ 5 * n * w = omega arith in q) in
             let f = length-replicate (5 * n * w) zero in
             ap (λ (t : Memory). get_or t.words k 0) m_is ∙ sets_front given (replicate (5 * n * w) 0) k 0 (omega arith) (omega arith) ∙ pad value (5 * n * w - w) k
 

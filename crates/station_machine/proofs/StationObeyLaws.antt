@@ -154,10 +154,9 @@ module _ (s : Station) (list : List StationProcess) (len p : ℕ) (o : Order) (n
     pub taken_obeyable : length list ≡ 16 → number ≡ 0 → ObeyableIn f o (record { 0 = p }) value b u words
     taken_obeyable l e = rw (bench_at, seen_at) (obeyable l e rows_at)
 
-    pub taken_small : length list ≡ 16 → number ≡ 0 → i < 8
-    taken_small l e = rw record_is (record_small l e)
-
-    pub whole : {m : Moved} {ws : List ℕ} {r : Outcome} → number ≡ 0 → (m, ws) ≡ obey_in (layout_from f) o (record { 0 = p }) value b u words → r ≡ obeyed_outcome s (record { 0 = i }) q' m p
+    pub whole : {m : Moved} {ws : List ℕ} {r : Outcome} → number ≡ 0
+        → (m, ws) ≡ obey_in (layout_from f) o (record { 0 = p }) value b u words
+        → r ≡ obeyed_outcome s (record { 0 = i }) q' m p
         → ◌≡◌ {A = Decided} (Ok r, ws) (station_decided s list len p o named value words)
     whole {m} {ws} e h g =
         ap (λ (x : Outcome). (Ok x, ws)) g

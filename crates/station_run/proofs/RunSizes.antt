@@ -1,9 +1,9 @@
 -- A text run on a bench that is not set up: N stays 0 where it is refused before its set-up, and then all memory stays;
 -- else N is between 1 and 16, and so many process records are lent.
-use mathlib.Core.Path.{◌≡◌, refl, sym, ap, subst, ◌∙◌}
+use mathlib.Core.Path.{◌≡◌, refl, ◌∙◌}
 use mathlib.Core.Bool.{Bool, true, false, cond}
 use mathlib.Core.List.{List, [], ◌∷◌}
-use Prim.Native.Nat.{ℕ, zero, suc, ◌-◌, ◌≤◌, ◌<◌}
+use Prim.Native.Nat.{ℕ, zero, suc, ◌-◌, ◌≤◌}
 use native.Mathlib.Omega.{arith}
 use lib.Dec.{eqb, ltb, leb}
 use lib.ListN.{length, get_or, replicate}
@@ -33,8 +33,8 @@ use Rattle.notation.specs.Readings.{Reading, right, wrong}
 use Rattle.text_runs.specs.TextRun.{most_entries, room_needed, longest_text, process_of, order_of, value_of}
 use Rattle.text_runs.specs.TextRun as TR
 use Rattle.semantics.specs.TextRun.{Progress, stopped}
-use Rattle.semantics.specs.TextRun.{lines_of, counted, replied, commanded, single, unanswered, steps, finish, carry, carry_all}
-use Rattle.semantics.specs.TextRun.{Ended, ended, begun, started, carried_out, run_with}
+use Rattle.semantics.specs.TextRun.{lines_of, counted, single, unanswered, steps, finish, carry, carry_all}
+use Rattle.semantics.specs.TextRun.{ended, begun, started, carried_out, run_with}
 
 -- a command keeps N
 module _ (p : ProcessNumber) (b : Bench) (q : Process) (ws : List ℕ) where

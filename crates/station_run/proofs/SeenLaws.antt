@@ -1,9 +1,9 @@
 -- The processes as record 0 has them: gathered and then seen, or seen and then gathered.
 use mathlib.Core.Path.{◌≡◌, refl, sym, ap, ap₂, ◌∙◌}
 use mathlib.Core.List.{List, [], ◌∷◌, map}
-use Prim.Native.Nat.{ℕ, zero, suc, ◌+◌, ◌≤◌, ◌<◌}
+use Prim.Native.Nat.{ℕ, zero, suc, ◌<◌}
 use native.Mathlib.Omega.{arith}
-use lib.ListN.{length, get_or, set, take, replicate, length-take}
+use lib.ListN.{length, get_or, set, take, length-take}
 use lib.Seq.{get_or-take, ext_get_or}
 use Rattle.std.proofs.lemmas.List.{map-set}
 use Rattle.model.specs.declared.Process.{Process}

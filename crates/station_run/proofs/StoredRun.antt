@@ -3,12 +3,12 @@ use mathlib.Core.Path.{◌≡◌, refl, sym, ap, ap₂, subst, ◌∙◌}
 use mathlib.Core.Bool.{Bool, true, false, cond}
 use Rattle.std.specs.Prelude.{Option}
 use mathlib.Core.List.{List, ◌++◌, map}
-use Prim.Native.Nat.{ℕ, zero, suc, ◌+◌, ◌≤◌, ◌<◌}
+use Prim.Native.Nat.{ℕ, ◌+◌, ◌≤◌, ◌<◌}
 use native.Mathlib.Omega.{arith}
-use lib.Dec.{eqb, ltb}
+use lib.Dec.{eqb}
 use lib.ListN.{length, get_or, take, drop, length-map, length-take, get_or-append}
 use lib.Seq.{get_or-take}
-use borrow.Author.Tests.{eqb-true, eqb-false, le-ltb}
+use borrow.Author.Tests.{eqb-true, le-ltb}
 use Rattle.model.specs.declared.Bench.{Bench}
 use Rattle.model.specs.declared.Process.{Process}
 use Rattle.model.specs.Records.{no_process}
@@ -18,7 +18,7 @@ use Rattle.llsc.specs.Refusals.{number_told}
 use Rattle.entry.specs.declared.state.Held.{Held}
 use Rattle.text_runs.specs.declared.runs.Finished.{Finished}
 use Rattle.text_runs.specs.Returned.{holding}
-use Rattle.run.specs.Finished.{at_most_sixteen, memory_of, end_of, TextRan}
+use Rattle.run.specs.Finished.{at_most_sixteen, end_of, TextRan}
 use Rattle.semantics.specs.TextRun.{Ended, run_text}
 use Rattle.semantics_laws.proofs.TextFrame.{ended_longer, first_sixteen}
 use Rattle.station.specs.declared.Station.{Station}
@@ -31,7 +31,7 @@ use Rattle.lent.specs.Gathered.{gathered}
 use Rattle.station_records.specs.Gathered.{LentProcesses, processes_stored}
 use Rattle.station_records.proofs.StoredLaws.{stored_firsts}
 use Rattle.station_records.specs.declared.left.Left.{Left}
-use Rattle.station_run.specs.StationText.{record0, before_run, put_record, after_run, left_by, on_station, StationEnded, station_run_text}
+use Rattle.station_run.specs.StationText.{record0, before_run, put_record, left_by, on_station, StationEnded, station_run_text}
 use Rattle.station_run.specs.TextByValue.{bench_before, records_before, station_ran, put_at, put_back, ended_with, StationRan}
 use Rattle.station_run.proofs.RunSizes.{Sized, sized_run}
 use Rattle.station_run.proofs.SeenLaws.{gathered_few, gathered_again, seen_gathered}
@@ -121,7 +121,8 @@ module _ (s : Station) (ps : List StationProcess) (ws text list : List ℕ) (out
 
 -- so for whatever process records were lent, with what the code took out for the run, and what it put back
 module _ (s : Station) (all : List StationProcess) (len : ℕ) (ws text list : List ℕ) (out : Finished Held) (ws' list' : List ℕ) where
-  of_lent : TextRan false (record { bench = bench_before s; all = records_before all }) len ws text list out ws' list' → StationRan s all len ws text list (holding out (put_back s all out.held)) ws' list'
+  of_lent : TextRan false (record { bench = bench_before s; all = records_before all }) len ws text list out ws' list'
+      → StationRan s all len ws text list (holding out (put_back s all out.held)) ws' list'
   of_lent r = record { stored = of }
     where
       of : (ps : List StationProcess) → all ≡ gathered ps empty_process 16 → len ≡ length ps

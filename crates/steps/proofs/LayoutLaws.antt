@@ -1,32 +1,17 @@
--- The words that a step moves are lent: of one record alone, and of each step that is ready.
-use Prim.Native.Nat.{ℕ, ◌+◌, ◌*◌, ◌<◌, ◌≤◌}
+-- The words that a step that is ready moves are lent.
+use Prim.Native.Nat.{ℕ, ◌+◌, ◌<◌}
 use mathlib.Core.List.{List}
-use native.Mathlib.Nat.{mul-le-mul_right}
 use native.Mathlib.Omega.{arith}
 use lib.ListN.{length}
 use Rattle.model.specs.declared.BufferNumber.{BufferNumber}
 use Rattle.llsc.specs.declared.ProcessNumber.{ProcessNumber}
 use Rattle.model.specs.declared.Process.{Process}
-use Rattle.model.specs.Sizes.{buffers, rows_before_offers}
+use Rattle.model.specs.Sizes.{buffers}
 use Rattle.model.specs.Words.{buffer_in, return_in, offer_in, word_of}
 use Rattle.words.specs.declared.layouts.FirstRows.{FirstRows}
-use Rattle.words.specs.Layouts.{layout_from, OneRecord}
+use Rattle.words.specs.Layouts.{layout_from}
 use Rattle.words.proofs.WordLaws.{within}
-use Rattle.taken.specs.Ranges.{Lent, Ready}
-use Rattle.steps.specs.Layouts.{Placed, ReadyIn, Moves}
-
--- the rows of one record alone are among the 5N that are lent
-one_placed : {n w : ℕ} {p : ProcessNumber} {f : FirstRows} {ws : List ℕ} → OneRecord n w f → Lent n w p ws → Placed f n ws
-one_placed {n} {w} {p} {f} {ws} o l =
-    let up : (k : ℕ) → k ≤ 5 * n → k * w ≤ length ws = λ k h. omega (arith, mul-le-mul_right {m = k} {n = 5 * n} w h, l.words) in
-    record {
-      buffers_lent = rw (o.width, o.buffers_at) (up (0 + buffers n) (omega arith));
-      returns_lent = rw (o.width, o.returns_at) (up (buffers n + n) (omega arith));
-      offers_lent = rw (o.width, o.offers_at) (up (rows_before_offers n + n) (omega arith));
-    }
-
-pub one_ready : {n w : ℕ} {q : Process} {p : ProcessNumber} {f : FirstRows} {ws : List ℕ} → OneRecord n w f → Ready n w q p ws → ReadyIn f n q p ws
-one_ready {n} {w} {q} {p} {f} {ws} o r = record { ready = rw o.width r; placed = one_placed o r.lent }
+use Rattle.steps.specs.Layouts.{ReadyIn, Moves}
 
 module _ {f : FirstRows} {n : ℕ} {q : Process} {p : ProcessNumber} {ws : List ℕ} (r : ReadyIn f n q p ws) where
   in_word : word_of q.word < f.w

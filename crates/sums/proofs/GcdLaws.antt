@@ -13,10 +13,6 @@ not_zero : (b : ℕ) → eqb b 0 ≡ false → 0 < b
 not_zero zero e = absurd (eqb-false 0 0 e refl)
 not_zero (suc b) e = omega arith
 
-pub above : (b : ℕ) → (b ≡ 0 → ⊥) → 0 < b
-above zero e = absurd (e refl)
-above (suc b) e = omega arith
-
 -- g divides both, and each common divisor divides g
 pub record Greatest (a b g : ℕ) : Type 0 where
   pub first : g ∣ a

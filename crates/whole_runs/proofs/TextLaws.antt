@@ -6,7 +6,7 @@ use Prim.Native.Nat.{ℕ, ◌-◌, ◌≤◌, ◌<◌}
 use lib.Dec.{eqb}
 use lib.ListN.{length, take, replicate}
 use native.Mathlib.Omega.{arith}
-use borrow.Author.Tests.{eq-eqb, ne_eqb, lt-ltb, le-ltb, leb-false}
+use borrow.Author.Tests.{eq-eqb, lt-ltb, le-ltb, leb-false}
 use Rattle.std.specs.Prelude.{Result, Ok, Err}
 use Rattle.notation.specs.declared.Entry.{Entry}
 use Rattle.notation.specs.declared.items.Fault.{Fault}
@@ -50,13 +50,6 @@ pub read_broken : {s list list' : List ℕ} {at : ℕ} {f : Fault} → ItemsSay 
 read_broken {f = f} x = record { reads = broken f x.are.is }
 
 pub ruleset reading_laws = (read_ended, read_stray, read_broken)
-
--- a set-up that is refused, and one that is not
-pub not_begun : {A B : Type 0} (k : ℕ) (F : B → A) (x m : B) (e : A) → (k ≡ 0 → ⊥) → cond (eqb k 0) (F (cond (eqb k 0) x m)) e ≡ e
-not_begun k F x m e n = simp (ne_eqb k 0 n)
-
-pub is_begun : {A B : Type 0} (k : ℕ) (F : B → A) (x m : B) (e : A) → k ≡ 0 → cond (eqb k 0) (F (cond (eqb k 0) x m)) e ≡ F x
-is_begun k F x m e z = simp (eq-eqb k 0 z)
 
 -- a text with a fault
 module _ (M : Machine) (t : Bool) (s : List ℕ) (n w v items : ℕ) (m : M.Memory) (list : List ℕ) where

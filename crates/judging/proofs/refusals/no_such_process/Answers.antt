@@ -16,12 +16,14 @@ returns-in-len1-up c =
     cut_strange c.args.n a.w a.log.now _ (c.first.ensures (λ (e : Head). leb c.args.n e.process) (λ e b p. search rules)) c.in_default.is
     _ c.left_over.ensures.value c.in-len1-up.len_at_least c.if-n-process.true _ c.len.ensures
 
+-- `_ => None`, where nothing is left over
 pub returns-in_default-left_over : goal.returns-in_default-left_over
 returns-in_default-left_over c =
     let a = c.args.calls.now in
     none_cut c.args.n a.w a.log.now _ (c.first.ensures (λ (e : Head). leb c.args.n e.process) (λ e b p. search rules)) c.in_default.is
     _ c.left_over.ensures.value c.in_default-left_over.len_below
 
+-- `_ => None`, where the process of the call that is cut off is one of the n
 pub returns-in_default-left_over-2 : goal.returns-in_default-left_over-2
 returns-in_default-left_over-2 c =
     let a = c.args.calls.now in

@@ -39,6 +39,7 @@ answer_line-requires c =
     c.obeyed-moved.ensures (shown_if c.then-access.result (λ a q. search rules) c.then-access.ensures.variant c.then-access.ensures.some)
     c.answers.ensures (record { list = refl; place = refl }) c.trace_line.ensures
 
+-- `held.all[place] = moved.process`
 pub offset_bounds-held-place-2 : goal.offset_bounds-held-place-2
 offset_bounds-held-place-2 c = omega (arith, c.record_place-place.ensures, process_few c.requires c.process_of-p.ensures)
 

@@ -10,6 +10,12 @@ use Rattle.setup.specs.SetUpByValue.{Accepted}
 use Rattle.entry.proofs.WordLaws.{prefix_length}
 use Rattle.run.proofs.StarterLaws.{set_up_refused, accepted, set_up_done, set_up_sound, set_up_filled}
 use Rattle.run.proofs.starter.LentHeldStarter.set_up.Goals as goal
+use Rattle.run.proofs.starter.LentHeldStarter.set_up.Goals.{In_ok-set_up_refusal}
+
+acceptable : (c : In_ok-set_up_refusal) → let f = c.args.first in Accepted f.n f.w (length c.args.words.now) f.w
+acceptable c =
+    let h = c.args.self.now in
+    accepted c.args.first h.held h.len c.args.words.now c.requires.0.0 c.requires.0.1 c.requires.1 c.in_ok-set_up_refusal.ensures
 
 pub returns-in_err-set_up_refusal-clause-is : goal.returns-in_err-set_up_refusal-clause-is
 returns-in_err-set_up_refusal-clause-is c =
@@ -22,29 +28,23 @@ returns-in_err-set_up_refusal-clause-is c =
 pub slice_bounds-value-end : goal.slice_bounds-value-end
 slice_bounds-value-end c =
     let a = c.args in
-    let h = a.self.now in
-    let ok = accepted a.first h.held h.len a.words.now c.requires.0.0 c.requires.0.1 c.requires.1 c.in_ok-set_up_refusal.ensures in
+    let ok = acceptable (goal.at.slice_bounds-value-end c).In_ok-set_up_refusal in
     omega (arith, ap length c.repeated-value.ensures, length-replicate 64 a.first.initial, ok.w_most)
 
 pub slice_bounds-words_at_set_up-end : goal.slice_bounds-words_at_set_up-end
 slice_bounds-words_at_set_up-end c =
-    let a = c.args in
-    let h = a.self.now in
-    let ok = accepted a.first h.held h.len a.words.now c.requires.0.0 c.requires.0.1 c.requires.1 c.in_ok-set_up_refusal.ensures in
+    let ok = acceptable (goal.at.slice_bounds-words_at_set_up-end c).In_ok-set_up_refusal in
     prefix_length ok.w_most c.repeated-value.ensures
 
 pub words_at_set_up-requires : goal.words_at_set_up-requires
 words_at_set_up-requires c =
     let a = c.args in
-    let h = a.self.now in
-    let ok = accepted a.first h.held h.len a.words.now c.requires.0.0 c.requires.0.1 c.requires.1 c.in_ok-set_up_refusal.ensures in
+    let ok = acceptable (goal.at.words_at_set_up-requires c).In_ok-set_up_refusal in
     subst (λ (j : ℕ). Accepted a.first.n a.first.w (length a.words.now) j) (prefix_length ok.w_most c.repeated-value.ensures) ok
 
 pub invariant_of-at_set_up : goal.invariant_of-at_set_up
 invariant_of-at_set_up c =
-    let a = c.args in
-    let h = a.self.now in
-    let ok = accepted a.first h.held h.len a.words.now c.requires.0.0 c.requires.0.1 c.requires.1 c.in_ok-set_up_refusal.ensures in
+    let ok = acceptable (goal.at.invariant_of-at_set_up c).In_ok-set_up_refusal in
     record { most = ok.n_most }
 
 pub returns-clause-is : goal.returns-clause-is
