@@ -6,7 +6,7 @@ use Rattle.std.proofs.lemmas.Result.{err_from_is_err_and}
 use Rattle.llsc.proofs.RefusalNumbers.{number_some}
 use Rattle.model.specs.Records.{no_process}
 use Rattle.taken.specs.Taken.{taken_at}
-use Rattle.text_runs.specs.Carrying.{in_run}
+use Rattle.whole_runs.specs.Carrying.{in_run}
 use Rattle.entry.specs.RunState.{RunState}
 use Rattle.run.specs.Carried.{lent_state}
 use Rattle.run.proofs.TurnLaws.{Looking, looking, turn_refused, turn_sized, turn_bank, turn_help, taken_at_lem, turnable, turn_made, turn_stays}
