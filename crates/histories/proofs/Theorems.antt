@@ -16,8 +16,8 @@ use Rattle.llsc.specs.Linearizable.{All, Timed, Inside, Linearization}
 use Rattle.linearization.proofs.Outcome.{to_f}
 use Rattle.linearization.proofs.WordLists.{cells}
 use Rattle.linearization.proofs.SetUpSimulation.{set_up_admits}
-use Rattle.linearization.proofs.DemandThree
-use Rattle.linearization.proofs.Theorems.{demand_3}
+use Rattle.linearization.proofs.PromiseThree
+use Rattle.linearization.proofs.Theorems.{promise_3}
 use Rattle.laws.proofs.AllLaws.{all_of, all_both, all_join, map_all}
 use Rattle.histories.specs.BenchLogs.{kind_number, truth_for, words_for, entry_for, numbers_of, log_for}
 use Rattle.histories.specs.CallFacts.{InTurn, Led, WellFormed, Loggable}
@@ -81,7 +81,7 @@ module _ (m : Memory) (shaped : Shaped m) (n w : ℕ) (value : List ℕ) (cs : L
   -- Calls of one process do not overlap, and each SC or VL has an earlier answered LL of its process.
   pub loggable : Loggable n w answered
   loggable =
-      let is = DemandThree.same_calls m shaped n w value cs e in let turns = in_turn (events at cs) in
+      let is = PromiseThree.same_calls m shaped n w value cs e in let turns = in_turn (events at cs) in
       record {
         formed = subst (All (WellFormed n w)) (sym is) (set_up_formed n w (cells value) (map (to_f n w) cs));
         in_turn = turns;
@@ -104,7 +104,7 @@ module _ (m : Memory) (shaped : Shaped m) (n w : ℕ) (value : List ℕ) (cs : L
 pub every_history_earns_yes : EveryHistoryEarnsYes
 every_history_earns_yes m shaped n w value cs e hc hl =
     let admits = set_up_admits m n w value e in let sizes = admits.sizes in let facts = loggable m shaped n w value cs e in
-    let l = (demand_3 m shaped n w value cs e).linearization places (omega arith) in
+    let l = (promise_3 m shaped n w value cs e).linearization places (omega arith) in
     record {
       timed = l.timed;
       same_calls = l.same_calls;

@@ -42,7 +42,7 @@ module _ (N W : ℕ) where
       let r = run_sorted h_w (words_of W v) 1 cs (setup N W v) [] g in
       record { sorted = r.0; served = r.1; within = run_within h_w (words_of W v) 1 cs (setup N W v) [] g }
 
-  -- THE THEOREM: with moments, as demand 3 states it
+  -- THE THEOREM: with moments, as promise 3 states it
   pub linearization : 0 < N → 0 < W → (v : ℕ → ℕ) (cs : List Cmd) (places : ℕ) → length (calls_f N W 1 cs (setup N W v)) ≤ places
       → Linearization places (words_of W v) (map (λ (t : Timed). t.call) (calls_f N W 1 cs (setup N W v)))
   linearization h_n h_w v cs places h = let z = linearizable h_n h_w v cs in moments (words_of W v) (calls_f N W 1 cs (setup N W v)) z.served z.within places h

@@ -36,7 +36,7 @@ pub mod CommandSimulation
 pub mod CommandRuns
 pub mod Histories
 pub mod Successes
-pub mod DemandThree
+pub mod PromiseThree
 pub mod BufferTheorems
 pub mod XChanges
 pub mod WrittenWords

@@ -1,5 +1,5 @@
 -- The theorems, each about model's own definitions, with no assumption but those of its statement.
-use Rattle.model.specs.Linearizable.{Demand3}
+use Rattle.model.specs.Linearizable.{Promise3}
 use Rattle.after_commands.specs.OwnDoing.{NeverForItsOwnDoing}
 use Rattle.after_commands.specs.Buffers.{EveryBufferOnce}
 use Rattle.after_commands.specs.Changes.{ChangesAreSuccesses}
@@ -9,11 +9,11 @@ use Rattle.linearization.proofs.XChanges
 use Rattle.linearization.proofs.WrittenWords
 use Rattle.linearization.proofs.SetUpSimulation.{set_up_halves}
 use Rattle.linearization.proofs.CommandRuns.{holds_along, sound}
-use Rattle.linearization.proofs.DemandThree.{demand_three}
+use Rattle.linearization.proofs.PromiseThree.{promise_three}
 
--- Demand 3, over every list of commands after every accepted set-up.
-pub demand_3 : Demand3
-demand_3 = demand_three
+-- Promise 3, over every list of commands after every accepted set-up.
+pub promise_3 : Promise3
+promise_3 = promise_three
 
 -- After a set-up no command is refused by rows 1, 2, 3 or 9.
 pub never_for_its_own_doing : NeverForItsOwnDoing

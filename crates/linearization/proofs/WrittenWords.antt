@@ -29,7 +29,7 @@ use Rattle.linearization.proofs.Relation.{Related}
 use Rattle.linearization.proofs.SetUpSimulation.{set_up_admits, set_up_halves}
 use Rattle.linearization.proofs.Outcome.{to_f}
 use Rattle.linearization.proofs.CommandRuns.{holds_along, holds_after_all}
-use Rattle.linearization.proofs.DemandThree.{same_calls}
+use Rattle.linearization.proofs.PromiseThree.{same_calls}
 use Rattle.linearization.proofs.XChanges.{changes_along}
 
 -- the words of a buffer, in related memory

@@ -23,7 +23,7 @@ use Rattle.linearization.proofs.WordLists.{cells}
 use Rattle.linearization.proofs.SetUpSimulation.{set_up_halves}
 use Rattle.linearization.proofs.Outcome.{to_f}
 use Rattle.linearization.proofs.CommandRuns.{Holds, holds_after, set_up_holds}
-use Rattle.linearization.proofs.DemandThree.{same_calls}
+use Rattle.linearization.proofs.PromiseThree.{same_calls}
 
 -- the test of two contents
 same_content_lem : (a b : XContent) → a.buf.0 ≡ b.buf.0 → a.seq.0 ≡ b.seq.0 → same_content a b ≡ true

@@ -1,4 +1,4 @@
--- The statement of demand 3 about any bench: counts, and an order of the answered calls that Figure 1's object serves.
+-- The statement of promise 3 about any bench: counts, and an order of the answered calls that Figure 1's object serves.
 use Rattle.std.specs.Prelude.{◌≡◌, ℕ, ◌*◌, ◌≤◌, ◌<◌, List, [], ◌∷◌, map, cond, leb, length}
 use Rattle.llsc.specs.Object.{Kind, Fed, fresh, serve}
 use Rattle.llsc.specs.History.{Event, Slot, none, running, Call, calls, slots}

@@ -100,7 +100,7 @@ pub runs-A-to-J : Right (run_a ∷ run_b ∷ run_c ∷ run_d ∷ run_e ∷ run_f
 unfolding command refusal in_range step_at obey set_up set_up_refusal events
 runs-A-to-J = (refl, (refl, (refl, (refl, (refl, (refl, (refl, (refl, (refl, (refl, (refl, (refl, (refl, (refl, (refl, (refl, (refl, (refl, (refl, (refl, tt))))))))))))))))))))
 
--- The answers of run B are counted as demand 3 says, at W = 1: 4W+6, 2W+6, 6W+7 and 1.
+-- The answers of run B are counted as promise 3 says, at W = 1: 4W+6, 2W+6, 6W+7 and 1.
 pub run-B-counted : All (Counted 1) (calls (events_of run_b))
 unfolding command refusal in_range step_at obey set_up set_up_refusal events calls_from
 run-B-counted = (

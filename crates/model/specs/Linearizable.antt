@@ -1,4 +1,4 @@
--- Demand 3, the statement: `llsc`'s claim with this bench's counts.
+-- Promise 3, the statement: `llsc`'s claim with this bench's counts.
 use Rattle.std.specs.Prelude.{◌≡◌, ◌⊎◌, ℕ, ◌+◌, ◌*◌, ◌≤◌, List}
 use Rattle.llsc.specs.Object.{Kind, ll, sc, vl}
 use Rattle.llsc.specs.History.{Command, Event, Slot, Call}
@@ -30,6 +30,6 @@ OpenCounted w slot = AnyBench.OpenCounted (largest w) slot
 abbrev pub Claim : ℕ → List ℕ → List Event → Type 0
 Claim w value es = AnyBench.Claim (OwnSteps w) (largest w) value es
 
--- DEMAND 3: "The list follows an accepted set-up with any N, W and value, whatever the lent memory held."
-abbrev pub Demand3 : Type 0
-Demand3 = (m : Memory) → Shaped m → (n w : ℕ) (value : List ℕ) (cs : List Command) → (set_up m n w value).0 ≡ 0 → Claim w value (events (set_up m n w value).1 cs)
+-- PROMISE 3: "The list follows an accepted set-up with any N, W and value, whatever the lent memory held."
+abbrev pub Promise3 : Type 0
+Promise3 = (m : Memory) → Shaped m → (n w : ℕ) (value : List ℕ) (cs : List Command) → (set_up m n w value).0 ≡ 0 → Claim w value (events (set_up m n w value).1 cs)

@@ -50,7 +50,8 @@ AllMatch [] (d ∷ ds) = ⊥
 AllMatch (c ∷ cs) [] = ⊥
 AllMatch (c ∷ cs) (d ∷ ds) = Matches c d × AllMatch cs ds
 
--- There are words for each naming WLL such that the calls have moments as demand 3 says: the statement that both benches share.
+-- There are words for each naming WLL such that the calls have moments as promise 3 says: the statement that both
+-- benches share.
 pub record Linearizable (places : ℕ) (value : List ℕ) (cs : List Served) : Type 0 where
   pub filled : List H.Call
   pub matches : AllMatch cs filled

@@ -49,7 +49,7 @@ pub promise_2 : Promise2
 promise_2 = (obeys, follows_doing)
 
 pub promise_3 : Promise3
-promise_3 = (Bench.demand_3, Station.demand_3_by_record)
+promise_3 = (Bench.promise_3, Station.promise_3_by_record)
 
 pub promise_4 : Promise4
 promise_4 = (

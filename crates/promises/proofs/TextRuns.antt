@@ -15,4 +15,4 @@ every_text_is_promised traced m shaped text listing room fits x is accepted =
     let run = carries figure2 traced (prepared m a).1 listing a.entries in
     subst (λ (r : Ended). RunPromised traced m a listing r)
     (run_right figure2 traced m text listing room (omega (arith, fits)) x is accepted)
-    (record { run = run; promise_3 = Bench.demand_3 m shaped a.n a.w value run.commands accepted })
+    (record { run = run; promise_3 = Bench.promise_3 m shaped a.n a.w value run.commands accepted })

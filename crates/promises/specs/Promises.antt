@@ -71,7 +71,7 @@ Promise2 = DoesItsLine × FollowsDoing
 -- and value, whatever the lent memory held. .. The claim is one, about the list". For one record, and by CR 10
 -- "record by record".
 abbrev pub Promise3 : Type 0
-Promise3 = Bench.Demand3 × Station.Demand3ByRecord
+Promise3 = Bench.Promise3 × Station.Promise3ByRecord
 
 -- PROMISE 4 (CR 9): "after a set-up and any commands the 3N buffer numbers are each found exactly once among N owned
 -- and 2N kept"; "the words of a successful write, and the set-up value, stay unaltered in their buffer until X has

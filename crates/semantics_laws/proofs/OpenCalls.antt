@@ -1,5 +1,5 @@
 -- The open calls of memory that a set-up and commands have made. A busy process has one, with fewer steps than its kind's
--- largest (demand 3), and a step that leaves its process busy gives it one step more.
+-- largest (promise 3), and a step that leaves its process busy gives it one step more.
 use mathlib.Core.Path.{◌≡◌, refl, sym, ap, subst, ◌∙◌}
 use mathlib.Core.Bool.{Bool, true, false, cond}
 use mathlib.Core.List.{List, [], ◌∷◌, ◌++◌, map}
@@ -25,7 +25,7 @@ use Rattle.llsc.specs.History.{Command, Slot, none, running, slot_after, slots_a
 use Rattle.model.specs.History.{event_of, events}
 use Rattle.model.specs.Linearizable.{OpenCounted}
 use Rattle.after_commands.specs.After.{after}
-use Rattle.linearization.proofs.Theorems.{demand_3}
+use Rattle.linearization.proofs.Theorems.{promise_3}
 use Rattle.linearization.proofs.GhostMachine.{Local, State}
 use Rattle.linearization.proofs.GhostRuns.{setup}
 use Rattle.linearization.proofs.InvariantRuns.{number_after, execs}
@@ -150,7 +150,7 @@ module _ {m : Memory} (r : Reached m) where
 
   -- "open calls have fewer than their kind's largest"
   pub open_fewer : (p : ℕ) → OpenCounted r.w (open_in r p)
-  open_fewer p = (demand_3 r.lent r.shaped r.n r.w r.value r.commands r.accepted).open_counted p
+  open_fewer p = (promise_3 r.lent r.shaped r.n r.w r.value r.commands r.accepted).open_counted p
 
   -- a busy process has an open call
   pub busy_open : (p : ℕ) → p < m.bench.n → is_idle (record_at m.records (record { 0 = p })) ≡ false → Open (open_in r p)

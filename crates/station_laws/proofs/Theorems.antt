@@ -1,10 +1,10 @@
 -- The theorems.
 use mathlib.Core.Path.{sym, subst, ◌∙◌}
 use Rattle.model.specs.Linearizable.{Claim}
-use Rattle.linearization.proofs.Theorems.{demand_3}
+use Rattle.linearization.proofs.Theorems.{promise_3}
 use Rattle.station.specs.StationSetUp.{station_set_up}
 use Rattle.station.specs.StationHistory.{given_all}
-use Rattle.station_laws.specs.AsIfAlone.{AsIfAlone, Demand3ByRecord}
+use Rattle.station_laws.specs.AsIfAlone.{AsIfAlone, Promise3ByRecord}
 use Rattle.station_laws.proofs.AnyMemory.{any_memory}
 use Rattle.station_laws.proofs.StationInRange.{station_sound}
 use Rattle.station_laws.proofs.StationBufferLaws
@@ -33,11 +33,11 @@ as_if_alone s shaped n w r value cs e j hj m ok e' =
     ∙ any_memory (lent_alone s j n w) m (alone_shaped s shaped n w r value e j hj) ok n w value (h_w s shaped n w r value e) (alone_admits s shaped n w r value e j) e'
     (given_all j (station_set_up s n w r value).1 cs)
 
--- Demand 3, record by record.
-pub demand_3_by_record : Demand3ByRecord
-demand_3_by_record s shaped n w r value cs e j hj =
+-- Promise 3, record by record.
+pub promise_3_by_record : Promise3ByRecord
+promise_3_by_record s shaped n w r value cs e j hj =
     subst (Claim w value) (sym (saw s shaped n w r value e cs j hj))
-    (demand_3 (lent_alone s j n w) (alone_shaped s shaped n w r value e j hj) n w value (given_all j (station_set_up s n w r value).1 cs) (alone_admits s shaped n w r value e j))
+    (promise_3 (lent_alone s j n w) (alone_shaped s shaped n w r value e j hj) n w value (given_all j (station_set_up s n w r value).1 cs) (alone_admits s shaped n w r value e j))
 
 -- After a set-up no command is refused by rows 1, 2, 23, 3 or 9.
 pub station_never_for_its_own_doing : StationNeverForItsOwnDoing

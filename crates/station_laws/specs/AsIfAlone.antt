@@ -1,4 +1,4 @@
--- A record of a station answers as its bench would alone, and so has demand 3.
+-- A record of a station answers as its bench would alone, and so has promise 3.
 use Rattle.std.specs.Prelude.{◌≡◌, ℕ, ◌<◌, List}
 use Rattle.model.specs.Machine.{Memory, Shaped}
 use Rattle.model.specs.SetUp.{set_up}
@@ -19,9 +19,9 @@ AsIfAlone =
     → (m : Memory) → Shaped m → (set_up m n w value).0 ≡ 0 → let begun = (station_set_up s n w r value).1 in
     seen_all j begun cs ≡ events (set_up m n w value).1 (given_all j begun cs)
 
--- demand 3, record by record
-abbrev pub Demand3ByRecord : Type 0
-Demand3ByRecord =
+-- promise 3, record by record
+abbrev pub Promise3ByRecord : Type 0
+Promise3ByRecord =
     (s : StationMemory) → StationShaped s → (n w r : ℕ) (value : List ℕ) (cs : List StationOrder)
     → (station_set_up s n w r value).0 ≡ 0 → (j : RecordNumber) → j.0 < r
     → Claim w value (seen_all j (station_set_up s n w r value).1 cs)

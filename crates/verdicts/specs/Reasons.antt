@@ -49,7 +49,7 @@ abbrev pub numbered : ℕ → List Entry → List Numbered
 numbered k [] = []
 numbered k (e ∷ es) = record { index = k; entry = e } ∷ numbered (suc k) es
 
--- "in moment order": demand 3's sort, with the index going along (`numbered_in_order_lem` says that it is `in_order`)
+-- "in moment order": promise 3's sort, with the index going along (`numbered_in_order_lem` says that it is `in_order`)
 abbrev pub insert_numbered : Numbered → List Numbered → List Numbered
 insert_numbered c [] = c ∷ []
 insert_numbered c (d ∷ ds) = cond (leb d.entry.moment c.entry.moment) (d ∷ insert_numbered c ds) (c ∷ d ∷ ds)

@@ -91,7 +91,7 @@ same_answers [] (b ∷ bs) = false
 same_answers (a ∷ rest) [] = false
 same_answers (a ∷ rest) (b ∷ bs) = answers_alike a b && same_answers rest bs
 
--- the calls "in moment order": demand 3's own sort
+-- the calls "in moment order": promise 3's own sort
 abbrev pub in_order : List Entry → List Timed
 in_order es = in_moment_order (map timed_of es)
 

@@ -1,4 +1,4 @@
-//! `witness history SEED COUNT`: the second witness of demand 3.
+//! `witness history SEED COUNT`: the second witness of promise 3.
 
 use super::run::print;
 use crate::history::{moments, record, served_order, History};

@@ -1,4 +1,4 @@
-//! Demand 3 by brute force: answered calls of random runs, and the search
+//! Promise 3 by brute force: answered calls of random runs, and the search
 //! for an order in which Figure 1's object gives the same answers.
 
 mod object;

@@ -1,4 +1,4 @@
--- Demand 3: the parts put together.
+-- Promise 3: the parts put together.
 use mathlib.Core.Path.{◌≡◌, refl, sym, ap, subst, ◌∙◌}
 use mathlib.Core.List.{List, map}
 use Prim.Native.Nat.{ℕ, ◌≤◌, ◌<◌}
@@ -11,7 +11,7 @@ use Rattle.model.specs.SetUp.{set_up}
 use Rattle.llsc.specs.History.{Command, calls, slots, none}
 use Rattle.model.specs.History.{events}
 use Rattle.llsc.specs.Linearizable.{All, Timed, Linearization}
-use Rattle.model.specs.Linearizable.{Counted, OpenCounted, Demand3}
+use Rattle.model.specs.Linearizable.{Counted, OpenCounted, Promise3}
 use Rattle.linearization.proofs.GhostMachine.{State}
 use Rattle.linearization.proofs.WordLists.{words_of, cells}
 use Rattle.linearization.proofs.GhostRuns.{Cmd, calls_f, setup}
@@ -68,5 +68,5 @@ module _ (m : Memory) (shaped : Shaped m) (n w : ℕ) (value : List ℕ) (cs : L
       (linearization n (halves w) h_n h_w given commands places
       (let a = ap length same_calls ∙ length-map (calls_f n (halves w) 1 commands (setup n (halves w) given)) (λ (t : Timed). t.call) in omega arith)))
 
-pub demand_three : Demand3
-demand_three m shaped n w value cs e = record { counted = counted m shaped n w value cs e; open_counted = open_calls_lem m shaped n w value cs e; linearization = ordered m shaped n w value cs e }
+pub promise_three : Promise3
+promise_three m shaped n w value cs e = record { counted = counted m shaped n w value cs e; open_counted = open_calls_lem m shaped n w value cs e; linearization = ordered m shaped n w value cs e }
