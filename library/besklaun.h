@@ -106,7 +106,7 @@ struct besklaun_text_run {
 };
 
 /* The listing goes to `listing`. With room for fewer than 744 bytes the run is refused with 14 and nothing is written.
- * Definition: text_run false text listing, besklaun/specs/OwnBench and semantics/specs/TextRun. */
+ * Definition: text_run false text listing, besklaun/specs/OwnBench and text_model/specs/TextRun. */
 struct besklaun_text_run besklaun_run_text(const uint8_t *text, size_t text_count,
                                            uint8_t *listing, size_t listing_count);
 

@@ -12,7 +12,7 @@ ghost use Rattle.model.specs.View.{view_number, view};
 ghost use Rattle.station.specs.Station.{station_memory};
 ghost use Rattle.station.specs.StationCommand.{station_command};
 ghost use Rattle.station.specs.StationSetUp.{station_set_up};
-ghost use Rattle.station_run.specs.StationText.{station_run_text};
+ghost use Rattle.station_text_machine.specs.StationText.{station_run_text};
 
 pub use board_files::run_file;
 use llsc::Order;
@@ -112,7 +112,7 @@ pub fn run_text(
         ≡ station_run_text (station_memory station.old processes.old words.old) text.now listing.old }
 {
     let gathered = gather(*station, processes);
-    let out = station_run::run_by_value(gathered, words, text, listing);
+    let out = station_text_machine::run_by_value(gathered, words, text, listing);
     if let Some(left) = out.held {
         left.store(station, processes);
     }

@@ -3,10 +3,10 @@ use mathlib.Core.Path.{◌≡◌, ap, ◌∙◌}
 use mathlib.Core.List.{List}
 use Prim.Native.Nat.{ℕ}
 use Rattle.llsc.specs.Refusals.{number_told}
-use Rattle.entry.specs.declared.state.Held.{Held}
-use Rattle.entry.specs.RunState.{empty_held}
+use Rattle.text_entry.specs.declared.state.Held.{Held}
+use Rattle.text_entry.specs.RunState.{empty_held}
 use Rattle.board_listing.specs.declared.ending.Stopped.{Stopped}
-use Rattle.run.specs.Finished.{memory_of}
+use Rattle.text_machine.specs.Finished.{memory_of}
 use Rattle.board_listing.specs.BoardListing.{board_listed}
 use Rattle.board_listing.specs.ListedRun.{end_of}
 use Rattle.besklaun.specs.OwnBench.{own_words}

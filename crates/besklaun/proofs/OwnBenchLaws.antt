@@ -3,12 +3,12 @@ use mathlib.Core.Path.{◌≡◌, refl, ap, ◌∙◌}
 use mathlib.Core.List.{List}
 use mathlib.Core.Bool.{Bool}
 use Prim.Native.Nat.{ℕ}
-use Rattle.semantics.specs.TextRun.{run_with}
-use Rattle.entry.specs.declared.state.Held.{Held}
-use Rattle.entry.specs.RunState.{empty_held}
+use Rattle.text_model.specs.TextRun.{run_with}
+use Rattle.text_entry.specs.declared.state.Held.{Held}
+use Rattle.text_entry.specs.RunState.{empty_held}
 use Rattle.text_runs.specs.declared.runs.Finished.{Finished}
 use Rattle.text_runs.specs.Returned.{told}
-use Rattle.run.specs.Finished.{TextRan, memory_of}
+use Rattle.text_machine.specs.Finished.{TextRan, memory_of}
 use Rattle.besklaun.specs.OwnBench.{own_memory, own_words, seen, text_run}
 
 -- what the run holds

@@ -1,7 +1,7 @@
 -- A board's trace file run on a bench of its own (02, CR 12), for callers that lend a file and room for the listing and
 -- nothing else.
 use Rattle.std.specs.Prelude.{ℕ, List}
-use Rattle.semantics.specs.TextRun.{Ended}
+use Rattle.text_model.specs.TextRun.{Ended}
 use Rattle.board_listing.specs.BoardListing.{board_listed}
 use Rattle.besklaun.specs.declared.board_files.BoardRun.{BoardRun}
 use Rattle.besklaun.specs.OwnBench.{own_memory}

@@ -3,7 +3,7 @@ use Rattle.std.specs.Prelude.{ℕ, List, Bool, replicate}
 use Rattle.model.specs.Records.{no_process}
 use Rattle.model.specs.Machine.{Memory}
 use Rattle.model.specs.SetUp.{empty_bench}
-use Rattle.semantics.specs.TextRun.{Ended, run_with}
+use Rattle.text_model.specs.TextRun.{Ended, run_with}
 use Rattle.text_runs.specs.declared.returned.TextRun.{TextRun}
 
 -- enough for every text: sixteen process records, and 5NW words for N = 16 and W = 64

@@ -4,7 +4,7 @@ ghost use Rattle.boards.specs.Merging.{merge_files};
 ghost use Rattle.besklaun.specs.BoardRuns.{board_run};
 
 use boards::Merged;
-use entry::state::Held;
+use text_entry::state::Held;
 use llsc::refusals::number_of;
 
 // Two trace files made one, into the bytes lent.
@@ -31,7 +31,7 @@ pub struct BoardRun {
 // Kept: N, W, the initial number and the file one by one, as the C library's header declares them.
 // Wrong programs that this rules out: one that runs the file before its set-up is looked at; one that counts a refused
 // command as done; one that stops after 60,000 commands.
-#[tactic(auto, using(run::proofs::RecordLaws::fillers))]
+#[tactic(auto, using(text_machine::proofs::RecordLaws::fillers))]
 pub fn besklaun_run_board(
     n: usize,
     w: usize,

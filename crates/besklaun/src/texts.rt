@@ -2,17 +2,17 @@
 ghost use Rattle.std.specs.Prelude.{◌≡◌, true, false};
 ghost use Rattle.besklaun.specs.OwnBench.{text_run};
 
-use entry::state::Held;
+use text_entry::state::Held;
 pub use text_runs::returned::TextRun;
 
 // A run on a bench of its own, of its listing or, where `traced`, of its trace.
-#[tactic(auto, using(run::proofs::RecordLaws::fillers))]
+#[tactic(auto, using(text_machine::proofs::RecordLaws::fillers))]
 fn own_run(traced: bool, text: &[u8], into: &mut [u8]) -> TextRun
     ensures { (result, into.new) ≡ text_run traced text.now into.old }
 {
     let mut words = [0; 5120];
     let held = Held::empty();
-    let out = run::text_run::run_by_value(held, 16, traced, &mut words, text, into);
+    let out = text_machine::text_run::run_by_value(held, 16, traced, &mut words, text, into);
     TextRun::from(out)
 }
 

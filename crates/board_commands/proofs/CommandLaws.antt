@@ -12,7 +12,7 @@ use Rattle.llsc.specs.declared.Order.{Order}
 use Rattle.llsc.specs.Rows.{row1, row2}
 use Rattle.serving.proofs.RefusalFacts.{none_holds, inside, no_row, or_false}
 use Rattle.boards.specs.Files.{BoardRecord}
-use Rattle.entry.proofs.WordLaws.{take_replicate}
+use Rattle.text_entry.proofs.WordLaws.{take_replicate}
 use Rattle.station.specs.declared.Station.{Station}
 use Rattle.station.specs.declared.StationProcess.{StationProcess}
 use Rattle.station.specs.Station.{station_memory, station_words, no_station_process}

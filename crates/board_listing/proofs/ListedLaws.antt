@@ -18,13 +18,13 @@ use Rattle.boards.specs.Places.{read, RightFile, WrongFile}
 use Rattle.text_runs.specs.TextRun.{room_needed}
 use Rattle.notation.specs.declared.First.{First}
 use Rattle.whole_runs.specs.Whole.{Prepared}
-use Rattle.semantics.specs.TextRun.{figure2, Ended, ended, begun}
-use Rattle.entry.specs.declared.state.Held.{Held}
-use Rattle.entry.specs.RunState.{progress, Sound}
-use Rattle.entry.proofs.FilledLaws.{gathered_filled}
-use Rattle.run.specs.declared.carrying.LentHeld.{LentHeld}
-use Rattle.run.specs.Carried.{lent_memory}
-use Rattle.run.specs.Finished.{memory_of}
+use Rattle.text_model.specs.TextRun.{figure2, Ended, ended, begun}
+use Rattle.text_entry.specs.declared.state.Held.{Held}
+use Rattle.text_entry.specs.RunState.{progress, Sound}
+use Rattle.text_entry.proofs.FilledLaws.{gathered_filled}
+use Rattle.text_machine.specs.declared.carrying.LentHeld.{LentHeld}
+use Rattle.text_machine.specs.Carried.{lent_memory}
+use Rattle.text_machine.specs.Finished.{memory_of}
 use Rattle.board_listing.specs.BoardListing.{obey_all, run_listed, after_set_up, board_listed}
 use Rattle.board_listing.specs.ListedRun.{fresh_state, stopped_state, Between, Obeys, Closable, refused_with, closed, end_of, RunsFile}
 

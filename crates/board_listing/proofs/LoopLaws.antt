@@ -13,11 +13,11 @@ use borrow.Author.Tests.{eq-eqb, ne_eqb}
 use Rattle.notation.specs.declared.Entry.{Entry}
 use Rattle.boards.specs.Files.{BoardRecord, record_of}
 use Rattle.boards.specs.Places.{read}
-use Rattle.semantics.specs.TextRun.{figure2, Progress, single}
+use Rattle.text_model.specs.TextRun.{figure2, Progress, single}
 use Rattle.std.specs.Prelude.{Result, Ok, Err}
 use Rattle.llsc.specs.declared.refusals.Refusal.{Refusal}
 use Rattle.whole_runs.specs.Carrying.{Turned, turn_number}
-use Rattle.entry.specs.RunState.{RunState, progress, Sound, Small, Becomes}
+use Rattle.text_entry.specs.RunState.{RunState, progress, Sound, Small, Becomes}
 use Rattle.board_listing.specs.BoardListing.{entry_of, obeyed, obey_all}
 use Rattle.board_listing.specs.ListedRun.{recounted, counted_state, stopped_state, Between, Obeys}
 use Rattle.board_listing.specs.declared.ending.Stopped.{Stopped}

@@ -11,20 +11,20 @@ use borrow.Author.Tests.{eq-eqb, ne_eqb, eqb-false, lt-leb, ltb-false}
 use Rattle.model.specs.declared.Reply.{Reply}
 use Rattle.model.specs.Machine.{Memory}
 use Rattle.model.specs.Replies.{number_of}
-use Rattle.entry.specs.Decision.{Outcome, decided}
+use Rattle.text_entry.specs.Decision.{Outcome, decided}
 use Rattle.notation.specs.declared.Entry.{Entry}
 use Rattle.notation.specs.declared.Entry.TheVariants.{StartLl, StartVl, StartSc, Step}
 use Rattle.notation.specs.Grammar.{largest}
 use Rattle.boards.specs.Files.{BoardRecord}
 use Rattle.text_runs.specs.TextRun.{most_entries, room_needed, process_of, order_of, value_of}
 use Rattle.text_runs.specs.TextRun as TR
-use Rattle.semantics.specs.TextRun.{figure2, Progress, stopped, lines_of, trace_line, counted, commanded, single}
+use Rattle.text_model.specs.TextRun.{figure2, Progress, stopped, lines_of, trace_line, counted, commanded, single}
 use Rattle.text_runs.specs.TrueTraces.{outcome}
-use Rattle.entry.specs.RunState.{RunState, progress, Ready, Small, answer_line}
-use Rattle.entry.proofs.WordLaws.{Below}
-use Rattle.entry.proofs.CommandLaws.{decides}
-use Rattle.entry.proofs.DecisionLaws.{done}
-use Rattle.entry.proofs.SingleLaws.{value_every, refused_becomes, answered_becomes}
+use Rattle.text_entry.specs.RunState.{RunState, progress, Ready, Small, answer_line}
+use Rattle.text_entry.proofs.WordLaws.{Below}
+use Rattle.text_entry.proofs.CommandLaws.{decides}
+use Rattle.text_entry.proofs.DecisionLaws.{done}
+use Rattle.text_entry.proofs.SingleLaws.{value_every, refused_becomes, answered_becomes}
 use Rattle.board_listing.specs.BoardListing.{entry_of}
 use Rattle.board_listing.specs.ListedRun.{recounted, Between}
 

@@ -1,5 +1,5 @@
 -- A board's trace file run on the bench, with a listing: 02, CR 12 ("The bench also runs such a file .. up to the first
--- refusal") with the listing of 01 ("The listing has a line for each answer"). Crate `board_promises` ties it to the run
+-- refusal") with the listing of 01 ("The listing has a line for each answer"). Crate `board_laws` ties it to the run
 -- on a station.
 use Rattle.std.specs.Prelude.{ℕ, ◌-◌, List, [], ◌∷◌, false, cond, eqb, ltb, length, replicate}
 use Rattle.model.specs.Machine.{Memory}
@@ -8,7 +8,7 @@ use Rattle.notation.specs.declared.Entry.{Entry}
 use Rattle.notation.specs.declared.Entry.TheVariants.{StartLl, StartVl, StartSc, Step}
 use Rattle.boards.specs.Files.{BoardRecord, decode, file_number}
 use Rattle.text_runs.specs.TextRun.{room_needed}
-use Rattle.semantics.specs.TextRun.{Progress, stopped, commanded, Ended, ended, begun}
+use Rattle.text_model.specs.TextRun.{Progress, stopped, commanded, Ended, ended, begun}
 
 -- a record as the entry of a text: "order (1: 0 step, 1 LL, 2 SC, 3 VL)", "an SC's value in all W words"
 abbrev pub entry_of : BoardRecord → Entry

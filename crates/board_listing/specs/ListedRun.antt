@@ -6,12 +6,12 @@ use Rattle.llsc.specs.declared.refusals.Refusal.{Refusal}
 use Rattle.llsc.specs.Refusals.{number_told}
 use Rattle.std.proofs.lemmas.List.Edits.{sets}
 use Rattle.boards.specs.Files.{BoardRecord}
-use Rattle.entry.specs.declared.state.Held.{Held}
+use Rattle.text_entry.specs.declared.state.Held.{Held}
 use Rattle.whole_runs.specs.Carrying.{in_run}
-use Rattle.entry.specs.RunState.{RunState, state_with, progress, Sound}
-use Rattle.run.specs.Finished.{memory_of}
+use Rattle.text_entry.specs.RunState.{RunState, state_with, progress, Sound}
+use Rattle.text_machine.specs.Finished.{memory_of}
 use Rattle.text_runs.specs.Runs.{fresh_run, last_of}
-use Rattle.semantics.specs.TextRun.{Progress, Ended}
+use Rattle.text_model.specs.TextRun.{Progress, Ended}
 use Rattle.model.specs.Machine.{Memory}
 use Rattle.model.specs.SetUp.{set_up}
 use Rattle.board_listing.specs.declared.ending.Stopped.{Stopped}

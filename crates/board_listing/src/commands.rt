@@ -1,7 +1,7 @@
 // A record of a trace file as an entry of a text.
 ghost use Rattle.std.specs.Prelude.{◌≡◌};
 ghost use Rattle.boards.specs.Files.{record_of};
-ghost use Rattle.entry.specs.RunState.{Small};
+ghost use Rattle.text_entry.specs.RunState.{Small};
 ghost use Rattle.board_listing.specs.BoardListing.{entry_of};
 
 use boards::records::{self, Record};

@@ -2,7 +2,7 @@
 ghost use Rattle.std.specs.Prelude.{◌≡◌};
 ghost use Rattle.board_listing.specs.ListedRun.{Closable, closed};
 
-use entry::state::Held;
+use text_entry::state::Held;
 use listing::Writer;
 use llsc::refusals::Refusal;
 use text_runs::last_lines;

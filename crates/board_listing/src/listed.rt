@@ -3,7 +3,7 @@ ghost use Rattle.std.specs.Prelude.{◌≡◌, ◌≤◌, false, length, take};
 ghost use Rattle.llsc.specs.Refusals.{refusal_number};
 ghost use Rattle.model.specs.Records.{no_process};
 ghost use Rattle.lent.specs.Gathered.{gathered};
-ghost use Rattle.run.specs.Finished.{memory_of};
+ghost use Rattle.text_machine.specs.Finished.{memory_of};
 ghost use Rattle.text_runs.specs.TextRun.{room_needed};
 ghost use Rattle.board_listing.specs.BoardListing.{board_listed};
 ghost use Rattle.board_listing.specs.ListedRun.{fresh_state, Between, closed, refused_with, end_of, RunsFile, SetsUp};
@@ -11,10 +11,10 @@ ghost use Rattle.board_listing.specs.ListedRun.{fresh_state, Between, closed, re
 use crate::ending::Stopped;
 use crate::{ending, records};
 use board_rows::right_records;
-use entry::state::Held;
+use text_entry::state::Held;
 use llsc::refusals::Refusal;
 use notation::First;
-use run::carrying::LentHeld;
+use text_machine::carrying::LentHeld;
 use text_runs::limits;
 use whole_runs::texts::Starter;
 

@@ -6,9 +6,9 @@ ghost use Rattle.board_listing.specs.ListedRun.{fresh_state, stopped_state, Betw
 use crate::commands;
 use crate::ending::Stopped;
 use boards::records::Record;
-use entry::state::Held;
+use text_entry::state::Held;
 use listing::Writer;
-use run::carrying::LentHeld;
+use text_machine::carrying::LentHeld;
 use whole_runs::entry_loop::Carrier;
 
 // Behind the bytes that are written already. Each record is an entry of a run that has done none; the commands done are

@@ -6,7 +6,7 @@ use native.Mathlib.Omega.{arith}
 use lib.ListN.{length, length-append, replicate}
 use Rattle.std.specs.Prelude.{Ok, Some}
 use Rattle.ways.specs.Ways.{ways}
-use Rattle.dictionary.specs.Schedules.{schedule_for}
+use Rattle.enumeration_model.specs.Schedules.{schedule_for}
 use Rattle.enumeration.specs.declared.Schedule.{Schedule}
 use Rattle.enumeration.specs.Replies.{kept, found_for, following_for}
 use Rattle.enumeration.proofs.ScheduleFacts.{schedule_built, turns_length}

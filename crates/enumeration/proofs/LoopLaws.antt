@@ -11,7 +11,7 @@ use lib.Seq.{sets, sets-eq, drop-cons}
 use borrow.Author.Tests.{eq-eqb, ne_eqb}
 use Rattle.std.specs.Prelude.{Option, Some, None}
 use Rattle.ways.specs.Ways.{ways}
-use Rattle.dictionary.specs.Schedules.{is_schedule, schedule_for, number_for}
+use Rattle.enumeration_model.specs.Schedules.{is_schedule, schedule_for, number_for}
 use Rattle.enumeration.specs.Replies.{padded}
 use Rattle.enumeration.specs.Turns.{Choice, Taking, chosen, taken, placed}
 use Rattle.enumeration.proofs.ScheduleFacts.{turns_length, schedule_built}

@@ -13,7 +13,7 @@ use Rattle.llsc.specs.declared.refusals.Refusal.{Refusal}
 use Rattle.llsc.specs.declared.refusals.Refusal.TheVariants.{TooManyTurns, NoSuchNumber, NotASchedule}
 use Rattle.enumeration.specs.declared.Schedule.{Schedule}
 use Rattle.ways.specs.Ways.{ways}
-use Rattle.dictionary.specs.Schedules.{is_schedule, schedule_for, number_for, schedule_after}
+use Rattle.enumeration_model.specs.Schedules.{is_schedule, schedule_for, number_for, schedule_after}
 use Rattle.enumeration.specs.Replies.{row20, row21, row22, number_refusal, turns_refusal, refusal_of}
 use Rattle.enumeration.specs.Replies.{kept, found_for, numbered_for, following_of, following_for}
 use Rattle.enumeration.specs.Turns.{placed}

@@ -7,7 +7,7 @@ use lib.ListN.{length, take, replicate}
 use Rattle.std.specs.Prelude.{Some, None, Ok, ok_or}
 use Rattle.llsc.specs.declared.refusals.Refusal.TheVariants.{NotASchedule}
 use Rattle.enumeration.specs.declared.Schedule.{Schedule}
-use Rattle.dictionary.specs.Schedules.{is_schedule, schedule_for, number_for}
+use Rattle.enumeration_model.specs.Schedules.{is_schedule, schedule_for, number_for}
 use Rattle.enumeration.specs.Replies.{kept, turns_in, found_for, numbered_for}
 use Rattle.enumeration.proofs.ScheduleFacts.{built, turns_length}
 use Rattle.enumeration.proofs.Theorems.{schedule_of_number, number_undoes, number_of_schedule, schedule_undoes}

@@ -12,7 +12,7 @@ use Rattle.llsc.specs.Rows.{every}
 use Rattle.laws.proofs.AndLaws.{left, right}
 use Rattle.laws.proofs.Updates.{by_test}
 use Rattle.ways.specs.Ways.{ways}
-use Rattle.dictionary.specs.Schedules.{turns_of, is_schedule, before, schedule_for, number_for}
+use Rattle.enumeration_model.specs.Schedules.{turns_of, is_schedule, before, schedule_for, number_for}
 
 pub data Turns : ℕ → ℕ → List ℕ → Type 0 where
   done : Turns 0 0 []

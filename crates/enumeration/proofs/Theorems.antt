@@ -10,7 +10,7 @@ use borrow.Author.Tests.{ltb-true, ltb-false, lt-ltb, le-ltb}
 use Rattle.laws.proofs.Updates.{by_test}
 use Rattle.std.specs.Prelude.{Some, None}
 use Rattle.ways.specs.Ways.{ways}
-use Rattle.dictionary.specs.Schedules.{is_schedule, before, schedule_for, number_for, schedule_after, ComesOnce, Follows}
+use Rattle.enumeration_model.specs.Schedules.{is_schedule, before, schedule_for, number_for, schedule_after, ComesOnce, Follows}
 use Rattle.enumeration.proofs.ScheduleFacts.{built, is_schedule_lem, schedule_built, number_schedule, number_below, schedule_number, in_order}
 
 -- each number below the count has a schedule, whose number it is;

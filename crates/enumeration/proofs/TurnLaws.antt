@@ -12,7 +12,7 @@ use Rattle.std.specs.Prelude.{Option, Some, None}
 use Rattle.llsc.specs.Rows.{every}
 use Rattle.laws.proofs.Updates.{by_test}
 use Rattle.ways.specs.Ways.{ways}
-use Rattle.dictionary.specs.Schedules.{turns_of, is_schedule, schedule_for, number_for}
+use Rattle.enumeration_model.specs.Schedules.{turns_of, is_schedule, schedule_for, number_for}
 use Rattle.enumeration.specs.Turns.{Choice, Taking, zero_first, chosen, taken}
 
 -- at an edge there is one way, and its number is 0

@@ -7,7 +7,7 @@ use Rattle.llsc.specs.declared.refusals.Refusal.TheVariants.{TooManyTurns, NoSuc
 use Rattle.llsc.specs.Rows.{Row, first}
 use Rattle.enumeration.specs.declared.Schedule.{Schedule}
 use Rattle.ways.specs.Ways.{ways}
-use Rattle.dictionary.specs.Schedules.{is_schedule, schedule_for, number_for, schedule_after}
+use Rattle.enumeration_model.specs.Schedules.{is_schedule, schedule_for, number_for, schedule_after}
 
 -- "20 for a or b above 32, 21 for a number not below the count, 22 for a turn list with other totals or a third
 -- process"

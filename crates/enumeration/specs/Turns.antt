@@ -5,7 +5,7 @@ use Rattle.llsc.specs.declared.refusals.Refusal.{Refusal}
 use Rattle.llsc.specs.declared.refusals.Refusal.TheVariants.{TooManyTurns}
 use Rattle.enumeration.specs.declared.totals.Totals.{Totals}
 use Rattle.ways.specs.Ways.{ways}
-use Rattle.dictionary.specs.Schedules.{is_schedule, number_for}
+use Rattle.enumeration_model.specs.Schedules.{is_schedule, number_for}
 
 -- the totals that were asked for, and the refusal of those above 32
 pub record TotalsOf (a b : ℕ) (t : Totals) : Type 0 where

@@ -1,7 +1,7 @@
 // Both translations, where nothing is refused but the turns themselves.
 ghost use Rattle.std.specs.Prelude.{◌≡◌, ◌<◌};
 ghost use Rattle.ways.specs.Ways.{ways};
-ghost use Rattle.dictionary.specs.Schedules.{schedule_for};
+ghost use Rattle.enumeration_model.specs.Schedules.{schedule_for};
 ghost use Rattle.enumeration.specs.Replies.{kept};
 ghost use Rattle.enumeration.specs.Turns.{placed};
 

@@ -26,8 +26,8 @@ use Rattle.laws.proofs.AndLaws.{left, right}
 use Rattle.laws.proofs.Updates.{contra}
 use Rattle.access.specs.Accesses.{shown_act, shown, paper_line, doing_now, access_of}
 use Rattle.access.proofs.Theorems.{IsOne, one_at, item_shown}
-use Rattle.commuting.specs.OnTheBench.{bench_does}
-use Rattle.commuting.proofs.OnTheBench.{commute_on_the_bench}
+use Rattle.commuting_laws.specs.OnTheBench.{bench_does}
+use Rattle.commuting_laws.proofs.OnTheBench.{commute_on_the_bench}
 use Rattle.std.specs.Bool.{beq}
 use Rattle.std.specs.Prelude.{Some}
 use Rattle.model.specs.Words.{word_of}

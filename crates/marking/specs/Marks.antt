@@ -19,7 +19,7 @@ use Rattle.access.specs.declared.Act.{Act}
 use Rattle.access.specs.declared.Act.TheVariants.{Read, Write, Ll, Sc, Vl}
 use Rattle.access.specs.declared.Access.{Access}
 use Rattle.access.specs.Accesses.{item_of, access_of}
-use Rattle.commuting.specs.OnTheBench.{Admitted, bench_does, BenchSwapped}
+use Rattle.commuting_laws.specs.OnTheBench.{Admitted, bench_does, BenchSwapped}
 use Rattle.marking.specs.declared.NamedItem.{NamedItem}
 use Rattle.marking.specs.declared.NamedItem.TheVariants as name
 use Rattle.marking.specs.declared.Touch.{Touch}

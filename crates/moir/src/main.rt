@@ -10,7 +10,7 @@ fn main(rt: HostRuntime) -> ExitCode {
     let got = console::read_full(&mut rt.stdin(), &mut text);
     let given = &text[..got];
     let mut list = console::large_buffer();
-    let out = moir_run::texts::run_text(given, false, &mut list);
+    let out = moir_text_machine::texts::run_text(given, false, &mut list);
     let left = moir_messages::left(out.held);
     let ended = messages::Ended {
         run: out.holding(left),

@@ -12,7 +12,7 @@ fn main(rt: HostRuntime) -> Result<ExitCode, AllocError> {
     let given = &text[..got];
     // room for the trace of 60,000 entries
     let mut list = vec![in rt.alloc(); 0; 3145728]?;
-    let out = moir_run::texts::run_text(given, true, &mut list);
+    let out = moir_text_machine::texts::run_text(given, true, &mut list);
     let left = moir_messages::left(out.held);
     let ended = messages::Ended {
         run: out.holding(left),

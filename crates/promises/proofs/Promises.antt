@@ -3,32 +3,32 @@ use native.Mathlib.Omega.{arith}
 use Rattle.linearization.proofs.Theorems as Bench
 use Rattle.station_laws.proofs.Theorems as Station
 use Rattle.station_facts.proofs.Accepts.{obeys}
-use Rattle.commuting.proofs.Theorems.{follows_doing, depends_only, alters_no_other, commute}
-use Rattle.commuting.proofs.OnTheBench.{commute_on_the_bench}
+use Rattle.commuting_laws.proofs.Theorems.{follows_doing, depends_only, alters_no_other, commute}
+use Rattle.commuting_laws.proofs.OnTheBench.{commute_on_the_bench}
 use Rattle.notation.proofs.Theorems as Notation
 use Rattle.listing.proofs.Theorems.{after_divisions}
-use Rattle.semantics_laws.proofs.FinishLaws.{until_answered, finish_bounded}
-use Rattle.semantics_laws.proofs.TraceTruth as Trace
-use Rattle.station_run.proofs.Theorems.{record_0_alone, text_set_up}
-use Rattle.station_texts.proofs.Theorems.{entry_by_entry}
+use Rattle.text_laws.proofs.FinishLaws.{until_answered, finish_bounded}
+use Rattle.text_laws.proofs.TraceTruth as Trace
+use Rattle.station_text_machine.proofs.Theorems.{record_0_alone, text_set_up}
+use Rattle.station_text_laws.proofs.Theorems.{entry_by_entry}
 use Rattle.marking.proofs.Theorems.{marks_mean_apart, trace_shows_line, marked_change_places}
-use Rattle.marked_runs.proofs.Theorems.{every_text_is_marked, marked_fits}
+use Rattle.marking_laws.proofs.Theorems.{every_text_is_marked, marked_fits}
 use Rattle.verdicts.proofs.VerdictLaws.{verdict_says}
 use Rattle.verdicts.proofs.ReasonLaws.{verdict_of_reason, reason_exactly_at_no}
 use Rattle.reasons.proofs.ToldAnswers.{reason_5_shown}
-use Rattle.histories.proofs.Theorems.{every_history_earns_yes, yes_is_right}
-use Rattle.station_histories.proofs.Theorems.{every_history_earns_yes_by_record}
+use Rattle.verdict_laws.proofs.Theorems.{every_history_earns_yes, yes_is_right}
+use Rattle.station_verdict_laws.proofs.Theorems.{every_history_earns_yes_by_record}
 use Rattle.sums.proofs.Theorems.{season_table, any_order, right_taken, sums_stay}
-use Rattle.season.proofs.Theorems.{season_takes}
+use Rattle.season_laws.proofs.Theorems.{season_takes}
 use Rattle.enumeration.proofs.Theorems.{every_schedule_once, in_dictionary_order, after_follows}
 use Rattle.enumeration.proofs.ReplyTheorems.{number_of_found, found_of_number}
 use Rattle.turns_model.proofs.Theorems.{every_turn_says}
 use Rattle.boards.proofs.Theorems.{merge_merges, only_one, empty_gives_other}
 use Rattle.board_commands.proofs.Theorems.{every_file_runs, runs_among_commands}
-use Rattle.board_promises.proofs.Theorems.{every_listed_run, every_exported_run}
+use Rattle.board_laws.proofs.Theorems.{every_listed_run, every_exported_run}
 use Rattle.moir_linearization.proofs.Theorems as Moir
-use Rattle.moir_semantics.proofs.Theorems.{text_order}
-use Rattle.moir_semantics.proofs.TraceTruth as MoirTrace
+use Rattle.moir_text_model.proofs.Theorems.{text_order}
+use Rattle.moir_text_model.proofs.TraceTruth as MoirTrace
 use Rattle.promises.specs.Promises.{Promise1, Promise2, Promise3, Promise4, NoOwnDoing}
 use Rattle.promises.specs.Promises.{SeveralRecords, OneItemAlone, ChangePlaces}
 use Rattle.promises.specs.TextRunPromises.{EveryTextIsRead, NumbersOneWay, DigitsByDivision, EveryTextIsPromised}

@@ -6,7 +6,7 @@ use Rattle.notation.specs.Grammar.{says}
 use Rattle.linearization.proofs.Theorems as Bench
 use Rattle.whole_runs.proofs.TextLaws.{run_right}
 use Rattle.text_runs.proofs.RunCommands.{carries}
-use Rattle.semantics.specs.TextRun.{figure2, Ended}
+use Rattle.text_model.specs.TextRun.{figure2, Ended}
 use Rattle.promises.specs.TextRunPromises.{prepared, RunPromised, EveryTextIsPromised}
 
 pub every_text_is_promised : EveryTextIsPromised

@@ -2,13 +2,13 @@
 -- trace files of boards. The entries' replies are their contracts: `found_for`, `numbered_for`, `following_for`,
 -- `turn_of`, `merge_files` and `run_file`.
 use Rattle.std.specs.Prelude.{◌≡◌, ℕ, List, Ok, true, ltb}
-use Rattle.dictionary.specs.Schedules.{is_schedule, before, number_for, schedule_after, ComesOnce, Follows}
+use Rattle.enumeration_model.specs.Schedules.{is_schedule, before, number_for, schedule_after, ComesOnce, Follows}
 use Rattle.enumeration.specs.declared.Schedule.{Schedule}
 use Rattle.enumeration.specs.Replies.{kept, turns_in, found_for, numbered_for}
 use Rattle.turns_model.specs.TurnPromises.{EveryTurnSays}
 use Rattle.boards.specs.Promises.{MergeMerges, OnlyOne, EmptyGivesOther}
 use Rattle.board_commands.specs.Promises.{EveryFileRuns, RunsAmongCommands}
-use Rattle.board_promises.specs.Promises.{EveryListedRun, EveryExportedRun}
+use Rattle.board_laws.specs.Promises.{EveryListedRun, EveryExportedRun}
 
 -- ALL SMALL SCHEDULES (CR 5): "every schedule comes once", "Schedules come in dictionary order, process 0 before
 -- process 1", and the one after is the next in that order, "or word that it was the last".

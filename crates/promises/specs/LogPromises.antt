@@ -11,14 +11,14 @@ use Rattle.verdicts.specs.Log.{Entry}
 use Rattle.verdicts.specs.Verdicts.{judged, VerdictSays}
 use Rattle.verdicts.specs.ToldAnswers.{Unlike}
 use Rattle.verdicts.specs.Reasons.{judged_with_reason, verdict_of, reason_for, reason_of_no, numbered_in_order}
-use Rattle.histories.specs.Promises.{EveryHistoryEarnsYes, YesIsRight}
-use Rattle.station_histories.specs.StationPromises.{EveryHistoryEarnsYesByRecord}
+use Rattle.verdict_laws.specs.Promises.{EveryHistoryEarnsYes, YesIsRight}
+use Rattle.station_verdict_laws.specs.StationPromises.{EveryHistoryEarnsYesByRecord}
 use Rattle.model.specs.Machine.{Memory}
 use Rattle.notation.specs.Grammar.{Said, deepest}
 use Rattle.notation.specs.Right.{Tells}
-use Rattle.semantics.specs.TextRun.{run_text}
+use Rattle.text_model.specs.TextRun.{run_text}
 use Rattle.answers.specs.Shape.{Right, longest_listing}
-use Rattle.marked_runs.specs.MarkedRun.{written_by}
+use Rattle.marking_laws.specs.MarkedRun.{written_by}
 use Rattle.sums.specs.declared.Sums.{Sums}
 use Rattle.sums.specs.Season.{empty_sums, most_listings, sums_refusal, added, sums_after, add_all}
 use Rattle.sums.specs.Fractions.{table}

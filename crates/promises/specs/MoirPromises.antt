@@ -1,6 +1,6 @@
 -- The promises of README for Moir's bench (CR 8): "Promises 1 and 2 hold of its command, its set-up and its text run
 -- as well", and the order of its answers under the bound. The text run itself is the contract of
--- `moir_run::run_text`, `TextRan` of `moir_run/specs/TextRan`.
+-- `moir_text_machine::run_text`, `TextRan` of `moir_text_machine/specs/TextRan`.
 use Rattle.std.specs.Prelude.{◌≡◌, ℕ, List, true, false, replicate}
 use Rattle.llsc.specs.Rows.{first}
 use Rattle.llsc.specs.History.{Command}
@@ -15,9 +15,9 @@ use Rattle.moir_linearization.specs.ShortRuns.{ShortOrder}
 use Rattle.moir_linearization.specs.OwnDoing.{NeverForItsOwnDoing}
 use Rattle.notation.specs.Grammar.{Said}
 use Rattle.text_runs.specs.TextRun.{carry_all}
-use Rattle.moir_semantics.specs.TextRun.{figure6}
-use Rattle.moir_semantics.specs.TextOrder.{TextOrder}
-use Rattle.moir_semantics.specs.TrueLines.{Told, trace_begun}
+use Rattle.moir_text_model.specs.TextRun.{figure6}
+use Rattle.moir_text_model.specs.TextOrder.{TextOrder}
+use Rattle.moir_text_model.specs.TrueLines.{Told, trace_begun}
 use Rattle.promises.specs.Promises.{some_cause}
 
 -- PROMISE 1 of its command and its set-up. "Rows 1 to 9 serve this bench".

@@ -26,8 +26,8 @@ use Rattle.station_laws.specs.StationWordsStay.{WordsStayByRecord}
 use Rattle.station_laws.specs.StationOwnDoing.{StationNeverForItsOwnDoing}
 use Rattle.station_laws.specs.OthersStay.{OthersStay}
 use Rattle.station_laws.specs.OneRecord.{OneRecordIsTheBench}
-use Rattle.commuting.specs.Commuting.{FollowsDoing, DependsOnly, AltersNoOther, Commute}
-use Rattle.commuting.specs.OnTheBench.{CommuteOnTheBench}
+use Rattle.commuting_laws.specs.Commuting.{FollowsDoing, DependsOnly, AltersNoOther, Commute}
+use Rattle.commuting_laws.specs.OnTheBench.{CommuteOnTheBench}
 
 -- PROMISE 1. "A command is refused exactly when a cause of the refusal table holds, and then nothing in memory
 -- changes." 01: "Checked in row order; a refusal comes wherever its cause holds." Its column "Left as it was": "all

@@ -1,6 +1,7 @@
 -- The promises of README for a text run, its listing and its trace, and for the marks of `swaps`. The text run itself
--- is the contract of `bench::run_text`: `station_run_text` of `station_run/specs/StationText`. Where a run stops is a
--- contract too: `StopsAt` of `text_runs/specs/StopPlaces` (`run::run_text`, `moir_run::run_text`).
+-- is the contract of `bench::run_text`: `station_run_text` of `station_text_machine/specs/StationText`. Where a run
+-- stops is a contract too: `StopsAt` of `text_runs/specs/StopPlaces` (`text_machine::run_text`,
+-- `moir_text_machine::run_text`).
 use Rattle.std.specs.Prelude.{◌≡◌, ◌⊎◌, ◌^◌, ℕ, ◌≤◌, ◌<◌, List, Bool, length, replicate}
 use Rattle.model.specs.Machine.{Memory, Shaped}
 use Rattle.model.specs.SetUp.{set_up}
@@ -14,13 +15,13 @@ use Rattle.listing.specs.Decimal.{decimal}
 use Rattle.listing.specs.Divisions.{divided, ReadyDigits}
 use Rattle.text_runs.specs.TextRun.{room_needed, longest_text, run_with}
 use Rattle.text_runs.specs.RunCommands.{Carries}
-use Rattle.semantics.specs.TextRun.{figure2, Ended, carry_all}
-use Rattle.semantics_laws.specs.Finishing.{UntilAnswered, FinishBounded}
-use Rattle.semantics_laws.specs.TrueLines.{Told, trace_begun}
-use Rattle.station_run.specs.TextPromises.{Record0Alone, TextSetUp}
-use Rattle.station_texts.specs.EntryByEntry.{EntryByEntry}
+use Rattle.text_model.specs.TextRun.{figure2, Ended, carry_all}
+use Rattle.text_laws.specs.Finishing.{UntilAnswered, FinishBounded}
+use Rattle.text_laws.specs.TrueLines.{Told, trace_begun}
+use Rattle.station_text_machine.specs.TextPromises.{Record0Alone, TextSetUp}
+use Rattle.station_text_laws.specs.EntryByEntry.{EntryByEntry}
 use Rattle.marking.specs.Marks.{MarksMeanApart, TraceShowsLine, MarkedChangePlaces}
-use Rattle.marked_runs.specs.MarkedRun.{EveryTextIsMarked, MarkedFits}
+use Rattle.marking_laws.specs.MarkedRun.{EveryTextIsMarked, MarkedFits}
 
 -- THE NOTATION (01): "A fault 10 or 11 stands at the first byte (the text's end counts as one) after which no text of
 -- any length could be right, .. the leftmost decides, 10 first." So a text is right and says one thing, or has one

@@ -3,11 +3,11 @@
 
 #![tactic(auto)]
 
-use entry::state::Held;
+use text_entry::state::Held;
 use std::process::ExitCode;
 
 // Kept: alike in five programs but for the run, the rooms and swaps' marks, which stand between what they share.
-#[tactic(auto, using(run::proofs::RecordLaws::fillers))]
+#[tactic(auto, using(text_machine::proofs::RecordLaws::fillers))]
 fn main(rt: HostRuntime) -> ExitCode {
     let mut text = [0; 16385];
     let got = console::read_full(&mut rt.stdin(), &mut text);
@@ -15,7 +15,7 @@ fn main(rt: HostRuntime) -> ExitCode {
     let mut list = console::large_buffer();
     let mut words = [0; 5120];
     let held = Held::empty();
-    let out = run::text_run::run_by_value(held, 16, false, &mut words, given, &mut list);
+    let out = text_machine::text_run::run_by_value(held, 16, false, &mut words, given, &mut list);
     let left = messages::figure2::left(out.held.all);
     let ended = messages::Ended {
         run: out.holding(left),

@@ -4,7 +4,7 @@
 
 #![tactic(auto)]
 
-use entry::state::Held;
+use text_entry::state::Held;
 use std::alloc::AllocError;
 use std::process::ExitCode;
 
@@ -18,7 +18,7 @@ fn main(rt: HostRuntime) -> Result<ExitCode, AllocError> {
     let mut marked = vec![in rt.alloc(); 0; 3265730]?;
     let mut words = [0; 5120];
     let held = Held::empty();
-    let out = run::text_run::run_by_value(held, 16, true, &mut words, given, &mut list);
+    let out = text_machine::text_run::run_by_value(held, 16, true, &mut words, given, &mut list);
     let trace = &list[..out.written.min(list.len())];
     let count = marking::output::mark_lines(trace, &mut marked);
     let left = messages::figure2::left(out.held.all);

@@ -1,6 +1,6 @@
 -- The ranges that a step relies on, n for N and w for W: what rows 1, 2, 3, 9 and 4 of the refusal table ask of an
--- accepted one. `access`'s `Truth` has them as premise; `entry`'s `ObeyableLaws` proves them of every command that no row
--- refuses.
+-- accepted one. `access`'s `Truth` has them as premise; `text_entry`'s `ObeyableLaws` proves them of every command that
+-- no row refuses.
 use Rattle.std.specs.Prelude.{◌≡◌, true, ℕ, ◌<◌, ◌≤◌, List, length}
 use Rattle.llsc.specs.declared.ProcessNumber.{ProcessNumber}
 use Rattle.model.specs.declared.Bench.{Bench}

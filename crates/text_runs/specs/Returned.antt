@@ -1,5 +1,5 @@
 -- What a finished run is handed on as.
--- Inner: `station_run`, `bench::run_text` and `besklaun`'s text runs return `TextRun`'s run by it.
+-- Inner: `station_text_machine`, `bench::run_text` and `besklaun`'s text runs return `TextRun`'s run by it.
 use Rattle.llsc.specs.Refusals.{number_told}
 use Rattle.text_runs.specs.declared.returned.TextRun.{TextRun}
 use Rattle.text_runs.specs.declared.runs.Finished.{Finished}

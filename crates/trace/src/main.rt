@@ -3,7 +3,7 @@
 
 #![tactic(auto)]
 
-use entry::state::Held;
+use text_entry::state::Held;
 use std::alloc::AllocError;
 use std::process::ExitCode;
 
@@ -15,7 +15,7 @@ fn main(rt: HostRuntime) -> Result<ExitCode, AllocError> {
     let mut list = vec![in rt.alloc(); 0; 3145728]?;
     let mut words = [0; 5120];
     let held = Held::empty();
-    let out = run::text_run::run_by_value(held, 16, true, &mut words, given, &mut list);
+    let out = text_machine::text_run::run_by_value(held, 16, true, &mut words, given, &mut list);
     let left = messages::figure2::left(out.held.all);
     let ended = messages::Ended {
         run: out.holding(left),

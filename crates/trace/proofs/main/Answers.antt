@@ -1,5 +1,5 @@
 -- `trace::main`: the records that it hands over are fillers.
-use Rattle.run.proofs.RecordLaws.{fillers}
+use Rattle.text_machine.proofs.RecordLaws.{fillers}
 use Rattle.trace.proofs.main.Goals as goal
 
 pub run_by_value-out-requires : goal.run_by_value-out-requires

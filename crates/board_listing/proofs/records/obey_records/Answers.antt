@@ -9,8 +9,8 @@ use Rattle.std.specs.Prelude.{Ok, Err}
 use Rattle.llsc.specs.Refusals.{refusal_number}
 use Rattle.llsc.proofs.RefusalNumbers.{number_some}
 use Rattle.whole_runs.specs.Carrying.{in_run, done_after, turn_number}
-use Rattle.entry.specs.RunState.{state_with}
-use Rattle.run.specs.Carried.{lent_state}
+use Rattle.text_entry.specs.RunState.{state_with}
+use Rattle.text_machine.specs.Carried.{lent_state}
 use Rattle.board_listing.specs.declared.ending.Stopped.{Stopped}
 use Rattle.board_listing.specs.ListedRun.{fresh_state}
 use Rattle.board_listing.proofs.LoopLaws.{Obeying, turned_becomes, not_stopped, in_list, refused, goes_on, all_done}

@@ -2,7 +2,7 @@
 use mathlib.Core.Path.{◌≡◌}
 use mathlib.Core.Bool.{false}
 use Rattle.whole_runs.specs.Carrying.{in_run}
-use Rattle.run.specs.Carried.{lent_state}
+use Rattle.text_machine.specs.Carried.{lent_state}
 use Rattle.board_listing.proofs.LoopLaws.{Obeying}
 use Rattle.board_listing.proofs.records.obey_records.Given as goal
 

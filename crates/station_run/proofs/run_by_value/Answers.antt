@@ -1,7 +1,0 @@
--- `station_run::run_by_value` meets its contract: the bench's own run on what was taken out, put back.
-use Rattle.station_run.proofs.StoredRun.{records_again}
-use Rattle.station_run.proofs.run_by_value.Goals as goal
-
-pub run_by_value-out-requires : goal.run_by_value-out-requires
-run_by_value-out-requires c =
-    records_again c.args.lent.all c.args.lent.len c.requires c.records_before.result c.records_before.ensures
