@@ -4,8 +4,8 @@ ghost use Rattle.boards.specs.Merging.{merge_files};
 ghost use Rattle.besklaun.specs.BoardRuns.{board_run};
 
 use boards::Merged;
-use text_entry::state::Held;
 use llsc::refusals::number_of;
+use text_entry::state::Held;
 
 // Two trace files made one, into the bytes lent.
 // Kept: two files and the bytes one by one, as the C library's header declares them.

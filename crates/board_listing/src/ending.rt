@@ -2,9 +2,9 @@
 ghost use Rattle.std.specs.Prelude.{◌≡◌};
 ghost use Rattle.board_listing.specs.ListedRun.{Closable, closed};
 
-use text_entry::state::Held;
 use listing::Writer;
 use llsc::refusals::Refusal;
+use text_entry::state::Held;
 use text_runs::last_lines;
 
 // A run at its end: what it holds, the commands done, the bytes written, and why it was refused, if it was.

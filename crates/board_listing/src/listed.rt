@@ -11,9 +11,9 @@ ghost use Rattle.board_listing.specs.ListedRun.{fresh_state, Between, closed, re
 use crate::ending::Stopped;
 use crate::{ending, records};
 use board_rows::right_records;
-use text_entry::state::Held;
 use llsc::refusals::Refusal;
 use notation::First;
+use text_entry::state::Held;
 use text_machine::carrying::LentHeld;
 use text_runs::limits;
 use whole_runs::texts::Starter;

@@ -6,8 +6,8 @@ ghost use Rattle.board_listing.specs.ListedRun.{fresh_state, stopped_state, Betw
 use crate::commands;
 use crate::ending::Stopped;
 use boards::records::Record;
-use text_entry::state::Held;
 use listing::Writer;
+use text_entry::state::Held;
 use text_machine::carrying::LentHeld;
 use whole_runs::entry_loop::Carrier;
 

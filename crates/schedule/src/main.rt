@@ -3,8 +3,8 @@
 
 #![tactic(auto)]
 
-use text_entry::state::Held;
 use std::process::ExitCode;
+use text_entry::state::Held;
 
 // Kept: alike in five programs but for the run, the rooms and swaps' marks, which stand between what they share.
 #[tactic(auto, using(text_machine::proofs::RecordLaws::fillers))]

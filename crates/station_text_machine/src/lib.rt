@@ -9,12 +9,12 @@ ghost use Rattle.station_records.specs.Gathered.{LentProcesses};
 ghost use Rattle.station_text_machine.specs.StationText.{record0};
 ghost use Rattle.station_text_machine.specs.TextByValue.{bench_before, records_before, station_ran, processes_ran, put_back, StationRan};
 
-use text_entry::state::Held;
 use model::{Bench, Process};
-use text_machine::text_run;
 use station::{RecordNumber, Station, StationProcess, Tables};
 use station_records::gathered::Gathered;
 use station_records::left::Left;
+use text_entry::state::Held;
+use text_machine::text_run;
 use text_runs::runs::Finished;
 
 // Record 0 as a bench that is not set up.

@@ -6,12 +6,12 @@ ghost use Rattle.text_model.specs.TextRun.{figure2};
 ghost use Rattle.text_entry.specs.RunState.{progress, Sound};
 ghost use Rattle.text_machine.specs.Carried.{lent_memory, lent_state};
 
-use text_entry::state::Held;
-use text_entry::{entries, refusals, turn};
 use listing::Writer;
 use llsc::refusals::Refusal;
 use model::Process;
 use notation::Entry;
+use text_entry::state::Held;
+use text_entry::{entries, refusals, turn};
 use text_runs::{entries as text_entries, limits};
 use whole_runs::entry_loop::Carrier;
 

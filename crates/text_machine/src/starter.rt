@@ -8,11 +8,11 @@ ghost use Rattle.text_machine.specs.Finished.{memory_of};
 
 use crate::carrying::LentHeld;
 use crate::set_up;
-use text_entry::state::Held;
 use llsc::counts::Processes;
 use llsc::refusals::Refusal;
 use notation::First;
 use rows::table::Lent;
+use text_entry::state::Held;
 use text_runs::lists;
 use whole_runs::texts::Starter;
 

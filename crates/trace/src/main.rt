@@ -3,9 +3,9 @@
 
 #![tactic(auto)]
 
-use text_entry::state::Held;
 use std::alloc::AllocError;
 use std::process::ExitCode;
+use text_entry::state::Held;
 
 fn main(rt: HostRuntime) -> Result<ExitCode, AllocError> {
     let mut text = [0; 16385];

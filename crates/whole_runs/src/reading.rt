@@ -3,9 +3,9 @@ ghost use Rattle.std.specs.Prelude.{◌≡◌, ◌≤◌, length};
 ghost use Rattle.notation.specs.Listed.{Placeable};
 ghost use Rattle.whole_runs.specs.Reading.{ReadInto, is_full};
 
-use text_runs::limits;
 use llsc::refusals::Refusal;
 use notation::items::{self, Fault, Items};
+use text_runs::limits;
 
 // How many entries the list keeps, as many as there is room for; or the fault, of which a `)` with no group is one.
 #[tactic(auto, using(crate::proofs::TextLaws::reading_laws))]
