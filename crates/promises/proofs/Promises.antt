@@ -128,7 +128,8 @@ right_listings_taken = (right_taken, sums_stay)
 
 pub listings_are_taken : ListingsAreTaken
 listings_are_taken s m text listing e h room lent names =
-    season_takes s m text listing e h (omega (arith, room)) (omega (arith, lent)) (λ a is. names a (Notation.read_is_right text a is))
+    season_takes s m text listing e h (omega (arith, room)) (omega (arith, lent))
+    (λ a is. names a (Notation.read_is_right text a is))
 
 -- schedules, turns and boards
 pub every_schedule : EverySchedule

@@ -24,6 +24,7 @@ pub none_first : (rs : List Row) → some_cause rs ≡ false → first rs ≡ 0
 none_first [] e = refl
 none_first (r ∷ rs) e = by r.holds (none_first rs) e
   where
-    by : (b : Bool) → (some_cause rs ≡ false → first rs ≡ 0) → (b || some_cause rs) ≡ false → cond b r.number (first rs) ≡ 0
+    by : (b : Bool) → (some_cause rs ≡ false → first rs ≡ 0)
+        → (b || some_cause rs) ≡ false → cond b r.number (first rs) ≡ 0
     by true rest e = absurd (contra refl e)
     by false rest e = rest e

@@ -1,6 +1,7 @@
 -- The promises of README for other ways to give the bench its commands: all small schedules in order, turns, and the
--- trace files of boards. The entries' replies are their contracts: `found_for`, `numbered_for`, `following_for`,
--- `turn_of`, `merge_files` and `run_file`.
+-- trace files of boards. The entries' replies are their contracts: `found_for`, `numbered_for` and `following_for` at
+-- `enumeration`'s three, `merge_files` at `boards::merge`, `turn_of` and `run_file` at the entries for a turn and for a
+-- board's file.
 use Rattle.std.specs.Prelude.{◌≡◌, ℕ, List, Ok, true, ltb}
 use Rattle.enumeration_model.specs.Schedules.{is_schedule, before, number_for, schedule_after, ComesOnce, Follows}
 use Rattle.enumeration.specs.declared.Schedule.{Schedule}

@@ -1,5 +1,6 @@
 -- The promises of README for what stations write down: the judge of their logs, with its reason, and the season of
--- listings. The entries' replies are their contracts: `judged`, `judged_with_reason`, `added` and `table`.
+-- listings. The entries' replies are their contracts: `judged` at `judging::judge`, `judged_with_reason` at
+-- `reasons::judge_with_reason`, `added` at `sums::add_listing`, `table` at `sums::table_of`.
 use Rattle.std.specs.Prelude.{◌≡◌, ℕ, ◌≤◌, ◌<◌, List, length, None, Some}
 use Rattle.std.specs.Result.{IsOk, IsErr}
 use mathlib.Core.List.{Permᴰ}
@@ -73,4 +74,5 @@ abbrev pub ListingsAreTaken : Type 0
 ListingsAreTaken =
     (s : Sums) (m : Memory) (text listing : List ℕ) → sums_refusal s ≡ 0 → s.taken < most_listings
     → 744 ≤ length listing → length listing ≤ longest_listing
-    → ((a : Said) → Tells deepest text a → (a.n ≡ s.n) × (a.w ≡ s.w)) → IsOk (added s (written_by (run_text m text listing)))
+    → ((a : Said) → Tells deepest text a → (a.n ≡ s.n) × (a.w ≡ s.w))
+    → IsOk (added s (written_by (run_text m text listing)))

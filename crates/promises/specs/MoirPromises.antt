@@ -1,6 +1,6 @@
 -- The promises of README for Moir's bench (CR 8): "Promises 1 and 2 hold of its command, its set-up and its text run
--- as well", and the order of its answers under the bound. The text run itself is the contract of
--- `moir_text_machine::run_text`, `TextRan` of `moir_text_machine/specs/TextRan`.
+-- as well", and the order of its answers under the bound. What its entries reply and leave is their contracts: `command`
+-- and `set_up` at `moir_bench`'s two, `TextRan` of `moir_text_machine/specs/TextRan` at its text run.
 use Rattle.std.specs.Prelude.{◌≡◌, ℕ, List, true, false, replicate}
 use Rattle.llsc.specs.Rows.{first}
 use Rattle.llsc.specs.History.{Command}

@@ -2,8 +2,8 @@
 -- that must be believed, under the sentence of 01 or 02 that it states; `proofs/Promises` proves it. The other files
 -- of this crate have text runs, the judge and the season, schedules and boards, and Moir's bench.
 -- Not said here: that an entry reads and writes only what it was lent, and ends. Every function that is proved does.
--- What an entry replies and leaves is its contract, an equation with a definition (README, "Using the bench from
--- Rattle").
+-- What an entry replies and leaves is its contract, an equation with a definition: `station_command`, `station_set_up`,
+-- `view` and `view_number` at `command`, `set_up`, `view` and `view_number` of `crates/bench/src/lib.rt`.
 use Rattle.std.specs.Prelude.{◌≡◌, ℕ, List, Bool, true, false}
 use Rattle.llsc.specs.Rows.{Row, first, some}
 use Rattle.model.specs.declared.Reply.TheVariants.{Refused}

@@ -1,7 +1,7 @@
 -- The promises of README for a text run, its listing and its trace, and for the marks of `swaps`. The text run itself
 -- is the contract of `bench::run_text`: `station_run_text` of `station_text_machine/specs/StationText`. Where a run
--- stops is a contract too: `StopsAt` of `text_runs/specs/StopPlaces` (`text_machine::run_text`,
--- `moir_text_machine::run_text`).
+-- stops is a contract too: `StopInText` of `text_runs/specs/StopPlaces`, at `whole_runs::texts::run_text`, for both
+-- benches.
 use Rattle.std.specs.Prelude.{◌≡◌, ◌⊎◌, ◌^◌, ℕ, ◌≤◌, ◌<◌, List, Bool, length, replicate}
 use Rattle.model.specs.Machine.{Memory, Shaped}
 use Rattle.model.specs.SetUp.{set_up}
