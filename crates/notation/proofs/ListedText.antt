@@ -1,8 +1,9 @@
 -- What the readers put into the list, of a whole text: what it says, and where that stands, by the grammar.
-use Prim.Native.Nat.{ℕ, ◌+◌, ◌<◌}
+use Prim.Native.Nat.{ℕ, ◌+◌, ◌<◌, min}
 use mathlib.Core.Path.{◌≡◌, refl, sym, ap, ◌∙◌}
 use mathlib.Core.List.{List, [], ◌∷◌, map}
 use mathlib.Core.Bool.{Bool, false, cond}
+use native.Mathlib.Omega.{arith}
 use native.Mathlib.Numerals.{add-one}
 use borrow.Author.Tests.{eq-eqb}
 use lib.Dec.{eqb}
@@ -73,7 +74,10 @@ module _ (t : Text deepest) {s list list' : List ℕ} {n w v items to : ℕ} (is
   same_entries : x.says ≡ (says t).entries
   same_entries = ap (λ (a : Said). a.entries) (sym listed_says)
 
-  -- so the words keep as many as there is room for
+  -- so the words keep both, as many as there is room for
+  pub words_end : to ≡ min (length list) (length (says t).entries)
+  words_end = omega (arith, x.lists.entries.to_is, ap length same_entries)
+
   pub words_say : map entry_in (take to list') ≡ map kept_entry (take (length list) (says t).entries)
   words_say = kept_entries x.lists ∙ ap (λ (es : List Entry). map kept_entry (take (length list) es)) same_entries
 
