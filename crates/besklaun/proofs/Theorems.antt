@@ -1,19 +1,40 @@
 -- No text is refused for what a bench of its own has: it has room for every N and W.
-use mathlib.Core.Path.{◌≡◌}
+use mathlib.Core.Path.{◌≡◌, refl, ap, ◌∙◌}
 use mathlib.Core.List.{List}
+use mathlib.Core.Bool.{Bool, true, false}
 use Prim.Native.Nat.{ℕ, ◌≤◌, ◌*◌}
 use native.Mathlib.Nat.{mul-le-mul}
 use native.Mathlib.Omega.{arith}
+use lib.Dec.{leb}
 use lib.ListN.{length}
-use borrow.Author.Tests.{le-leb, le-ltb, eq-eqb}
+use borrow.Author.Tests.{leb-true, le-leb, le-ltb, eq-eqb}
+use Rattle.notation.specs.Grammar.{Said}
+use Rattle.notation.specs.Readings.{right}
+use Rattle.notation.specs.FirstLine.{read}
 use Rattle.model.specs.SetUp.{set_up_refusal}
-use Rattle.besklaun.specs.OwnBench.{own_memory, own_words}
+use Rattle.besklaun.specs.OwnBench.{narrow, words_for, words_of, own_memory, own_words}
 
-pub own_bench_has_room : (n w : ℕ) (value : List ℕ) → 1 ≤ n → n ≤ 16 → 1 ≤ w → w ≤ 64 → length value ≡ w →
-    set_up_refusal own_memory n w value ≡ 0
+rows : {n : ℕ} → n ≤ 16 → 5 * n ≤ 80
+rows few = omega (arith, few)
+
+enough : (n w : ℕ) → n ≤ 16 → w ≤ 64 → 5 * n * w ≤ length (words_for w)
+enough n w few most = by (leb w narrow) refl
+  where
+    by : (b : Bool) → leb w narrow ≡ b → 5 * n * w ≤ length (words_for w)
+    by true e = rw e (omega (arith, mul-le-mul (rows few) (leb-true w narrow e)))
+    by false e = rw e (omega (arith, mul-le-mul (rows few) most))
+
+words_have_room : (n w : ℕ) (value : List ℕ) → 1 ≤ n → n ≤ 16 → 1 ≤ w → w ≤ 64 → length value ≡ w →
+    set_up_refusal (own_memory (words_for w)) n w value ≡ 0
 unfolding set_up_refusal
-own_bench_has_room n w value some few words narrow whole =
-    let rows : 5 * n ≤ 80 = omega arith in
-    let needed : 5 * n * w ≤ length own_words = omega (arith, mul-le-mul rows narrow) in
-    let lent = le-ltb (length own_words) (5 * n * w) needed in
-    simp (le-leb 1 n some, le-leb n 16 few, le-leb 1 w words, le-leb w 64 narrow, lent, le-ltb 16 n few, eq-eqb (length value) w whole)
+words_have_room n w value some few words most whole =
+    let lent = le-ltb (length (words_for w)) (5 * n * w) (enough n w few most) in
+    simp (le-leb 1 n some, le-leb n 16 few, le-leb 1 w words, le-leb w 64 most, lent, le-ltb 16 n few, eq-eqb (length value) w whole)
+
+-- of a right text, whatever N and W it has
+pub own_bench_has_room : (text : List ℕ) (a : Said) (value : List ℕ) → read text ≡ right a →
+    1 ≤ a.n → a.n ≤ 16 → 1 ≤ a.w → a.w ≤ 64 → length value ≡ a.w →
+    set_up_refusal (own_memory (own_words text)) a.n a.w value ≡ 0
+own_bench_has_room text a value reads some few words most whole =
+    ap (λ (ws : List ℕ). set_up_refusal (own_memory ws) a.n a.w value) (ap words_of reads)
+    ∙ words_have_room a.n a.w value some few words most whole

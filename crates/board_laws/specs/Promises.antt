@@ -9,7 +9,7 @@ use Rattle.text_model.specs.TextRun.{Ended}
 use Rattle.board_commands.specs.declared.FileRun.{FileRun}
 use Rattle.board_commands.specs.BoardRun.{run_file}
 use Rattle.board_listing.specs.BoardListing.{board_listed}
-use Rattle.besklaun.specs.OwnBench.{own_words}
+use Rattle.besklaun.specs.OwnBench.{all_words}
 use Rattle.besklaun.specs.BoardRuns.{board_run}
 
 -- number and commands done
@@ -35,7 +35,7 @@ EveryListedRun = (s : StationMemory) → StationShaped s → (n w k : ℕ) (file
 
 -- So it is of the run that the library exports: its bench is that of record 0 of this station.
 abbrev pub own_station : StationMemory
-own_station = station_memory empty_station (replicate 16 empty_process) own_words
+own_station = station_memory empty_station (replicate 16 empty_process) all_words
 
 abbrev pub EveryExportedRun : Type 0
 EveryExportedRun =

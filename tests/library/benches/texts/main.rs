@@ -105,7 +105,7 @@ fn nanoseconds(least: f64, mut call: impl FnMut() -> Told) -> f64 {
 
 fn proved(style: &Style, text: &[u8], lent: &mut [u8]) -> Told {
     let run = (style.proved)(text, lent);
-    (run.number, run.entries as u64, run.written)
+    (run.number(), run.entries as u64, run.written)
 }
 
 fn plain(style: &Style, text: &[u8], lent: &mut [u8]) -> Told {

@@ -1,6 +1,0 @@
--- `besklaun::texts::own_run`: the run by value is the run on a bench of its own.
-use Rattle.besklaun.proofs.OwnBenchLaws.{ran_alone}
-use Rattle.besklaun.proofs.texts.own_run.Goals as goal
-
-pub returns : goal.returns
-returns c = rw c.from.ensures (ran_alone _ _ _ _ _ _ _ c.empty-held.ensures c.run_by_value-out.ensures)
