@@ -1,0 +1,3 @@
+pub mod TabLaws
+pub mod BlockLaws
+pub mod MemoryLaws

@@ -1,0 +1,4 @@
+pub mod FitLaws
+pub mod ListLaws
+pub mod NearRowLaws
+pub mod NearLaws
