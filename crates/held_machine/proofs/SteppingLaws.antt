@@ -17,6 +17,9 @@ use Rattle.held_model.specs.Told.{told_with, told}
 use Rattle.held_model.specs.Near.{near_refusal, near_command}
 use Rattle.held_model.specs.HeldCommand.{DoneBy, Commanded, SteppedTo}
 use Rattle.held_model.proofs.MemoryLaws.{memory_shaped}
+use Rattle.station_facts.proofs.Accepts.{refuses as refuses_all}
+use Rattle.held_rows.specs.WholeRows.{memory_number}
+use Rattle.held_rows.proofs.NearRowLaws.{memory_refuses, memory_passes}
 use Rattle.held_rows.proofs.NearLaws.{near_refusal_is, near_command_is}
 
 module _ (s : StationMemory) (c : StationOrder) where
@@ -61,3 +64,17 @@ module _ {l : List ℕ} {c : StationOrder} {t : Told} {l' : List ℕ} where
         memory = ap (λ (x : Reply × StationMemory). x.1) r;
         refused = λ n. absurd (n e);
       })
+
+  -- the two answers of a command that looks at row 9 over the whole list
+  pub command_refused : (k : ℕ) → k ≡ memory_number l → (k ≡ 0 → ⊥) → t ≡ told_with k 0 false 0 → l' ≡ l → Commanded l c t l'
+  command_refused k e n a b =
+      let z : k ≡ station_refusal (memory_of l) c = memory_refuses l c k e n in
+      let r : station_command (memory_of l) c ≡ (Refused (station_refusal (memory_of l) c), memory_of l) = refuses_all (memory_of l) c (λ x. n (z ∙ x)) in
+      record {
+        answer = a ∙ ap (λ (i : ℕ). told_with i 0 false 0) z ∙ ap (λ (x : Reply × StationMemory). told (number_at l 0) (number_at l 1) (number_at l 2) c.process x.0) (sym r);
+        memory = ap memory_of b ∙ ap (λ (x : Reply × StationMemory). x.1) (sym r);
+        refused = λ x. b;
+      }
+
+  pub command_passed : memory_number l ≡ 0 → SteppedTo l c t l' → Commanded l c t l'
+  command_passed e d = d.command (memory_passes l e)

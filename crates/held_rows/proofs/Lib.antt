@@ -2,3 +2,4 @@ pub mod FitLaws
 pub mod ListLaws
 pub mod NearRowLaws
 pub mod NearLaws
+pub mod WholeLaws

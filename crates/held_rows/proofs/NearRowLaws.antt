@@ -5,7 +5,7 @@ use mathlib.Core.Bool.{Bool, true, false, cond, not, ◌&&◌}
 use Prim.Native.Nat.{ℕ, zero, suc, ◌+◌, ◌-◌, ◌*◌, ◌<◌, ◌≤◌}
 use native.Mathlib.Omega.{arith}
 use lib.Dec.{eqb}
-use borrow.Author.Tests.{leb-false, eqb-true, not-false}
+use borrow.Author.Tests.{leb-false, eqb-true, eqb-false, eq-eqb, ne_eqb, not-false}
 use lib.ListN.{length, drop, length-drop}
 use Rattle.llsc.specs.declared.Order.{Order}
 use Rattle.llsc.specs.Rows.{first, brings_value, row1, row2, row4, row8, row7}
@@ -27,6 +27,8 @@ use Rattle.station.specs.declared.StationProcess.{StationProcess}
 use Rattle.station.specs.Station.{StationMemory, process_at, holding_at}
 use Rattle.station.specs.Projection.{bench_of, process_of, elsewhere}
 use Rattle.station.specs.StationRefusals.{StationOrder, record_about, row23, row3of, row24, row5of, row6of, row7of, called_ok}
+use Rattle.station.specs.StationRefusals.{station_in_range, station_process_rows}
+use Rattle.station.specs.StationCommand.{station_refusal}
 use Rattle.station_rows.specs.StationCommandRows.{station_lent_number}
 use Rattle.station_rows.proofs.StationRowLaws.{same_row}
 use Rattle.held_model.specs.Layout.{record_place, bank_place, help_place, words_place}
@@ -36,6 +38,7 @@ use Rattle.held_model.proofs.TabLaws.{tab_length}
 use Rattle.held_model.proofs.MemoryLaws.{tables_there, process_there, holding_there, bank_there, help_there}
 use Rattle.held_rows.specs.Reads.{seen_from}
 use Rattle.held_rows.specs.ListRows.{lent_number, LentList, places_from, touched_from, own_number, about, Admits}
+use Rattle.held_rows.specs.WholeRows.{memory_number}
 use Rattle.held_rows.proofs.ListLaws.{lent_list, list_ready, about_below}
 
 -- four rows before others: the first that holds answers, whatever follows, and where none does the others decide
@@ -56,6 +59,14 @@ four_passed a b c d rest e =
     let cc = cleared c 22 (cond d 3 0) cb.1 in
     let cd = cleared d 2 0 cc.1 in
     over a 1 ca.0 (over b 2 cb.0 (over c 23 cc.0 (over d 3 cd.0 refl)))
+
+-- row 9 refuses where it holds; where it does not, the list is in range
+abbrev nine : Bool → ℕ → ℕ
+nine t rest = cond (not t) 9 rest
+
+row_9 : (t : Bool) (rest : ℕ) → (nine t 0 ≡ 0 → ⊥) → nine t 0 ≡ nine t rest
+row_9 true rest h = absurd (h refl)
+row_9 false rest h = refl
 
 and_same : (a x y : Bool) → (a ≡ true → x ≡ y) → a && x ≡ a && y
 and_same true x y f = f refl
@@ -199,3 +210,42 @@ module _ (l : List ℕ) where
         by : (k : ℕ) → k ≡ lent_number l → Admits l p o named v
         by zero z = admits (sym z) (near_own (sym z) ∙ e)
         by (suc k) z = let f : ⊥ = omega (arith, near_refused (suc k) z (λ x. omega (arith, x)), e) in absurd f
+
+  -- the rows of the memory alone
+  module _ (c : StationOrder) where
+    abbrev room : ℕ
+    room = length l - words_place r
+
+    late : ℕ
+    late = first (station_process_rows n w r c.process c.order c.called (length c.value) (process_at s c.process))
+
+    refusal_is : station_refusal s c ≡ four (row1 n).holds (row2 w).holds (row23 r).holds (row3of n w r 16 room).holds (cond (not (station_in_range s)) 9 late)
+    unfolding station_refusal late
+    refusal_is =
+        ap₂ (λ (i k : ℕ). four (row1 n).holds (row2 w).holds (row23 r).holds (row3of n w r i k).holds (cond (not (station_in_range s)) 9 late))
+        (tab_length (process_in r l) 0 16) (length-drop (words_place r) l)
+
+    by_lent : (k : ℕ) → k ≡ lent_number l → (memory_number l ≡ 0 → ⊥) → memory_number l ≡ station_refusal s c
+    unfolding station_lent_number
+    by_lent zero e h =
+        let z : eqb (lent_number l) 0 ≡ true = eq-eqb (lent_number l) 0 (sym e) in
+        let m : memory_number l ≡ cond (not (station_in_range s)) 9 0 = ap (λ (t : Bool). cond t (cond (not (station_in_range s)) 9 0) (lent_number l)) z in
+        m ∙ row_9 (station_in_range s) late (λ x. h (m ∙ x)) ∙ four_passed (row1 n).holds (row2 w).holds (row23 r).holds (row3of n w r 16 room).holds _ (sym e) ∙ sym refusal_is
+    by_lent (suc k) e h =
+        let no : lent_number l ≡ 0 → ⊥ = λ x. omega (arith, e, x) in
+        ap (λ (t : Bool). cond t (cond (not (station_in_range s)) 9 0) (lent_number l)) (ne_eqb (lent_number l) 0 no)
+        ∙ four_answer (row1 n).holds (row2 w).holds (row23 r).holds (row3of n w r 16 room).holds _ no ∙ sym refusal_is
+
+    pub memory_refuses : (k : ℕ) → k ≡ memory_number l → (k ≡ 0 → ⊥) → k ≡ station_refusal s c
+    memory_refuses k e h = e ∙ by_lent (lent_number l) refl (λ z. h (e ∙ z))
+
+  pub memory_passes : memory_number l ≡ 0 → station_in_range s ≡ true
+  memory_passes e = go (eqb (lent_number l) 0) refl e
+    where
+      passes : (t : Bool) → nine t 0 ≡ 0 → t ≡ true
+      passes true h = refl
+      passes false h = absurd (let z : ⊥ = omega (arith, h) in z)
+
+      go : (t : Bool) → eqb (lent_number l) 0 ≡ t → cond t (nine (station_in_range s) 0) (lent_number l) ≡ 0 → station_in_range s ≡ true
+      go true h z = passes (station_in_range s) z
+      go false h z = absurd (eqb-false (lent_number l) 0 h z)

@@ -6,3 +6,4 @@ pub mod layout;
 pub mod ranges;
 pub mod reads;
 pub mod table;
+pub mod whole;

@@ -57,7 +57,7 @@ fn is_at_rest(held: &[u64], p: ProcessNumber) -> bool
 }
 
 // The open call's record is below R, and 0 when idle.
-fn called_ok(held: &[u64], r: usize, p: ProcessNumber) -> bool
+pub fn called_ok(held: &[u64], r: usize, p: ProcessNumber) -> bool
     requires { (p.0 < 16) × (131 ≤ length held.now) }
     ensures { result ≡ called_ok r (process_in (number_at held.now 2) held.now p.0) }
 {
