@@ -23,19 +23,9 @@ use Rattle.station.specs.StationSetUp.{empty_tables}
 use Rattle.held_model.specs.Layout.{call_place, record_place, bank_place, help_place, holding_place, words_place}
 use Rattle.held_model.specs.Memory.{number_at, x_from, bank_from, help_from, held_from, tables_from, tables_in, holding_in, process_in, laid_out}
 use Rattle.held_model.proofs.TabLaws.{tab_same, tab_set}
-use Rattle.held_model.proofs.MemoryLaws.{Same, bank_same, help_same, held_same, tables_same, tables_in_same, holding_in_same}
+use Rattle.held_model.proofs.MemoryLaws.{parts, Same, bank_same, help_same, held_same, tables_same, tables_in_same, holding_in_same}
 use Rattle.held_machine.specs.Writes.{written}
 use Rattle.held_machine.proofs.WrittenLaws.{written_length, others, call_first, call_numbers_at, x_written, bank_written, help_written, held_written, words_written}
-
--- a memory, part by part
-abbrev mk : ℕ → ℕ → ℕ → List Tables → List StationProcess → List ℕ → StationMemory
-mk n w r ts ps ws = record { n = n; w = w; r = r; tables = ts; processes = ps; words = ws }
-
-pub parts : {n n' w w' r r' : ℕ} {ts ts' : List Tables} {ps ps' : List StationProcess} {ws ws' : List ℕ}
-    → n ≡ n' → w ≡ w' → r ≡ r' → ts ≡ ts' → ps ≡ ps' → ws ≡ ws' → mk n w r ts ps ws ≡ mk n' w' r' ts' ps' ws'
-parts {n} {n'} {w} {w'} {r} {r'} {ts} {ts'} {ps} {ps'} {ws} {ws'} a b c d e f =
-    ap (λ (z : ℕ). mk z w r ts ps ws) a ∙ ap₂ (λ (y z : ℕ). mk n' y z ts ps ws) b c
-    ∙ ap₂ (λ (y : List Tables) (z : List StationProcess). mk n' w' r' y z ws) d e ∙ ap (λ (z : List ℕ). mk n' w' r' ts' ps' z) f
 
 -- l is the list before the step, m that with the words after it
 module _ (l m : List ℕ) (r j i h p : ℕ) (s : Stepped) (j_in : j < r) (r_in : r ≤ 8) (i_in : i < 32) (h_in : h < 16) (p_in : p < 16)

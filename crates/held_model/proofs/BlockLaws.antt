@@ -1,4 +1,4 @@
--- A run of numbers written over a list: the others stay.
+-- A run written over a list: the others stay.
 use mathlib.Core.Path.{◌≡◌, refl, ap, ◌∙◌}
 use mathlib.Core.Bool.{Bool, true, false}
 use mathlib.Core.List.{List, [], ◌∷◌}
@@ -9,29 +9,33 @@ use lib.ListN.{length, get_or, set, drop, length-set}
 use lib.Seq.{sets, get_or-set_same, get_or-set_other, drop-set-lt}
 use borrow.Author.Tests.{ltb-true, ltb-false}
 
-pub low : (l vs : List ℕ) (a k : ℕ) → k < a → get_or (sets l a vs) k 0 ≡ get_or l k 0
-low l [] a k h = refl
-low l (v ∷ vs) a k h = low (set l a v) vs (suc a) k (omega arith) ∙ get_or-set_other l a k v 0 (λ e. omega (arith, e))
+module _ {A : Type 0} (d : A) where
+  pub below : (l vs : List A) (a k : ℕ) → k < a → get_or (sets l a vs) k d ≡ get_or l k d
+  below l [] a k h = refl
+  below l (v ∷ vs) a k h = below (set l a v) vs (suc a) k (omega arith) ∙ get_or-set_other l a k v d (λ e. omega (arith, e))
 
-high : (l vs : List ℕ) (a k : ℕ) → a + length vs ≤ k → get_or (sets l a vs) k 0 ≡ get_or l k 0
-high l [] a k h = refl
-high l (v ∷ vs) a k h = high (set l a v) vs (suc a) k (omega arith) ∙ get_or-set_other l a k v 0 (λ e. omega (arith, e))
+  pub above : (l vs : List A) (a k : ℕ) → a + length vs ≤ k → get_or (sets l a vs) k d ≡ get_or l k d
+  above l [] a k h = refl
+  above l (v ∷ vs) a k h = above (set l a v) vs (suc a) k (omega arith) ∙ get_or-set_other l a k v d (λ e. omega (arith, e))
 
--- a number that is not of the run
+  -- number j of the run
+  pub inside : (l vs : List A) (a j : ℕ) {k : ℕ} → k ≡ a + j → j < length vs → a + length vs ≤ length l → get_or (sets l a vs) k d ≡ get_or vs j d
+  inside l [] a j e h m = absurd (omega arith)
+  inside l (v ∷ vs) a zero {k} e h m =
+      let same : k ≡ a = omega arith in
+      below (set l a v) vs (suc a) k (omega arith) ∙ ap (λ (i : ℕ). get_or (set l a v) i d) same ∙ get_or-set_same l a v d (omega arith)
+  inside l (v ∷ vs) a (suc j) {k} e h m = inside (set l a v) vs (suc a) j (omega arith) (omega arith) (omega (arith, m, length-set l a v))
+
+-- numbers: one that is not of the run, and one of it
 pub outside : (l vs : List ℕ) (a k : ℕ) → (a ≤ k → k < a + length vs → ⊥) → get_or (sets l a vs) k 0 ≡ get_or l k 0
 outside l vs a k n = by (ltb k a) refl
   where
     by : (t : Bool) → ltb k a ≡ t → get_or (sets l a vs) k 0 ≡ get_or l k 0
-    by true e = low l vs a k (ltb-true k a e)
-    by false e = let h : a ≤ k = ltb-false k a e in high l vs a k (omega (arith, n h))
+    by true e = below 0 l vs a k (ltb-true k a e)
+    by false e = let h : a ≤ k = ltb-false k a e in above 0 l vs a k (omega (arith, n h))
 
--- number j of the run
 pub within : (l vs : List ℕ) (a j : ℕ) {k : ℕ} → k ≡ a + j → j < length vs → a + length vs ≤ length l → get_or (sets l a vs) k 0 ≡ get_or vs j 0
-within l [] a j e h m = absurd (omega arith)
-within l (v ∷ vs) a zero {k} e h m =
-    let same : k ≡ a = omega arith in
-    low (set l a v) vs (suc a) k (omega arith) ∙ ap (λ (i : ℕ). get_or (set l a v) i 0) same ∙ get_or-set_same l a v 0 (omega arith)
-within l (v ∷ vs) a (suc j) {k} e h m = within (set l a v) vs (suc a) j (omega arith) (omega arith) (omega (arith, m, length-set l a v))
+within l vs a j e h m = inside 0 l vs a j e h m
 
 pub after : (l vs : List ℕ) (a n : ℕ) → a + length vs ≤ n → drop n (sets l a vs) ≡ drop n l
 after l [] a n h = refl

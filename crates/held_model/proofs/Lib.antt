@@ -1,3 +1,3 @@
-pub mod TabLaws
 pub mod BlockLaws
+pub mod TabLaws
 pub mod MemoryLaws

@@ -40,6 +40,16 @@ bank_there l j i h = tab_at (λ k. bank_from l (bank_place j k)) 32 i no_bank h
 pub help_there : (l : List ℕ) (j p : ℕ) → p < 16 → get_or (tables_from l j).help p no_help ≡ help_from l (help_place j p)
 help_there l j p h = tab_at (λ k. help_from l (help_place j k)) 16 p no_help h
 
+-- a memory, part by part
+abbrev mk : ℕ → ℕ → ℕ → List Tables → List StationProcess → List ℕ → StationMemory
+mk n w r ts ps ws = record { n = n; w = w; r = r; tables = ts; processes = ps; words = ws }
+
+pub parts : {n n' w w' r r' : ℕ} {ts ts' : List Tables} {ps ps' : List StationProcess} {ws ws' : List ℕ}
+    → n ≡ n' → w ≡ w' → r ≡ r' → ts ≡ ts' → ps ≡ ps' → ws ≡ ws' → mk n w r ts ps ws ≡ mk n' w' r' ts' ps' ws'
+parts {n} {n'} {w} {w'} {r} {r'} {ts} {ts'} {ps} {ps'} {ws} {ws'} a b c d e f =
+    ap (λ (z : ℕ). mk z w r ts ps ws) a ∙ ap₂ (λ (y z : ℕ). mk n' y z ts ps ws) b c
+    ∙ ap₂ (λ (y : List Tables) (z : List StationProcess). mk n' w' r' y z ws) d e ∙ ap (λ (z : List ℕ). mk n' w' r' ts' ps' z) f
+
 -- two lists that have the same numbers from a to before b
 abbrev pub Same : List ℕ → List ℕ → ℕ → ℕ → Type 0
 Same l m a b = (k : ℕ) → a ≤ k → k < b → number_at m k ≡ number_at l k

@@ -5,11 +5,14 @@ use mathlib.Core.Bool.{Bool, true, false, ◌&&◌}
 use Prim.Native.Nat.{ℕ, zero, suc, ◌+◌, ◌<◌, ◌≤◌}
 use native.Mathlib.Omega.{arith}
 use lib.Dec.{eqb, ltb}
-use lib.ListN.{length, get_or, set, take, length-set, get_or-eq_default}
-use lib.Seq.{ext_get_or, get_or-set_same, get_or-set_other}
+use lib.ListN.{length, get_or, set, take, replicate, length-set, get_or-eq_default}
+use lib.Seq.{sets, length-sets, ext_get_or, get_or-set_same, get_or-set_other}
 use borrow.Author.Tests.{eqb-true, eqb-false, ltb-true, ltb-false}
 use Rattle.llsc.specs.Rows.{every}
 use Rattle.model.specs.SetUp.{numbers}
+use Rattle.station.specs.StationSetUp.{firsts}
+use Rattle.station_facts.proofs.Firsts.{firsts_at, firsts_length, firsts_later}
+use Rattle.held_model.proofs.BlockLaws.{above, inside}
 
 module _ {A : Type 0} where
   pub tab_length : (f : ℕ → A) (a c : ℕ) → length (map f (numbers a c)) ≡ c
@@ -81,3 +84,40 @@ apart {P} k i n lo hi = by (ltb k i) refl
     by : (t : Bool) → ltb k i ≡ t → P
     by true e = lo (ltb-true k i e)
     by false e = let h : i ≤ k = ltb-false k i e in hi (omega (arith, h, n))
+
+module _ {A : Type 0} (d : A) where
+  -- the first k of them changed
+  pub firsts_tab : (f : ℕ → A → A) (g h : ℕ → A) (c k : ℕ) → k ≤ c → ((i : ℕ) → i < k → h i ≡ f i (g i)) → ((i : ℕ) → k ≤ i → i < c → h i ≡ g i)
+      → map h (numbers 0 c) ≡ firsts f 0 k (map g (numbers 0 c))
+  firsts_tab f g h c k b e o =
+      tab_is h c d (firsts f 0 k (map g (numbers 0 c))) (firsts_length f 0 k (map g (numbers 0 c)) ∙ tab_length g 0 c) (λ i m. at i m (ltb i k) refl)
+    where
+      at : (i : ℕ) → i < c → (t : Bool) → ltb i k ≡ t → h i ≡ get_or (firsts f 0 k (map g (numbers 0 c))) i d
+      at i m true t =
+          let z : i < k = ltb-true i k t in
+          e i z ∙ sym (firsts_at f 0 k (map g (numbers 0 c)) i d z (omega (arith, m, tab_length g 0 c)) ∙ ap (f (0 + i)) (tab_at g c i d m)
+          ∙ ap (λ (n : ℕ). f n (g i)) (let y : 0 + i ≡ i = omega arith in y))
+      at i m false t =
+          let z : k ≤ i = ltb-false i k t in
+          o i z m ∙ sym (firsts_later f 0 k (map g (numbers 0 c)) i d z ∙ tab_at g c i d m)
+
+  -- the first k of them written over
+  pub sets_tab : (f g h : ℕ → A) (c k : ℕ) → k ≤ c → ((i : ℕ) → i < k → h i ≡ f i) → ((i : ℕ) → k ≤ i → i < c → h i ≡ g i)
+      → map h (numbers 0 c) ≡ sets (map g (numbers 0 c)) 0 (map f (numbers 0 k))
+  sets_tab f g h c k b e o =
+      tab_is h c d (sets (map g (numbers 0 c)) 0 (map f (numbers 0 k))) (length-sets (map g (numbers 0 c)) 0 (map f (numbers 0 k)) ∙ tab_length g 0 c) (λ i m. at i m (ltb i k) refl)
+    where
+      at : (i : ℕ) → i < c → (t : Bool) → ltb i k ≡ t → h i ≡ get_or (sets (map g (numbers 0 c)) 0 (map f (numbers 0 k))) i d
+      at i m true t =
+          let z : i < k = ltb-true i k t in
+          e i z ∙ sym (inside d (map g (numbers 0 c)) (map f (numbers 0 k)) 0 i (omega arith) (omega (arith, z, tab_length f 0 k)) (omega (arith, b, tab_length f 0 k, tab_length g 0 c)) ∙ tab_at f k i d z)
+      at i m false t =
+          let z : k ≤ i = ltb-false i k t in
+          o i z m ∙ sym (above d (map g (numbers 0 c)) (map f (numbers 0 k)) 0 i (omega (arith, z, tab_length f 0 k)) ∙ tab_at g c i d m)
+
+pub replicate_tab : {A : Type 0} (x : A) (n : ℕ) → replicate n x ≡ map (λ i. x) (numbers 0 n)
+replicate_tab {A} x n = go 0 n
+  where
+    go : (a n : ℕ) → replicate n x ≡ map (λ i. x) (numbers a n)
+    go a zero = refl
+    go a (suc n) = ap (λ (l : List A). x ∷ l) (go (suc a) n)
