@@ -42,17 +42,17 @@ use Rattle.held_rows.specs.WholeRows.{memory_number}
 use Rattle.held_rows.proofs.ListLaws.{lent_list, list_ready, about_below}
 
 -- four rows before others: the first that holds answers, whatever follows, and where none does the others decide
-abbrev four : Bool → Bool → Bool → Bool → ℕ → ℕ
+abbrev pub four : Bool → Bool → Bool → Bool → ℕ → ℕ
 four a b c d rest = cond a 1 (cond b 2 (cond c 23 (cond d 3 rest)))
 
-four_answer : (a b c d : Bool) (rest : ℕ) → (four a b c d 0 ≡ 0 → ⊥) → four a b c d 0 ≡ four a b c d rest
+pub four_answer : (a b c d : Bool) (rest : ℕ) → (four a b c d 0 ≡ 0 → ⊥) → four a b c d 0 ≡ four a b c d rest
 four_answer true b c d rest h = refl
 four_answer false true c d rest h = refl
 four_answer false false true d rest h = refl
 four_answer false false false true rest h = refl
 four_answer false false false false rest h = absurd (h refl)
 
-four_passed : (a b c d : Bool) (rest : ℕ) → four a b c d 0 ≡ 0 → rest ≡ four a b c d rest
+pub four_passed : (a b c d : Bool) (rest : ℕ) → four a b c d 0 ≡ 0 → rest ≡ four a b c d rest
 four_passed a b c d rest e =
     let ca = cleared a 0 (cond b 2 (cond c 23 (cond d 3 0))) e in
     let cb = cleared b 1 (cond c 23 (cond d 3 0)) ca.1 in

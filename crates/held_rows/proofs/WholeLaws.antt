@@ -1,7 +1,7 @@
 -- Row 9 over the numbers of a list is row 9 of the memory that it stands for.
 use mathlib.Core.Path.{◌≡◌, refl, sym, ap, ap₂, ◌∙◌}
 use mathlib.Core.List.{List, map}
-use mathlib.Core.Bool.{Bool, ◌&&◌}
+use mathlib.Core.Bool.{Bool, true, ◌&&◌}
 use Prim.Native.Nat.{ℕ, ◌+◌, ◌*◌, ◌<◌, ◌≤◌}
 use native.Mathlib.Omega.{arith}
 use lib.ListN.{take}
@@ -14,6 +14,8 @@ use Rattle.model.specs.Refusals.{x_place_ok, bank_place_ok, help_place_ok, proce
 use Rattle.station.specs.declared.StationProcess.{StationProcess}
 use Rattle.station.specs.Projection.{bench_of, process_of}
 use Rattle.station.specs.StationRefusals.{called_ok, station_process_ok, station_in_range}
+use Rattle.serving.proofs.RefusalFacts.{and_true}
+use Rattle.station_facts.proofs.Accepts.{every_number}
 use Rattle.held_model.specs.Layout.{record_place, bank_place, help_place}
 use Rattle.held_model.specs.Memory.{number_at, x_from, bank_from, help_from, process_in, memory_of}
 use Rattle.held_model.proofs.TabLaws.{tab_every, every_same}
@@ -54,3 +56,12 @@ module _ (l : List ℕ) (a : LentList l) where
 
   pub in_range_there : {x y z : ℕ} {t : Bool} → x ≡ n → y ≡ w → z ≡ r → t ≡ list_in_range l x y z → t ≡ station_in_range (memory_of l)
   in_range_there e f g h = rw (e, f, g) at h ∙ whole
+
+  -- what it says of each place
+  pub bench_in_range : station_in_range (memory_of l) ≡ true → (j : ℕ) → j < r → bench_from_ok l n j ≡ true
+  bench_in_range e j h = every_number (bench_from_ok l n) r j (and_true (every (bench_from_ok l n) (numbers 0 r)) _ (whole ∙ e)).0 h
+
+  pub process_in_range : station_in_range (memory_of l) ≡ true → (j p : ℕ) → j < r → p < n → process_ok n w (seen_from l j p) ≡ true
+  process_in_range e j p h b =
+      every_number (λ i. process_ok n w (seen_from l i p)) r j (and_true (called_ok r (process_in r l p)) _
+      (every_number (process_from_ok l n w r) n p (and_true (every (bench_from_ok l n) (numbers 0 r)) _ (whole ∙ e)).1 b)).1 h

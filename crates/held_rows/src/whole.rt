@@ -90,7 +90,7 @@ fn processes_ok(lent: Sizes, held: &[u64]) -> bool
 
 // Row 9.
 #[tactic(auto, using(crate::proofs::WholeLaws::in_range_there))]
-fn in_range(held: &[u64]) -> bool
+pub fn in_range(held: &[u64]) -> bool
     requires { LentList held.now }
     ensures { result ≡ station_in_range (memory_of held.now) }
 {
