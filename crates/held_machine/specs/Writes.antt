@@ -1,5 +1,5 @@
 -- What a step made, as numbers, and written back.
--- Inner: `WrittenLaws` proves that the memory of the list is then `station`'s.
+-- Inner: `MemoryAfter` proves that the memory of the list is then `station`'s.
 use Rattle.std.specs.Prelude.{◌≡◌, true, ℕ, ◌+◌, ◌*◌, ◌≤◌, List, [], ◌∷◌, cond, eqb, length, take, drop}
 use Rattle.std.proofs.lemmas.List.Edits.{sets}
 use Rattle.llsc.specs.declared.Order.{Order}

@@ -1,29 +1,38 @@
 -- A command by a look at what it reads alone, on any memory. Row 9 is looked at for the open call of its own process,
--- for that process as the record's bench has it, for the record's X and for the places of Bank and Help that it could
--- touch.
--- Inner: `NearLaws` of `held_rows` proves that it is `station`'s command where row 9 holds of nothing, as on every
--- memory that a set-up and commands reached.
+-- for that process as the record's bench has it, for the record's X and for the places of Bank and Help that a step of
+-- it could touch. Where row 9 holds of nothing it is `station`'s command (`near_command_is`, `held_rows/proofs/NearLaws`).
 use Rattle.std.specs.Prelude.{ℕ, List, [], ◌∷◌, ◌++◌, Bool, ◌&&◌, cond, eqb, length}
 use Rattle.model.specs.declared.Reply.{Reply}
 use Rattle.model.specs.declared.Reply.TheVariants.{Refused}
+use Rattle.model.specs.declared.SequenceNumber.{SequenceNumber}
+use Rattle.llsc.specs.declared.ProcessNumber.{ProcessNumber}
 use Rattle.model.specs.declared.Bench.{Bench}
 use Rattle.model.specs.declared.Process.{Process}
-use Rattle.model.specs.Points.{point_of}
-use Rattle.model.specs.Tables.{bank_at, help_at}
+use Rattle.model.specs.Points.{point_of, line_number, line14, line15, line18}
+use Rattle.model.specs.Tables.{bank_at, help_at, next, helped}
 use Rattle.model.specs.Refusals.{x_place_ok, bank_place_ok, help_place_ok, process_ok}
 use Rattle.llsc.specs.Rows.{Row, first, row4, row8, row9}
-use Rattle.taken.specs.Taken.{bank_index, help_index}
 use Rattle.station.specs.declared.StationProcess.{StationProcess}
 use Rattle.station.specs.Station.{StationMemory, process_at, holding_at}
 use Rattle.station.specs.Projection.{bench_of, process_of, embed}
 use Rattle.station.specs.StationRefusals.{StationOrder, record_for, station_lent_rows, row24, row5of, row6of, row7of, called_ok}
 use Rattle.station.specs.StationCommand.{obeyed_on}
 
+-- "12 as LL of Bank[x.seq]", and 13; 18 reads the one after it: the other lines touch none, and any place will do
+abbrev pub bank_touched : ℕ → Process → SequenceNumber
+bank_touched n q = cond (eqb (line_number (point_of q.line)) (line_number line18)) (next n q.x.seq) q.x.seq
+
+-- "14 as LL of Help[x.seq mod N]", and 15; lines 1, 4, 8, 9 and 10 touch Help[p], and for the other lines any place will do
+abbrev pub help_touched : ℕ → ProcessNumber → Process → ProcessNumber
+help_touched n p q =
+    cond (eqb (line_number (point_of q.line)) (line_number line14)) (helped n q.x.seq)
+    (cond (eqb (line_number (point_of q.line)) (line_number line15)) (helped n q.x.seq) p)
+
 -- the places that an order to process p could touch, of a bench and of the process as it has it
 abbrev pub places_ok : Bench → ℕ → Process → Bool
 places_ok b p q =
-    x_place_ok b.n b.x && (bank_place_ok b.n (bank_at b (bank_index (point_of q.line) b.n q)) &&
-    help_place_ok b.n (help_at b (help_index (point_of q.line) b.n (record { 0 = p }) q)))
+    x_place_ok b.n b.x && (bank_place_ok b.n (bank_at b (bank_touched b.n q)) &&
+    help_place_ok b.n (help_at b (help_touched b.n (record { 0 = p }) q)))
 
 abbrev pub touched_ok : StationMemory → StationOrder → Bool
 touched_ok s c =

@@ -1,5 +1,5 @@
 -- The rows of a command over the numbers of a list.
--- Inner: `NearRowLaws` and `MemoryRowLaws` prove that they are those of the memory that the list stands for.
+-- Inner: `NearRowLaws` proves that they are those of the memory that the list stands for.
 use Rattle.std.specs.Prelude.{◌≡◌, true, ℕ, ◌-◌, ◌<◌, ◌≤◌, List, [], ◌∷◌, Bool, ◌&&◌, not, cond, length}
 use Rattle.model.specs.declared.Process.{Process}
 use Rattle.model.specs.Points.{point_of}

@@ -1,5 +1,5 @@
 -- A process as a record's bench has it, read off a held list; numbers that fit their fields.
--- Inner: `SeenLaws` proves that this is `station`'s `process_of`, `FitLaws` that numbers in range fit.
+-- Inner: `NearRowLaws` proves that this is `station`'s `process_of`, `FitLaws` that numbers in range fit.
 use Rattle.std.specs.Prelude.{ℕ, ◌+◌, ◌<◌, List, Bool, not, ◌&&◌, ◌||◌, cond, eqb}
 use Rattle.model.specs.declared.Process.{Process}
 use Rattle.model.specs.Places.{XPlace, BankPlace, HelpPlace}
