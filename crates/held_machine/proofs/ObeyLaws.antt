@@ -48,7 +48,8 @@ use Rattle.held_rows.proofs.FitLaws.{x_fits, bank_fits, help_fits, process_fits}
 use Rattle.held_rows.proofs.ListLaws.{list_ready}
 use Rattle.held_rows.proofs.NearRowLaws.{seen_there, bench_from, bench_there}
 use Rattle.held_machine.specs.Writes.{written, RowsOf, Ordered, OnWords, taken_from, PlacesThere}
-use Rattle.held_machine.proofs.MemoryAfter.{memory_after}
+use Rattle.held_model.specs.HeldCommand.{MarksAfter}
+use Rattle.held_machine.proofs.MemoryAfter.{memory_after, marks_after}
 
 module _ (l : List ℕ) (p : ℕ) (o : Order) (named : ℕ) (v : List ℕ) (a : Admits l p o named v) where
   abbrev n : ℕ
@@ -187,3 +188,6 @@ module _ (l : List ℕ) (p : ℕ) (o : Order) (named : ℕ) (v : List ℕ) (a : 
         ap (λ (z : StationMemory). (s.reply, z)) (ap (λ (z : ℕ). laid_out z after) same_r
         ∙ memory_after l m r j i.0 h.0 p s a.on a.list.r_high i_in h_in p_in (omega (arith, on.length_stays, a.list.long)) stay)
         ∙ ap (by (process_in r l p)) (whole ∙ obeyed_is) ∙ ap (λ (x : StationProcess). by x (made x)) (sym (process_there r l p p_in))
+
+    pub obey_marks : MarksAfter l after p j
+    obey_marks = marks_after l m r j i.0 h.0 p s a.on a.list.r_high i_in h_in p_in (omega (arith, on.length_stays, a.list.long)) stay refl refl

@@ -27,6 +27,10 @@ help_place j p = 198 + 179 * j + 3 * p
 abbrev pub holding_place : ℕ → ℕ → ℕ
 holding_place j p = 246 + 179 * j + 4 * p
 
+-- the mark there of an answered LL
+abbrev pub mark_place : ℕ → ℕ → ℕ
+mark_place j p = holding_place j p + 3
+
 -- and the words of R records
 abbrev pub words_place : ℕ → ℕ
 words_place r = 131 + 179 * r
