@@ -1,15 +1,14 @@
 -- The two answers of a command by a look at what it reads alone.
-use mathlib.Core.Path.{◌≡◌, refl, sym, ap, ap₂, ◌∙◌}
+use mathlib.Core.Path.{◌≡◌, sym, ap, ◌∙◌}
 use mathlib.Core.List.{List}
-use mathlib.Core.Bool.{true, false, cond}
+use mathlib.Core.Bool.{false, cond}
 use Prim.Native.Nat.{ℕ}
-use lib.Dec.{eqb}
 use borrow.Author.Tests.{eq-eqb, ne_eqb}
 use Rattle.model.specs.declared.Reply.{Reply}
 use Rattle.model.specs.declared.Reply.TheVariants.{Refused}
 use Rattle.station.specs.Station.{StationMemory}
 use Rattle.station.specs.Projection.{embed}
-use Rattle.station.specs.StationRefusals.{StationOrder, record_for, station_in_range}
+use Rattle.station.specs.StationRefusals.{StationOrder, record_for}
 use Rattle.station.specs.StationCommand.{station_refusal, station_command, obeyed_on}
 use Rattle.held_model.specs.declared.Told.{Told}
 use Rattle.held_model.specs.Memory.{number_at, memory_of}

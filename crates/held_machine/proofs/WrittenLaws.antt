@@ -1,14 +1,12 @@
 -- What a step left, written: the numbers of its five blocks, and that the others stay.
-use mathlib.Core.Path.{◌≡◌, refl, sym, ap, subst, ◌∙◌}
-use mathlib.Core.List.{List, [], ◌∷◌}
+use mathlib.Core.Path.{◌≡◌, refl, sym, subst, ◌∙◌}
+use mathlib.Core.List.{List}
 use mathlib.Core.Bool.{Bool, true, false, not, cond}
-use Prim.Native.Nat.{ℕ, ◌+◌, ◌*◌, ◌<◌, ◌≤◌}
+use Prim.Native.Nat.{ℕ, ◌+◌, ◌<◌, ◌≤◌}
 use native.Mathlib.Omega.{arith}
 use lib.Dec.{eqb}
 use lib.ListN.{length, get_or, drop}
 use lib.Seq.{sets, length-sets}
-use Rattle.model.specs.declared.Process.{Process}
-use Rattle.station.specs.declared.Holding.{Holding}
 use Rattle.taken.specs.declared.Stepped.{Stepped}
 use Rattle.held_model.specs.Layout.{call_place, record_place, bank_place, help_place, holding_place, mark_place, words_place}
 use Rattle.held_model.specs.Memory.{number_at, x_from, bank_from, help_from, held_from}

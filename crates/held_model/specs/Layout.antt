@@ -5,9 +5,7 @@
 -- x (buffer number, sequence number), and the mark of an answered LL. Then the words, in rows of W.
 -- Row 9 speaks of a number that is too large, whatever its field would hold.
 use Rattle.std.specs.Prelude.{ℕ, ◌+◌, ◌*◌}
-use Rattle.llsc.specs.declared.ProcessNumber.{ProcessNumber}
 use Rattle.model.specs.Words.{return_in}
-use Rattle.station.specs.declared.RecordNumber.{RecordNumber}
 use Rattle.station.specs.Station.{station_layout}
 
 -- where the numbers of a process begin

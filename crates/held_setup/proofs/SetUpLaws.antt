@@ -1,15 +1,14 @@
 -- The two answers of a set-up.
 use mathlib.Core.Path.{◌≡◌, refl, sym, ap, ap₂, ◌∙◌}
 use mathlib.Core.List.{List}
-use mathlib.Core.Bool.{Bool, true, false, cond}
+use mathlib.Core.Bool.{Bool, cond}
 use Prim.Native.Nat.{ℕ, ◌+◌, ◌-◌, ◌*◌, ◌≤◌}
 use native.Mathlib.Nat.{mul-le-mul_right}
 use native.Mathlib.Omega.{arith}
-use lib.Dec.{eqb}
-use lib.ListN.{length, get_or, drop, length-drop}
+use lib.ListN.{length, length-drop}
 use borrow.Author.Tests.{eq-eqb, ne_eqb}
-use Rattle.serving.proofs.RefusalFacts.{no_row, none_holds, inside}
-use Rattle.station.specs.Station.{StationMemory, station_words}
+use Rattle.serving.proofs.RefusalFacts.{none_holds, inside}
+use Rattle.station.specs.Station.{StationMemory}
 use Rattle.station.specs.StationRefusals.{station_set_up_rows_of}
 use Rattle.station.specs.StationSetUp.{station_set_up, station_set_up_refusal, station_at_set_up}
 use Rattle.station_setup.specs.StationSetUpByValue.{station_set_up_number}

@@ -1,11 +1,11 @@
 -- `held_machine::obeying::obey` meets its contract: what no row refuses can be read, obeyed and written back.
-use mathlib.Core.Path.{◌≡◌, sym, ap, subst, ◌∙◌}
+use mathlib.Core.Path.{sym, ap, subst, ◌∙◌}
 use mathlib.Core.List.{List}
 use Prim.Native.Nat.{ℕ}
 use Rattle.held_model.specs.Memory.{memory_of}
 use Rattle.held_model.specs.HeldCommand.{MarksAfter}
 use Rattle.held_rows.specs.ListRows.{about}
-use Rattle.held_machine.proofs.ObeyLaws.{i_in, h_in, p_in, long, own_fits, places_there, order_ready, obey_law, obey_marks}
+use Rattle.held_machine.proofs.ObeyLaws.{p_in, long, own_fits, places_there, order_ready, obey_law, obey_marks}
 use Rattle.held_machine.proofs.obeying.obey.Goals as goal
 
 pub process_at-process-requires : goal.process_at-process-requires

@@ -1,5 +1,5 @@
 -- `held_machine::stepping::obeyed` meets its contract: what no row refuses can be obeyed.
-use mathlib.Core.Path.{◌≡◌, sym, subst, ◌∙◌}
+use mathlib.Core.Path.{sym, subst}
 use Rattle.station.specs.declared.StationProcess.{StationProcess}
 use Rattle.station.specs.StationRefusals.{record_about}
 use Rattle.held_model.specs.Memory.{number_at}

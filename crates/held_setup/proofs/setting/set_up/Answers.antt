@@ -1,9 +1,6 @@
 -- `held_setup::setting::set_up` meets its contract: refused by the lengths, or done.
-use mathlib.Core.Path.{◌≡◌, sym, ap, ◌∙◌}
-use Prim.Native.Nat.{ℕ}
-use lib.ListN.{length}
+use mathlib.Core.Path.{sym, ◌∙◌}
 use Rattle.llsc.proofs.RefusalNumbers.{number_some}
-use Rattle.station_setup.specs.StationSetUpByValue.{station_set_up_number}
 use Rattle.held_setup.proofs.SetUpLaws.{room, set_up_refused, set_up_done}
 use Rattle.held_setup.proofs.setting.set_up.Goals as goal
 
