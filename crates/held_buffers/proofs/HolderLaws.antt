@@ -13,15 +13,14 @@ use Rattle.model.specs.declared.Bench.{Bench}
 use Rattle.model.specs.declared.Process.{Process}
 use Rattle.model.specs.Places.{BankPlace, HelpPlace}
 use Rattle.model.specs.SetUp.{numbers}
-use Rattle.model.specs.Sizes.{sequence_numbers, buffers}
+use Rattle.model.specs.Sizes.{sequence_numbers}
 use Rattle.model.specs.Tables.{no_bank, no_help}
 use Rattle.model.specs.Records.{no_process}
-use Rattle.model.specs.Refusals.{x_place_ok, bank_place_ok, help_place_ok, buffer_ok, sequence_ok, x_ok, links_ok}
+use Rattle.model.specs.Refusals.{x_place_ok, bank_place_ok, help_place_ok, buffer_ok, x_ok}
 use Rattle.after_commands.specs.Buffers.{asking, kept, owned}
 use Rattle.serving.proofs.RefusalFacts.{and_true}
 use Rattle.station_facts.proofs.Accepts.{every_number}
-use Rattle.station.specs.declared.StationProcess.{StationProcess}
-use Rattle.station.specs.Projection.{bench_of, process_of, project}
+use Rattle.station.specs.Projection.{process_of, project}
 use Rattle.station.specs.StationRefusals.{station_in_range}
 use Rattle.held_model.specs.Layout.{record_place, bank_place, help_place, holding_place}
 use Rattle.held_model.specs.Memory.{number_at, x_from, bank_from, help_from, process_in, memory_of}
@@ -29,10 +28,10 @@ use Rattle.held_model.proofs.TabLaws.{tab_at}
 use Rattle.held_model.proofs.MemoryLaws.{bank_there, help_there}
 use Rattle.held_rows.specs.Reads.{seen_from}
 use Rattle.held_rows.specs.ListRows.{LentList}
-use Rattle.held_rows.proofs.NearRowLaws.{seen_there, bench_from, bench_there}
+use Rattle.held_rows.proofs.NearRowLaws.{seen_there, bench_there}
 use Rattle.held_rows.proofs.WholeLaws.{bench_in_range, process_in_range}
 use Rattle.held_buffers.specs.Places.{buffer_held, holders}
-use Rattle.held_buffers.specs.HoldersRead.{asking_at, kept_from, owned_from, held_from}
+use Rattle.held_buffers.specs.HoldersRead.{kept_from, owned_from, held_from}
 
 map_map : {A B : Type 0} (f : A → B) (g : ℕ → A) (a n : ℕ) → map f (map g (numbers a n)) ≡ map (λ i. f (g i)) (numbers a n)
 map_map f g a zero = refl

@@ -1,7 +1,7 @@
 -- The refusal of what is told of a record's holders, and what is told where nothing refuses.
 use mathlib.Core.Path.{◌≡◌, refl, sym, ap, ap₂, ◌∙◌}
-use mathlib.Core.List.{List, [], ◌∷◌, ◌++◌}
-use mathlib.Core.Bool.{Bool, true, false, cond, not}
+use mathlib.Core.List.{List, ◌++◌}
+use mathlib.Core.Bool.{true, cond, not}
 use Prim.Native.Nat.{ℕ, zero, suc, ◌+◌, ◌-◌, ◌*◌, ◌<◌, ◌≤◌}
 use native.Mathlib.Omega.{arith}
 use lib.Dec.{ltb, leb}
@@ -9,12 +9,10 @@ use lib.ListN.{length, take, drop, length-drop}
 use lib.Seq.{sets, length-take-le}
 use borrow.Author.Tests.{ltb-false, leb-false, not-false}
 use Rattle.std.proofs.lemmas.List.Edits.{sets-eq}
-use Rattle.llsc.specs.declared.Order.TheVariants.{StartLl}
-use Rattle.llsc.specs.Rows.{first, row1, row2, row9}
+use Rattle.llsc.specs.Rows.{row1, row2}
 use Rattle.rows.proofs.RowLaws.{cleared}
-use Rattle.station.specs.declared.RecordNumber.{RecordNumber}
 use Rattle.station.specs.Projection.{project}
-use Rattle.station.specs.StationRefusals.{row23, row24, row3of, station_in_range}
+use Rattle.station.specs.StationRefusals.{row23, row3of, station_in_range}
 use Rattle.station_rows.specs.StationCommandRows.{station_lent_number}
 use Rattle.held_model.specs.Layout.{words_place}
 use Rattle.held_model.specs.Memory.{number_at, process_in, memory_of}
@@ -22,7 +20,7 @@ use Rattle.held_model.proofs.TabLaws.{tab_length}
 use Rattle.held_rows.specs.ListRows.{lent_number, LentList}
 use Rattle.held_rows.proofs.ListLaws.{lent_list}
 use Rattle.held_rows.proofs.NearRowLaws.{four, four_answer, four_passed}
-use Rattle.held_buffers.specs.Places.{buffer_held, holders, holders_of, row3places, holders_refusal, HoldersTold}
+use Rattle.held_buffers.specs.Places.{buffer_held, holders, holders_of, holders_refusal, HoldersTold}
 use Rattle.held_buffers.specs.HoldersRead.{held_from, Noted, Tellable, HoldersNoted, holders_late_number}
 use Rattle.held_buffers.proofs.HolderLaws.{held_is, held_small, holders_same, holders_length}
 

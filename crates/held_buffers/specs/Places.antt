@@ -1,5 +1,5 @@
 -- Where each buffer of a record is: "the 3N buffer numbers are each found exactly once among N owned and 2N kept" (CR 9).
-use Rattle.std.specs.Prelude.{◌≡◌, ℕ, zero, suc, ◌-◌, List, [], ◌∷◌, not, cond, eqb, ltb, length, replicate, set}
+use Rattle.std.specs.Prelude.{◌≡◌, ℕ, zero, suc, ◌-◌, List, [], ◌∷◌, cond, ltb, length, replicate, set}
 use Rattle.std.proofs.lemmas.List.Edits.{sets}
 use Rattle.llsc.specs.declared.Order.TheVariants.{StartLl}
 use Rattle.llsc.specs.Rows.{Row, first, row9}

@@ -1,12 +1,11 @@
 -- Each buffer of a record of a reached list has its holder, and is told to have it.
-use mathlib.Core.Path.{◌≡◌, refl, sym, ap, subst, ◌∙◌}
+use mathlib.Core.Path.{◌≡◌, sym, ap, subst, ◌∙◌}
 use mathlib.Core.List.{List, [], ◌∷◌}
 use mathlib.Core.Bool.{Bool, true, false, cond}
 use Prim.Native.Nat.{ℕ, ◌<◌}
 use lib.Dec.{eqb}
 use lib.ListN.{get_or}
 use borrow.Author.Tests.{eq-eqb}
-use Rattle.model.specs.declared.Reply.{Reply}
 use Rattle.model.specs.declared.Reply.TheVariants.{Refused}
 use Rattle.model.specs.Sizes.{buffers}
 use Rattle.after_commands.specs.Buffers.{held, occurrences}
@@ -19,7 +18,6 @@ use Rattle.station.specs.StationHistory.{station_after}
 use Rattle.station_laws.proofs.Theorems.{every_buffer_once_by_record}
 use Rattle.held_model.specs.Memory.{memory_of}
 use Rattle.held_buffers.specs.Places.{buffer_held, holders_of}
-use Rattle.held_laws.specs.Reached.{Reached}
 use Rattle.held_laws.specs.BufferPlaces.{TheHolder, EachBufferHasItsHolder}
 use Rattle.held_laws.proofs.HolderCounts.{once, held_list}
 

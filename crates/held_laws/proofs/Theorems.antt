@@ -1,24 +1,23 @@
 -- Every list that a set-up and commands reached is in range, so that there a step is the command.
-use mathlib.Core.Path.{◌≡◌, refl, sym, ap, subst, ◌∙◌}
-use mathlib.Core.Bool.{Bool, true, false, not, ◌&&◌, ◌||◌, cond}
+use mathlib.Core.Path.{◌≡◌, refl, sym, ap, ◌∙◌}
+use mathlib.Core.Bool.{Bool, true, false, not, cond}
 use mathlib.Core.List.{List, [], ◌∷◌, ◌++◌}
-use Prim.Native.Nat.{ℕ, zero, suc}
-use lib.Dec.{eqb, ltb}
+use Prim.Native.Nat.{ℕ}
 use lib.ListN.{length}
 use borrow.Author.Tests.{eq-eqb}
 use Rattle.llsc.specs.Rows.{first, row1, row2}
-use Rattle.station.specs.Station.{StationMemory, process_at, holding_at}
-use Rattle.station.specs.StationRefusals.{StationOrder, record_for, row23, row3of, station_in_range, station_process_rows}
+use Rattle.station.specs.Station.{StationMemory, process_at}
+use Rattle.station.specs.StationRefusals.{StationOrder, row23, row3of, station_in_range, station_process_rows}
 use Rattle.station.specs.StationCommand.{station_refusal, station_command}
 use Rattle.station.specs.StationSetUp.{station_set_up, station_set_up_refusal, station_at_set_up}
 use Rattle.station.specs.StationHistory.{station_after}
 use Rattle.llsc.specs.declared.Order.TheVariants.{Step}
 use Rattle.station_laws.specs.StationOwnDoing.{NotLentStation}
 use Rattle.station_laws.proofs.Theorems.{station_never_for_its_own_doing}
-use Rattle.held_model.specs.Memory.{number_at, laid_out, memory_of}
-use Rattle.held_model.specs.HeldCommand.{SetUpDone, DoneBy, Commanded, SteppedTo}
+use Rattle.held_model.specs.Memory.{number_at, laid_out}
+use Rattle.held_model.specs.HeldCommand.{Commanded}
 use Rattle.held_model.proofs.MemoryLaws.{memory_shaped}
-use Rattle.held_laws.specs.Reached.{Reached, SetUpReaches, InRangeOnceReached, CommandReaches, StepIsCommand}
+use Rattle.held_laws.specs.Reached.{SetUpReaches, InRangeOnceReached, CommandReaches, StepIsCommand}
 
 -- where the first row that holds is none of 1, 2, 23, 3 and 9, row 9 does not hold
 passes : (a b c d t : Bool) (rest : ℕ) → NotLentStation (cond a 1 (cond b 2 (cond c 23 (cond d 3 (cond (not t) 9 rest))))) → t ≡ true

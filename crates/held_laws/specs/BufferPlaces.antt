@@ -1,6 +1,5 @@
 -- What is told of a record's holders, on lists that a set-up and commands reached.
 use Rattle.std.specs.Prelude.{◌≡◌, ℕ, ◌<◌, List, get_or}
-use Rattle.model.specs.Machine.{Memory}
 use Rattle.model.specs.Sizes.{buffers}
 use Rattle.station.specs.Station.{StationMemory}
 use Rattle.station.specs.Projection.{project}

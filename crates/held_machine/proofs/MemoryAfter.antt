@@ -1,31 +1,25 @@
 -- What a step left, written over the numbers, is put back in the memory that they stand for.
-use mathlib.Core.Path.{◌≡◌, refl, sym, ap, ap₂, ◌∙◌}
-use mathlib.Core.List.{List, [], ◌∷◌, map}
-use mathlib.Core.Bool.{Bool, true, false, not, cond}
-use Prim.Native.Nat.{ℕ, ◌+◌, ◌*◌, ◌<◌, ◌≤◌}
+use mathlib.Core.Path.{◌≡◌, refl, sym, ap, ap₂, subst, ◌∙◌}
+use mathlib.Core.List.{List, map}
+use mathlib.Core.Bool.{Bool, cond}
+use Prim.Native.Nat.{ℕ, ◌+◌, ◌<◌, ◌≤◌}
 use native.Mathlib.Omega.{arith}
-use lib.Dec.{eqb, ltb}
-use lib.ListN.{length, get_or, set, take, drop}
-use lib.Seq.{sets, get_or-take}
+use lib.ListN.{length, set, drop}
 use borrow.Author.Tests.{lt-ltb}
 use Rattle.model.specs.Places.{XPlace, BankPlace, HelpPlace}
-use Rattle.model.specs.declared.Process.{Process}
 use Rattle.model.specs.SetUp.{numbers}
 use Rattle.model.specs.Tables.{no_bank, no_help}
 use Rattle.taken.specs.declared.Stepped.{Stepped}
-use Rattle.station.specs.declared.RecordNumber.{RecordNumber}
-use Rattle.station.specs.declared.Tables.{Tables}
-use Rattle.station.specs.declared.Holding.{Holding}
-use Rattle.station.specs.declared.StationProcess.{StationProcess}
-use Rattle.station.specs.Station.{StationMemory, no_tables, no_holding, no_station_process}
+use Rattle.station.specs.Station.{no_tables, no_holding, no_station_process}
 use Rattle.station.specs.Projection.{put_process}
 use Rattle.station.specs.StationSetUp.{empty_tables}
-use Rattle.held_model.specs.Layout.{call_place, record_place, bank_place, help_place, holding_place, words_place}
-use Rattle.held_model.specs.Memory.{number_at, x_from, bank_from, help_from, held_from, tables_from, tables_in, holding_in, process_in, laid_out}
+use Rattle.held_model.specs.Layout.{call_place, record_place, bank_place, help_place, holding_place, mark_place, words_place}
+use Rattle.held_model.specs.HeldCommand.{MarksAfter}
+use Rattle.held_model.specs.Memory.{number_at, bank_from, help_from, held_from, tables_from, tables_in, holding_in, process_in, laid_out}
 use Rattle.held_model.proofs.TabLaws.{tab_same, tab_set}
 use Rattle.held_model.proofs.MemoryLaws.{parts, Same, bank_same, help_same, held_same, tables_same, tables_in_same, holding_in_same}
 use Rattle.held_machine.specs.Writes.{written}
-use Rattle.held_machine.proofs.WrittenLaws.{written_length, others, call_first, call_numbers_at, x_written, bank_written, help_written, held_written, words_written}
+use Rattle.held_machine.proofs.WrittenLaws.{others, call_first, call_numbers_at, x_written, bank_written, help_written, held_written, mark_written, words_written}
 
 -- l is the list before the step, m that with the words after it
 module _ (l m : List ℕ) (r j i h p : ℕ) (s : Stepped) (j_in : j < r) (r_in : r ≤ 8) (i_in : i < 32) (h_in : h < 16) (p_in : p < 16)
@@ -135,3 +129,12 @@ module _ (l m : List ℕ) (r j i h p : ℕ) (s : Stepped) (j_in : j < r) (r_in :
       λ k b. old k (omega (arith, b)) (λ u v. omega (arith, u, v, b)) (λ u v. omega (arith, u, v, b)) (λ u v. omega (arith, u, v, b)) (λ u v. omega (arith, u, v, b)) (λ u v. omega (arith, u, v, b)) in
       parts (first 0 (omega arith)) (first 1 (omega arith)) (first 2 (omega arith)) tables_after processes_after
       (words_written m j i h p s i_in h_in p_in (omega (arith, long, j_in)) (words_place r) (omega (arith, j_in)))
+
+  -- the marks
+  pub marks_after : {d : ℕ} → d ≡ j → number_at l 2 ≡ r → MarksAfter l w p d
+  marks_after {d} e z = record {
+    own = subst (λ (k : ℕ). number_at w (mark_place k p) ≤ 1) (sym e) (mark_written m j i h p s i_in h_in p_in (omega (arith, long, j_in)));
+    others = λ q k b c n.
+        old (mark_place k q) (omega (arith, b, c, z)) (λ u v. omega (arith, u, v, p_in)) (λ u v. n (omega (arith, u, v, b, p_in)) (omega (arith, u, v, b, p_in, e)))
+        (λ u v. omega (arith, u, v, b, h_in)) (λ u v. omega (arith, u, v, b, i_in)) (λ u v. omega (arith, u, v, b));
+  }

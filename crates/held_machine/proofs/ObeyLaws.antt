@@ -1,11 +1,10 @@
 -- An order obeyed on the numbers is the order obeyed on the memory that they stand for.
-use mathlib.Core.Path.{◌≡◌, refl, sym, ap, ap₂, subst, ◌∙◌}
+use mathlib.Core.Path.{◌≡◌, refl, sym, ap, ap₂, ◌∙◌}
 use mathlib.Core.List.{List, map}
-use mathlib.Core.Bool.{Bool, true, ◌&&◌}
-use Prim.Native.Nat.{ℕ, ◌+◌, ◌-◌, ◌*◌, ◌<◌, ◌≤◌}
+use Prim.Native.Nat.{ℕ, ◌+◌, ◌*◌, ◌<◌, ◌≤◌}
 use native.Mathlib.Nat.{mul-le-mul_right}
 use native.Mathlib.Omega.{arith}
-use lib.ListN.{length, get_or, take, drop, set, length-drop}
+use lib.ListN.{length, get_or, drop, set, length-drop}
 use lib.Seq.{get_or-take}
 use Rattle.llsc.specs.declared.Order.{Order}
 use Rattle.llsc.specs.declared.ProcessNumber.{ProcessNumber}
@@ -23,7 +22,6 @@ use Rattle.model.specs.Refusals.{x_place_ok, bank_place_ok}
 use Rattle.words.specs.declared.layouts.FirstRows.{FirstRows}
 use Rattle.words.specs.Layouts.{layout_from}
 use Rattle.taken.specs.declared.Stepped.{Stepped}
-use Rattle.taken.specs.declared.Taken.{Taken}
 use Rattle.taken.specs.Ranges.{Ready}
 use Rattle.taken.specs.Taken.{bank_index, help_index, put_back}
 use Rattle.taken.proofs.IndexLaws.{bank_index_in, help_index_in}
@@ -32,23 +30,23 @@ use Rattle.steps.specs.Layouts.{Placed}
 use Rattle.steps.specs.Steps.{offered_in, obey_on_in}
 use Rattle.steps.proofs.TakenLaws.{whole_order_in}
 use Rattle.serving.proofs.RefusalFacts.{and_true}
-use Rattle.station.specs.declared.RecordNumber.{RecordNumber}
 use Rattle.station.specs.declared.StationProcess.{StationProcess}
-use Rattle.station.specs.Station.{StationMemory, process_at, layout_of, station_words}
+use Rattle.station.specs.Station.{StationMemory, process_at, layout_of}
 use Rattle.station.specs.Projection.{bench_of, process_of, put_tables, put_process, embed}
-use Rattle.station.specs.StationRefusals.{StationOrder, record_about}
+use Rattle.station.specs.StationRefusals.{record_about}
 use Rattle.station.specs.StationCommand.{obeyed_on}
 use Rattle.station_facts.proofs.RecordRows.{below_record}
 use Rattle.held_model.specs.Layout.{record_place, bank_place, help_place, words_place}
-use Rattle.held_model.specs.Memory.{number_at, x_from, bank_from, help_from, tables_from, tables_in, process_in, laid_out, memory_of}
+use Rattle.held_model.specs.Memory.{number_at, x_from, bank_from, help_from, tables_in, process_in, laid_out, memory_of}
 use Rattle.held_model.proofs.MemoryLaws.{Same, process_there, bank_there, help_there}
-use Rattle.held_rows.specs.Reads.{seen_from, XFits, ProcessFits}
+use Rattle.held_rows.specs.Reads.{seen_from, ProcessFits}
 use Rattle.held_rows.specs.ListRows.{about, Admits}
 use Rattle.held_rows.proofs.FitLaws.{x_fits, bank_fits, help_fits, process_fits}
 use Rattle.held_rows.proofs.ListLaws.{list_ready}
 use Rattle.held_rows.proofs.NearRowLaws.{seen_there, bench_from, bench_there}
 use Rattle.held_machine.specs.Writes.{written, RowsOf, Ordered, OnWords, taken_from, PlacesThere}
-use Rattle.held_machine.proofs.MemoryAfter.{memory_after}
+use Rattle.held_model.specs.HeldCommand.{MarksAfter}
+use Rattle.held_machine.proofs.MemoryAfter.{memory_after, marks_after}
 
 module _ (l : List ℕ) (p : ℕ) (o : Order) (named : ℕ) (v : List ℕ) (a : Admits l p o named v) where
   abbrev n : ℕ
@@ -187,3 +185,6 @@ module _ (l : List ℕ) (p : ℕ) (o : Order) (named : ℕ) (v : List ℕ) (a : 
         ap (λ (z : StationMemory). (s.reply, z)) (ap (λ (z : ℕ). laid_out z after) same_r
         ∙ memory_after l m r j i.0 h.0 p s a.on a.list.r_high i_in h_in p_in (omega (arith, on.length_stays, a.list.long)) stay)
         ∙ ap (by (process_in r l p)) (whole ∙ obeyed_is) ∙ ap (λ (x : StationProcess). by x (made x)) (sym (process_there r l p p_in))
+
+    pub obey_marks : MarksAfter l after p j
+    obey_marks = marks_after l m r j i.0 h.0 p s a.on a.list.r_high i_in h_in p_in (omega (arith, on.length_stays, a.list.long)) stay refl refl

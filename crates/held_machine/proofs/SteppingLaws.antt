@@ -1,21 +1,20 @@
 -- The two answers of a command by a look at what it reads alone.
-use mathlib.Core.Path.{◌≡◌, refl, sym, ap, ap₂, ◌∙◌}
+use mathlib.Core.Path.{◌≡◌, sym, ap, ◌∙◌}
 use mathlib.Core.List.{List}
-use mathlib.Core.Bool.{true, false, cond}
+use mathlib.Core.Bool.{false, cond}
 use Prim.Native.Nat.{ℕ}
-use lib.Dec.{eqb}
 use borrow.Author.Tests.{eq-eqb, ne_eqb}
 use Rattle.model.specs.declared.Reply.{Reply}
 use Rattle.model.specs.declared.Reply.TheVariants.{Refused}
 use Rattle.station.specs.Station.{StationMemory}
 use Rattle.station.specs.Projection.{embed}
-use Rattle.station.specs.StationRefusals.{StationOrder, record_for, station_in_range}
+use Rattle.station.specs.StationRefusals.{StationOrder, record_for}
 use Rattle.station.specs.StationCommand.{station_refusal, station_command, obeyed_on}
 use Rattle.held_model.specs.declared.Told.{Told}
 use Rattle.held_model.specs.Memory.{number_at, memory_of}
 use Rattle.held_model.specs.Told.{told_with, told}
 use Rattle.held_model.specs.Near.{near_refusal, near_command}
-use Rattle.held_model.specs.HeldCommand.{DoneBy, Commanded, SteppedTo}
+use Rattle.held_model.specs.HeldCommand.{MarksAfter, DoneBy, Commanded, SteppedTo}
 use Rattle.held_model.proofs.MemoryLaws.{memory_shaped}
 use Rattle.station_facts.proofs.Accepts.{refuses as refuses_all}
 use Rattle.held_rows.specs.WholeRows.{memory_number}
@@ -42,6 +41,7 @@ module _ {l : List ℕ} {c : StationOrder} {t : Told} {l' : List ℕ} where
         record {
           answer = d.answer ∙ ap (λ (x : Reply × StationMemory). told (number_at l 0) (number_at l 1) (number_at l 2) c.process x.0) f;
           memory = d.memory ∙ ap (λ (x : Reply × StationMemory). x.1) f;
+          marks = λ z. d.marks (near_refusal_is (memory_of l) shaped h c ∙ z);
           refused = λ n. d.refused (λ z. n (sym (near_refusal_is (memory_of l) shaped h c) ∙ z));
         };
   }
@@ -52,16 +52,18 @@ module _ {l : List ℕ} {c : StationOrder} {t : Told} {l' : List ℕ} where
       is_stepped (record {
         answer = a ∙ ap (λ (i : ℕ). told_with i 0 false 0) e ∙ ap (λ (x : Reply × StationMemory). told (number_at l 0) (number_at l 1) (number_at l 2) c.process x.0) (sym r);
         memory = ap memory_of b ∙ ap (λ (x : Reply × StationMemory). x.1) (sym r);
+        marks = λ z. absurd (n (e ∙ z));
         refused = λ z. b;
       })
 
   pub step_done : (reply : Reply) → near_refusal (memory_of l) c ≡ 0 → (reply, memory_of l') ≡ embed (memory_of l) (record_for (memory_of l) c) c.process (obeyed_on (memory_of l) (record_for (memory_of l) c) c)
-      → t ≡ told (number_at l 0) (number_at l 1) (number_at l 2) c.process reply → SteppedTo l c t l'
-  step_done reply e d a =
+      → t ≡ told (number_at l 0) (number_at l 1) (number_at l 2) c.process reply → MarksAfter l l' c.process (record_for (memory_of l) c).0 → SteppedTo l c t l'
+  step_done reply e d a marks =
       let r : (reply, memory_of l') ≡ near_command (memory_of l) c = d ∙ sym (obeys (memory_of l) c e) in
       is_stepped (record {
         answer = a ∙ ap (λ (x : Reply × StationMemory). told (number_at l 0) (number_at l 1) (number_at l 2) c.process x.0) r;
         memory = ap (λ (x : Reply × StationMemory). x.1) r;
+        marks = λ z. marks;
         refused = λ n. absurd (n e);
       })
 
@@ -73,6 +75,7 @@ module _ {l : List ℕ} {c : StationOrder} {t : Told} {l' : List ℕ} where
       record {
         answer = a ∙ ap (λ (i : ℕ). told_with i 0 false 0) z ∙ ap (λ (x : Reply × StationMemory). told (number_at l 0) (number_at l 1) (number_at l 2) c.process x.0) (sym r);
         memory = ap memory_of b ∙ ap (λ (x : Reply × StationMemory). x.1) (sym r);
+        marks = λ x. absurd (n (z ∙ x));
         refused = λ x. b;
       }
 

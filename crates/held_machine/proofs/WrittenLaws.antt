@@ -1,16 +1,14 @@
 -- What a step left, written: the numbers of its five blocks, and that the others stay.
-use mathlib.Core.Path.{◌≡◌, refl, sym, ap, ◌∙◌}
-use mathlib.Core.List.{List, [], ◌∷◌}
+use mathlib.Core.Path.{◌≡◌, refl, sym, subst, ◌∙◌}
+use mathlib.Core.List.{List}
 use mathlib.Core.Bool.{Bool, true, false, not, cond}
-use Prim.Native.Nat.{ℕ, ◌+◌, ◌*◌, ◌<◌, ◌≤◌}
+use Prim.Native.Nat.{ℕ, ◌+◌, ◌<◌, ◌≤◌}
 use native.Mathlib.Omega.{arith}
 use lib.Dec.{eqb}
 use lib.ListN.{length, get_or, drop}
 use lib.Seq.{sets, length-sets}
-use Rattle.model.specs.declared.Process.{Process}
-use Rattle.station.specs.declared.Holding.{Holding}
 use Rattle.taken.specs.declared.Stepped.{Stepped}
-use Rattle.held_model.specs.Layout.{call_place, record_place, bank_place, help_place, holding_place, words_place}
+use Rattle.held_model.specs.Layout.{call_place, record_place, bank_place, help_place, holding_place, mark_place, words_place}
 use Rattle.held_model.specs.Memory.{number_at, x_from, bank_from, help_from, held_from}
 use Rattle.held_model.proofs.BlockLaws.{outside, within, after}
 use Rattle.held_machine.specs.Writes.{x_numbers, bank_numbers, help_numbers, holding_numbers, call_numbers, written}
@@ -115,6 +113,14 @@ module _ (l : List ℕ) (j i h p : ℕ) (s : Stepped) (i_in : i < 32) (h_in : h 
   pub held_written : held_from l₅ p j ≡ record { mybuf = s.process.mybuf; x = s.process.x; answered = s.process.answered }
   held_written =
       rw (own_at 0 {e = own} (omega arith) (omega arith), own_at 1 refl (omega arith), own_at 2 refl (omega arith), own_at 3 refl (omega arith), truth_back s.process.answered) refl
+
+  -- the mark is 0 or 1
+  pub mark_written : number_at l₅ (mark_place j p) ≤ 1
+  mark_written = subst (λ (k : ℕ). k ≤ 1) (sym (own_at 3 refl (omega arith))) (small s.process.answered)
+    where
+      small : (t : Bool) → cond t 1 0 ≤ 1
+      small true = omega arith
+      small false = omega arith
 
   -- the words stay
   pub words_written : (n : ℕ) → words_place (j + 1) ≤ n → drop n l₅ ≡ drop n l

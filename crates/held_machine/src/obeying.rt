@@ -5,7 +5,8 @@ ghost use Rattle.station.specs.Projection.{embed};
 ghost use Rattle.station.specs.StationRefusals.{record_about};
 ghost use Rattle.station.specs.StationCommand.{obeyed_on};
 ghost use Rattle.held_model.specs.Memory.{memory_of};
-ghost use Rattle.held_rows.specs.ListRows.{Admits};
+ghost use Rattle.held_model.specs.HeldCommand.{MarksAfter};
+ghost use Rattle.held_rows.specs.ListRows.{about, Admits};
 ghost use Rattle.held_machine.specs.Writes.{taken_from, PlacesThere};
 
 use crate::{orders, writes};
@@ -30,9 +31,10 @@ fn places_at(held: &[u64], j: RecordNumber, bank: usize, help: usize) -> Taken
 
 pub fn obey(held: &mut [u64], p: usize, order: Order, named: usize, value: &[u64]) -> Reply
     requires { Admits held.old p order named value.now }
-    ensures { (result, memory_of held.new) ≡ embed (memory_of held.old) (record_about order named (process_at (memory_of held.old) p)) p
+    ensures done { (result, memory_of held.new) ≡ embed (memory_of held.old) (record_about order named (process_at (memory_of held.old) p)) p
         (obeyed_on (memory_of held.old) (record_about order named (process_at (memory_of held.old) p))
         (record { process = p; order = order; called = named; value = value.now })) }
+    ensures marks { MarksAfter held.old held.new p (about held.old p order named) }
 {
     let lent = table::sizes(held);
     let Sizes { n, r, .. } = lent;

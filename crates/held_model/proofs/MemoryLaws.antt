@@ -1,19 +1,15 @@
 -- The memory of a list, read where its numbers stand.
-use mathlib.Core.Path.{◌≡◌, refl, sym, ap, ap₂, ◌∙◌}
-use mathlib.Core.List.{List, [], ◌∷◌, map}
+use mathlib.Core.Path.{◌≡◌, refl, ap, ap₂, ◌∙◌}
+use mathlib.Core.List.{List}
 use mathlib.Core.Bool.{Bool, true, false, cond}
-use Prim.Native.Nat.{ℕ, zero, suc, ◌+◌, ◌<◌, ◌≤◌}
+use Prim.Native.Nat.{ℕ, ◌+◌, ◌<◌, ◌≤◌}
 use native.Mathlib.Omega.{arith}
-use lib.Dec.{eqb, ltb}
+use lib.Dec.{ltb}
 use lib.ListN.{length, get_or}
 use borrow.Author.Tests.{lt-ltb, ltb-true}
-use Rattle.model.specs.declared.Bench.{Bench}
 use Rattle.model.specs.Places.{XPlace, BankPlace, HelpPlace}
 use Rattle.model.specs.Tables.{no_bank, no_help}
-use Rattle.model.specs.SetUp.{numbers}
-use Rattle.station.specs.declared.RecordNumber.{RecordNumber}
 use Rattle.station.specs.declared.Tables.{Tables}
-use Rattle.station.specs.declared.Holding.{Holding}
 use Rattle.station.specs.declared.StationProcess.{StationProcess}
 use Rattle.station.specs.Station.{StationMemory, no_tables, no_holding, no_station_process, tables_at, holding_at, process_at}
 use Rattle.station.specs.StationRefusals.{StationShaped}

@@ -1,24 +1,36 @@
 -- What a set-up and a command make of a held list, and what they tell.
-use Rattle.std.specs.Prelude.{◌≡◌, ℕ, List, true}
+use Rattle.std.specs.Prelude.{◌≡◌, ℕ, ◌<◌, ◌≤◌, List, true, cond, ltb}
 use Rattle.model.specs.declared.Reply.{Reply}
 use Rattle.station.specs.Station.{StationMemory}
-use Rattle.station.specs.StationRefusals.{StationOrder, station_in_range}
+use Rattle.station.specs.StationRefusals.{StationOrder, record_for, station_in_range}
 use Rattle.station.specs.StationCommand.{station_refusal, station_command}
 use Rattle.station.specs.StationSetUp.{station_set_up}
 use Rattle.held_model.specs.declared.Told.{Told}
-use Rattle.held_model.specs.Memory.{laid_out, memory_of}
+use Rattle.held_model.specs.Layout.{mark_place}
+use Rattle.held_model.specs.Memory.{number_at, laid_out, memory_of}
 use Rattle.held_model.specs.Told.{order_named, told}
 use Rattle.held_model.specs.Near.{near_refusal, near_command}
+
+-- Of a mark the memory tells only whether it is 0. A set-up writes 0 for the n processes, and leaves the others.
+abbrev pub MarksSet : List ℕ → ℕ → ℕ → List ℕ → Type 0
+MarksSet l n r l' =
+    (p j : ℕ) → p < 16 → j < r → number_at l' (mark_place j p) ≡ cond (ltb p n) 0 (number_at l (mark_place j p))
 
 -- The list l as it is laid out for r records is set up: the number of the refusal and the memory are those of `station`'s
 -- set-up, and a refusal leaves every number. An accepted set-up leaves R = r, so that the memory is the list's own.
 pub record SetUpDone (l : List ℕ) (n w r : ℕ) (value : List ℕ) (k : ℕ) (l' : List ℕ) : Type 0 where
   pub done : (k, laid_out r l') ≡ station_set_up (laid_out r l) n w r value
+  pub marks : k ≡ 0 → MarksSet l n r l'
   pub refused : (k ≡ 0 → ⊥) → l' ≡ l
 
 -- a command by numbers
 abbrev pub order_of : ℕ → ℕ → ℕ → List ℕ → StationOrder
 order_of p o named value = record { process = p; order = order_named o; called = named; value = value }
+
+-- A command of process p on record j writes 0 or 1 for its own mark, and leaves the others.
+pub record MarksAfter (l l' : List ℕ) (p j : ℕ) : Type 0 where
+  pub own : number_at l' (mark_place j p) ≤ 1
+  pub others : (q i : ℕ) → q < 16 → i < number_at l 2 → (q ≡ p → i ≡ j → ⊥) → number_at l' (mark_place i q) ≡ number_at l (mark_place i q)
 
 -- What is told, and the memory of the list after it, are those of the command f, and a refusal, whose number is refusal's,
 -- leaves every number
@@ -26,6 +38,7 @@ pub record DoneBy (refusal : StationMemory → StationOrder → ℕ) (f : Statio
     (l : List ℕ) (c : StationOrder) (t : Told) (l' : List ℕ) : Type 0 where
   pub answer : t ≡ told (memory_of l).n (memory_of l).w (memory_of l).r c.process (f (memory_of l) c).0
   pub memory : memory_of l' ≡ (f (memory_of l) c).1
+  pub marks : refusal (memory_of l) c ≡ 0 → MarksAfter l l' c.process (record_for (memory_of l) c).0
   pub refused : (refusal (memory_of l) c ≡ 0 → ⊥) → l' ≡ l
 
 -- `station`'s command, whatever stands in the list

@@ -5,9 +5,7 @@
 -- x (buffer number, sequence number), and the mark of an answered LL. Then the words, in rows of W.
 -- Row 9 speaks of a number that is too large, whatever its field would hold.
 use Rattle.std.specs.Prelude.{ℕ, ◌+◌, ◌*◌}
-use Rattle.llsc.specs.declared.ProcessNumber.{ProcessNumber}
 use Rattle.model.specs.Words.{return_in}
-use Rattle.station.specs.declared.RecordNumber.{RecordNumber}
 use Rattle.station.specs.Station.{station_layout}
 
 -- where the numbers of a process begin
@@ -26,6 +24,10 @@ help_place j p = 198 + 179 * j + 3 * p
 
 abbrev pub holding_place : ℕ → ℕ → ℕ
 holding_place j p = 246 + 179 * j + 4 * p
+
+-- the mark there of an answered LL
+abbrev pub mark_place : ℕ → ℕ → ℕ
+mark_place j p = holding_place j p + 3
 
 -- and the words of R records
 abbrev pub words_place : ℕ → ℕ

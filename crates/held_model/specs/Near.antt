@@ -1,7 +1,7 @@
 -- A command by a look at what it reads alone, on any memory. Row 9 is looked at for the open call of its own process,
 -- for that process as the record's bench has it, for the record's X and for the places of Bank and Help that a step of
 -- it could touch. Where row 9 holds of nothing it is `station`'s command (`near_command_is`, `held_rows/proofs/NearLaws`).
-use Rattle.std.specs.Prelude.{ℕ, List, [], ◌∷◌, ◌++◌, Bool, ◌&&◌, cond, eqb, length}
+use Rattle.std.specs.Prelude.{ℕ, List, [], ◌∷◌, Bool, ◌&&◌, cond, eqb, length}
 use Rattle.model.specs.declared.Reply.{Reply}
 use Rattle.model.specs.declared.Reply.TheVariants.{Refused}
 use Rattle.model.specs.declared.SequenceNumber.{SequenceNumber}
@@ -12,7 +12,6 @@ use Rattle.model.specs.Points.{point_of, line_number, line14, line15, line18}
 use Rattle.model.specs.Tables.{bank_at, help_at, next, helped}
 use Rattle.model.specs.Refusals.{x_place_ok, bank_place_ok, help_place_ok, process_ok}
 use Rattle.llsc.specs.Rows.{Row, first, row4, row8, row9}
-use Rattle.station.specs.declared.StationProcess.{StationProcess}
 use Rattle.station.specs.Station.{StationMemory, process_at, holding_at}
 use Rattle.station.specs.Projection.{bench_of, process_of, embed}
 use Rattle.station.specs.StationRefusals.{StationOrder, record_for, station_lent_rows, row24, row5of, row6of, row7of, called_ok}

@@ -1,17 +1,16 @@
 -- Numbers in range fit their fields.
 use mathlib.Core.Path.{◌≡◌, refl}
 use mathlib.Core.List.{List, [], ◌∷◌}
-use mathlib.Core.Bool.{Bool, true, false, ◌&&◌, ◌||◌}
-use Prim.Native.Nat.{ℕ, ◌+◌, ◌*◌, ◌^◌, ◌<◌, ◌≤◌}
+use mathlib.Core.Bool.{Bool, true, false, ◌||◌}
+use Prim.Native.Nat.{ℕ, ◌^◌, ◌<◌, ◌≤◌}
 use native.Mathlib.Nat.{pow-le-pow_right}
 use native.Mathlib.Omega.{arith}
-use lib.Dec.{eqb, ltb, leb}
+use lib.Dec.{eqb, leb}
 use borrow.Author.Tests.{ltb-true, leb-true, eqb-true}
 use Rattle.model.specs.Places.{XPlace, BankPlace, HelpPlace}
 use Rattle.model.specs.declared.Process.{Process}
-use Rattle.model.specs.Sizes.{halves}
 use Rattle.model.specs.Points.{Point, line_number, busy_points}
-use Rattle.model.specs.Refusals.{x_place_ok, bank_place_ok, help_place_ok, process_ok, buffer_ok, sequence_ok, x_ok, links_ok, is_idle, line_ok, count_ok}
+use Rattle.model.specs.Refusals.{x_place_ok, bank_place_ok, help_place_ok, process_ok, buffer_ok, x_ok, links_ok, line_ok}
 use Rattle.llsc.specs.Rows.{every, some}
 use Rattle.laws.proofs.Updates.{contra}
 use Rattle.serving.proofs.RefusalFacts.{and_true}

@@ -1,19 +1,18 @@
 -- What rows 1, 2, 23 and 3 leave of a list, and of a process that is in range.
-use mathlib.Core.Path.{◌≡◌, refl, sym, ap, subst, ◌∙◌}
+use mathlib.Core.Path.{◌≡◌, refl}
 use mathlib.Core.List.{List, []}
-use mathlib.Core.Bool.{Bool, true, false}
+use mathlib.Core.Bool.{true, false}
 use Prim.Native.Nat.{ℕ, ◌+◌, ◌-◌, ◌*◌, ◌<◌, ◌≤◌}
-use native.Mathlib.Nat.{mul-le-mul, mul-le-mul_right}
+use native.Mathlib.Nat.{mul-le-mul_right}
 use native.Mathlib.Omega.{arith}
 use lib.Dec.{ltb}
 use borrow.Author.Tests.{ltb-false, ltb-true, leb-false}
 use lib.ListN.{length, drop, get_or, length-drop}
-use Rattle.llsc.specs.Rows.{first}
 use Rattle.llsc.specs.declared.Order.{Order}
 use Rattle.llsc.specs.declared.Order.TheVariants.{StartLl, StartSc, StartVl, Step}
 use Rattle.model.specs.Refusals.{process_ok}
 use Rattle.taken.specs.Ranges.{Ready}
-use Rattle.rows.proofs.RowLaws.{InRange, in_range_lem}
+use Rattle.rows.proofs.RowLaws.{in_range_lem}
 use Rattle.serving.proofs.RefusalFacts.{and_true, or_false, no_row, none_holds, inside}
 use Rattle.station.specs.Station.{station_words}
 use Rattle.station.specs.declared.StationProcess.{StationProcess}

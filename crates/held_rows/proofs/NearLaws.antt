@@ -1,41 +1,36 @@
 -- Where row 9 holds of nothing, a command by a look at what it reads alone is `station`'s.
-use mathlib.Core.Path.{◌≡◌, refl, sym, ap, ap₂, subst, ◌∙◌}
+use mathlib.Core.Path.{◌≡◌, sym, ap, ap₂, subst, ◌∙◌}
 use mathlib.Core.List.{List, [], ◌∷◌}
 use mathlib.Core.Bool.{Bool, true, false, cond, not, ◌&&◌}
-use Prim.Native.Nat.{ℕ, ◌+◌, ◌*◌, ◌<◌, ◌≤◌}
+use Prim.Native.Nat.{ℕ, ◌*◌, ◌<◌, ◌≤◌}
 use native.Mathlib.Nat.{mul-le-mul_right}
 use native.Mathlib.Omega.{arith}
 use lib.Dec.{eqb}
 use lib.ListN.{length, take, get_or}
 use lib.Seq.{get_or-take, length-take-le}
-use borrow.Author.Tests.{leb-false, not-false}
+use borrow.Author.Tests.{leb-false}
 use Rattle.llsc.specs.declared.ProcessNumber.{ProcessNumber}
 use Rattle.llsc.specs.Rows.{first, every, row4, row8}
-use Rattle.model.specs.declared.Bench.{Bench}
-use Rattle.model.specs.declared.Process.{Process}
-use Rattle.model.specs.declared.Reply.{Reply}
 use Rattle.model.specs.declared.Reply.TheVariants.{Refused}
-use Rattle.model.specs.Places.{BankPlace, HelpPlace}
 use Rattle.model.specs.Points.{point_of}
 use Rattle.model.specs.SetUp.{numbers}
 use Rattle.model.specs.Sizes.{sequence_numbers}
-use Rattle.model.specs.Tables.{no_bank, no_help, bank_at, help_at}
+use Rattle.model.specs.Tables.{no_bank, no_help}
 use Rattle.model.specs.Refusals.{x_place_ok, bank_place_ok, help_place_ok, process_ok, bench_ok}
 use Rattle.taken.specs.Taken.{bank_index, help_index}
 use Rattle.taken.specs.Ranges.{Ready}
 use Rattle.taken.proofs.IndexLaws.{bank_index_in, help_index_in}
 use Rattle.rows.proofs.RowLaws.{in_range_lem}
 use Rattle.serving.proofs.RefusalFacts.{and_true}
-use Rattle.station.specs.declared.RecordNumber.{RecordNumber}
 use Rattle.station.specs.declared.StationProcess.{StationProcess}
 use Rattle.station.specs.Station.{StationMemory, no_station_process, process_at, holding_at, station_words}
 use Rattle.station.specs.Projection.{bench_of, process_of, embed}
-use Rattle.station.specs.StationRefusals.{StationOrder, StationShaped, record_about, record_for, row24, row5of, row6of, row7of, called_ok}
+use Rattle.station.specs.StationRefusals.{StationOrder, StationShaped, record_for, row24, row5of, row6of, row7of, called_ok}
 use Rattle.station.specs.StationRefusals.{station_process_ok, station_in_range}
 use Rattle.station.specs.StationCommand.{station_refusal, station_command, obeyed_on}
 use Rattle.station_facts.proofs.Accepts.{every_at, every_number}
 use Rattle.station_rows.proofs.StationRowLaws.{same_row, same_then, StationLent}
-use Rattle.held_model.specs.Near.{places_ok, touched_ok, near_rest, near_refusal, near_command}
+use Rattle.held_model.specs.Near.{touched_ok, near_rest, near_refusal, near_command}
 use Rattle.held_rows.proofs.ListLaws.{about_below}
 
 module _ (s : StationMemory) (shaped : StationShaped s) (in_range : station_in_range s ≡ true) where

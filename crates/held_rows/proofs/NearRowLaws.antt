@@ -2,13 +2,13 @@
 use mathlib.Core.Path.{◌≡◌, refl, sym, ap, ap₂, ◌∙◌}
 use mathlib.Core.List.{List, [], ◌∷◌}
 use mathlib.Core.Bool.{Bool, true, false, cond, not, ◌&&◌}
-use Prim.Native.Nat.{ℕ, zero, suc, ◌+◌, ◌-◌, ◌*◌, ◌<◌, ◌≤◌}
+use Prim.Native.Nat.{ℕ, zero, suc, ◌-◌, ◌<◌}
 use native.Mathlib.Omega.{arith}
 use lib.Dec.{eqb}
 use borrow.Author.Tests.{leb-false, eqb-true, eqb-false, eq-eqb, ne_eqb, not-false}
 use lib.ListN.{length, drop, length-drop}
 use Rattle.llsc.specs.declared.Order.{Order}
-use Rattle.llsc.specs.Rows.{first, brings_value, row1, row2, row4, row8, row7}
+use Rattle.llsc.specs.Rows.{first, brings_value, row1, row2, row4, row8}
 use Rattle.model.specs.declared.Bench.{Bench}
 use Rattle.model.specs.declared.Process.{Process}
 use Rattle.model.specs.Places.{BankPlace, HelpPlace}
@@ -31,9 +31,9 @@ use Rattle.station.specs.StationRefusals.{station_in_range, station_process_rows
 use Rattle.station.specs.StationCommand.{station_refusal}
 use Rattle.station_rows.specs.StationCommandRows.{station_lent_number}
 use Rattle.station_rows.proofs.StationRowLaws.{same_row}
-use Rattle.held_model.specs.Layout.{record_place, bank_place, help_place, words_place}
-use Rattle.held_model.specs.Memory.{number_at, x_from, bank_from, help_from, tables_from, held_from, process_in, memory_of}
-use Rattle.held_model.specs.Near.{places_ok, touched_ok, near_rest, near_refusal}
+use Rattle.held_model.specs.Layout.{record_place, words_place}
+use Rattle.held_model.specs.Memory.{number_at, x_from, tables_from, held_from, process_in, memory_of}
+use Rattle.held_model.specs.Near.{places_ok, near_rest, near_refusal}
 use Rattle.held_model.proofs.TabLaws.{tab_length}
 use Rattle.held_model.proofs.MemoryLaws.{tables_there, process_there, holding_there, bank_there, help_there}
 use Rattle.held_rows.specs.Reads.{seen_from}

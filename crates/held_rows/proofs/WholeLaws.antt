@@ -1,17 +1,13 @@
 -- Row 9 over the numbers of a list is row 9 of the memory that it stands for.
-use mathlib.Core.Path.{◌≡◌, refl, sym, ap, ap₂, ◌∙◌}
-use mathlib.Core.List.{List, map}
+use mathlib.Core.Path.{◌≡◌, sym, ap, ap₂, ◌∙◌}
+use mathlib.Core.List.{List}
 use mathlib.Core.Bool.{Bool, true, ◌&&◌}
-use Prim.Native.Nat.{ℕ, ◌+◌, ◌*◌, ◌<◌, ◌≤◌}
+use Prim.Native.Nat.{ℕ, ◌<◌}
 use native.Mathlib.Omega.{arith}
-use lib.ListN.{take}
 use Rattle.llsc.specs.Rows.{every}
-use Rattle.model.specs.declared.Bench.{Bench}
-use Rattle.model.specs.declared.Process.{Process}
 use Rattle.model.specs.SetUp.{numbers}
 use Rattle.model.specs.Sizes.{sequence_numbers}
 use Rattle.model.specs.Refusals.{x_place_ok, bank_place_ok, help_place_ok, process_ok, bench_ok}
-use Rattle.station.specs.declared.StationProcess.{StationProcess}
 use Rattle.station.specs.Projection.{bench_of, process_of}
 use Rattle.station.specs.StationRefusals.{called_ok, station_process_ok, station_in_range}
 use Rattle.serving.proofs.RefusalFacts.{and_true}
@@ -22,7 +18,7 @@ use Rattle.held_model.proofs.TabLaws.{tab_every, every_same}
 use Rattle.held_rows.specs.Reads.{seen_from}
 use Rattle.held_rows.specs.ListRows.{LentList}
 use Rattle.held_rows.specs.WholeRows.{bench_from_ok, process_from_ok, list_in_range}
-use Rattle.held_rows.proofs.NearRowLaws.{bench_from, bench_there, seen_there}
+use Rattle.held_rows.proofs.NearRowLaws.{bench_there, seen_there}
 
 module _ (l : List ℕ) (a : LentList l) where
   abbrev n : ℕ

@@ -6,7 +6,6 @@ use Rattle.model.specs.Points.{point_of}
 use Rattle.model.specs.Refusals.{x_place_ok, bank_place_ok, help_place_ok, process_ok}
 use Rattle.llsc.specs.declared.Order.{Order}
 use Rattle.llsc.specs.Rows.{first, brings_value, row4, row8, row7}
-use Rattle.station.specs.declared.RecordNumber.{RecordNumber}
 use Rattle.station.specs.Station.{station_words}
 use Rattle.station.specs.StationRefusals.{record_about, row24, row5of, row6of, called_ok}
 use Rattle.station_rows.specs.StationCommandRows.{station_lent_number}

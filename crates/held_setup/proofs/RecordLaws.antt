@@ -1,10 +1,10 @@
 -- A record set up over the numbers: what its runs read as, and that the others stay.
-use mathlib.Core.Path.{◌≡◌, refl, sym, ap, ◌∙◌}
-use mathlib.Core.List.{List, [], ◌∷◌}
+use mathlib.Core.Path.{◌≡◌, refl, ap, ◌∙◌}
+use mathlib.Core.List.{List}
 use mathlib.Core.Bool.{Bool, true, false}
 use Prim.Native.Nat.{ℕ, zero, suc, ◌+◌, ◌*◌, ◌<◌, ◌≤◌}
 use native.Mathlib.Omega.{arith}
-use lib.Dec.{ltb, eqb}
+use lib.Dec.{ltb}
 use lib.ListN.{length, get_or, drop, replicate}
 use lib.Seq.{sets, length-sets}
 use borrow.Author.Tests.{ltb-true, ltb-false}
@@ -12,7 +12,7 @@ use Rattle.std.proofs.lemmas.List.{length-replicate, get_or-replicate}
 use Rattle.model.specs.SetUp.{x_at_set_up, bank_at_set_up, help_at_set_up}
 use Rattle.station.specs.Station.{no_holding}
 use Rattle.station.specs.StationSetUp.{holding_at_set_up}
-use Rattle.held_model.specs.Layout.{record_place, bank_place, help_place, holding_place, words_place}
+use Rattle.held_model.specs.Layout.{record_place, bank_place, help_place, holding_place, mark_place, words_place}
 use Rattle.held_model.specs.Memory.{number_at, x_from, bank_from, help_from, held_from}
 use Rattle.held_model.proofs.BlockLaws.{outside, within, after}
 use Rattle.held_setup.specs.Setting.{runs, bank_run, holding_run, record_set, records_set}
@@ -123,6 +123,9 @@ module _ (l : List ℕ) (n j : ℕ) (n_in : n ≤ 16) (long : words_place (j + 1
   pub held_set : (p : ℕ) → p < n → held_from l₄ p j ≡ holding_at_set_up (2 * n + p) 0 no_holding
   held_set p b =
       rw (own_at p 0 {e = holding_place j p} b (omega arith) (omega arith), own_at p 1 b refl (omega arith), own_at p 2 b refl (omega arith), own_at p 3 b refl (omega arith)) refl
+
+  pub mark_set : (p : ℕ) → p < n → number_at l₄ (mark_place j p) ≡ 0
+  mark_set p b = own_at p 3 b refl (omega arith)
 
 -- the records, one after another
 module _ (l : List ℕ) (n : ℕ) (n_in : n ≤ 16) where

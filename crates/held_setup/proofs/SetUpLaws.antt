@@ -1,22 +1,21 @@
 -- The two answers of a set-up.
 use mathlib.Core.Path.{◌≡◌, refl, sym, ap, ap₂, ◌∙◌}
 use mathlib.Core.List.{List}
-use mathlib.Core.Bool.{Bool, true, false, cond}
+use mathlib.Core.Bool.{Bool, cond}
 use Prim.Native.Nat.{ℕ, ◌+◌, ◌-◌, ◌*◌, ◌≤◌}
 use native.Mathlib.Nat.{mul-le-mul_right}
 use native.Mathlib.Omega.{arith}
-use lib.Dec.{eqb}
-use lib.ListN.{length, get_or, drop, length-drop}
+use lib.ListN.{length, length-drop}
 use borrow.Author.Tests.{eq-eqb, ne_eqb}
-use Rattle.serving.proofs.RefusalFacts.{no_row, none_holds, inside}
-use Rattle.station.specs.Station.{StationMemory, station_words}
+use Rattle.serving.proofs.RefusalFacts.{none_holds, inside}
+use Rattle.station.specs.Station.{StationMemory}
 use Rattle.station.specs.StationRefusals.{station_set_up_rows_of}
 use Rattle.station.specs.StationSetUp.{station_set_up, station_set_up_refusal, station_at_set_up}
 use Rattle.station_setup.specs.StationSetUpByValue.{station_set_up_number}
 use Rattle.station_setup.proofs.StationSetUpLaws.{set_up_fits}
 use Rattle.held_model.specs.Layout.{words_place}
 use Rattle.held_model.specs.Memory.{process_in, laid_out}
-use Rattle.held_model.specs.HeldCommand.{SetUpDone}
+use Rattle.held_model.specs.HeldCommand.{MarksSet, SetUpDone}
 use Rattle.held_model.proofs.TabLaws.{tab_length}
 use Rattle.held_setup.specs.Setting.{Room}
 
@@ -53,15 +52,17 @@ module _ (l : List ℕ) (n w r : ℕ) (value : List ℕ) where
       let is : k ≡ station_set_up_refusal s n w r value = e ∙ number_is in
       record {
         done = ap (λ (z : ℕ). (z, s)) is ∙ ap answer (sym (ne_eqb (station_set_up_refusal s n w r value) 0 (λ z. h (is ∙ z))));
+        marks = λ z. absurd (h z);
         refused = λ z. refl;
       }
 
-  pub set_up_done : (l' : List ℕ) → number ≡ 0 → laid_out r l' ≡ station_at_set_up s n w r value → SetUpDone l n w r value 0 l'
+  pub set_up_done : (l' : List ℕ) → number ≡ 0 → laid_out r l' ≡ station_at_set_up s n w r value → MarksSet l n r l' → SetUpDone l n w r value 0 l'
   unfolding station_set_up answer
-  set_up_done l' e h =
+  set_up_done l' e h marks =
       let none : station_set_up_refusal s n w r value ≡ 0 = sym number_is ∙ e in
       record {
         done = ap (λ (m : StationMemory). (0, m)) h ∙ ap (λ (k : ℕ). (k, station_at_set_up s n w r value)) (sym none)
             ∙ ap answer (sym (eq-eqb (station_set_up_refusal s n w r value) 0 none));
+        marks = λ z. marks;
         refused = λ z. absurd (z refl);
       }

@@ -2,29 +2,26 @@
 use mathlib.Core.Path.{◌≡◌, refl, sym, ap, ap₂, ◌∙◌}
 use mathlib.Core.List.{List, [], ◌∷◌, map}
 use mathlib.Core.Bool.{Bool, true, false, cond}
-use Prim.Native.Nat.{ℕ, zero, suc, ◌+◌, ◌-◌, ◌*◌, ◌<◌, ◌≤◌}
+use Prim.Native.Nat.{ℕ, ◌+◌, ◌*◌, ◌<◌, ◌≤◌}
 use native.Mathlib.Omega.{arith}
-use lib.Dec.{ltb, eqb}
-use lib.ListN.{length, get_or, take, drop, replicate, length-drop}
+use lib.Dec.{ltb}
+use lib.ListN.{length, get_or, drop, replicate}
 use lib.Seq.{sets, length-sets, get_or-take}
-use borrow.Author.Tests.{lt-ltb, le-ltb, eq-eqb, ne_eqb}
+use borrow.Author.Tests.{lt-ltb, le-ltb, ltb-true, ltb-false}
 use Rattle.std.proofs.lemmas.List.{length-replicate, get_or-replicate}
-use Rattle.llsc.specs.Rows.{first}
 use Rattle.model.specs.Places.{XPlace, BankPlace, HelpPlace}
 use Rattle.model.specs.SetUp.{numbers, x_at_set_up, bank_at_set_up, help_at_set_up}
 use Rattle.model.specs.Tables.{no_bank, no_help}
-use Rattle.station.specs.declared.Tables.{Tables}
-use Rattle.station.specs.declared.Holding.{Holding}
-use Rattle.station.specs.declared.StationProcess.{StationProcess}
-use Rattle.station.specs.Station.{StationMemory, no_tables, no_holding, no_station_process}
+use Rattle.station.specs.Station.{no_tables, no_holding, no_station_process}
 use Rattle.station.specs.StationSetUp.{firsts, empty_tables, tables_at_set_up, holding_at_set_up, station_process_at_set_up, station_at_set_up, blocks}
-use Rattle.held_model.specs.Layout.{call_place, record_place, bank_place, help_place, holding_place, words_place}
-use Rattle.held_model.specs.Memory.{number_at, x_from, bank_from, help_from, held_from, tables_from, tables_in, holding_in, process_in, laid_out}
+use Rattle.held_model.specs.Layout.{call_place, record_place, bank_place, help_place, holding_place, mark_place, words_place}
+use Rattle.held_model.specs.HeldCommand.{MarksSet}
+use Rattle.held_model.specs.Memory.{number_at, bank_from, help_from, held_from, tables_from, tables_in, holding_in, process_in, laid_out}
 use Rattle.held_model.proofs.BlockLaws.{outside, within, after as after_run}
 use Rattle.held_model.proofs.TabLaws.{tab_same, firsts_tab, sets_tab, replicate_tab}
 use Rattle.held_model.proofs.MemoryLaws.{Same, x_same, bank_same, help_same, held_same, holding_in_same, parts}
 use Rattle.held_setup.specs.Setting.{record_set, records_set, head_set, WordsSet, Room}
-use Rattle.held_setup.proofs.RecordLaws.{records_length, records_off, records_drop, records_at, record_others, record_length, x_set, bank_set, help_set, held_set}
+use Rattle.held_setup.proofs.RecordLaws.{records_length, records_off, records_drop, records_at, record_others, x_set, bank_set, help_set, held_set, mark_set}
 
 -- l is the list before the set-up, m that with its numbers and w that with its words
 module _ (l : List ℕ) (n w r : ℕ) (value : List ℕ) (h : Room l n w r (length value)) {m m' : List ℕ} (is : m ≡ records_set (head_set l n w r) n r)
@@ -195,3 +192,14 @@ module _ (l : List ℕ) (n w r : ℕ) (value : List ℕ) (h : Room l n w r (leng
   memory_set =
       parts (head_at 0 (omega arith)) (head_at 1 (omega arith)) (head_at 2 (omega arith)) tables_set processes_set
       (words.set ∙ ap (λ (z : List ℕ). sets z 0 (blocks r n w value)) words_stay)
+
+  pub marks_set : MarksSet l n r m'
+  marks_set p j b c = by (ltb p n) refl
+    where
+      by : (t : Bool) → ltb p n ≡ t → number_at m' (mark_place j p) ≡ cond t 0 (number_at l (mark_place j p))
+      by true e =
+          let z : p < n = ltb-true p n e in
+          of_record j c (mark_place j p) (omega arith) (omega (arith, b)) ∙ mark_set (records_set l₂ n j) n j n_in (fits j c) p z
+      by false e =
+          let z : n ≤ p = ltb-false p n e in
+          rest j c (mark_place j p) (omega arith) (omega (arith, b)) (λ u v. omega (arith, v, z)) (λ u v. omega (arith, v, n_in)) (λ u v. omega (arith, v, n_in))

@@ -2,7 +2,7 @@
 ghost use Rattle.std.specs.Prelude.{◌≡◌, length};
 ghost use Rattle.station.specs.StationSetUp.{station_at_set_up};
 ghost use Rattle.held_model.specs.Memory.{laid_out};
-ghost use Rattle.held_model.specs.HeldCommand.{SetUpDone};
+ghost use Rattle.held_model.specs.HeldCommand.{MarksSet, SetUpDone};
 ghost use Rattle.held_setup.specs.Setting.{Room};
 
 use crate::runs;
@@ -12,7 +12,8 @@ use llsc::counts::Processes;
 // One that no row refuses.
 fn prepare(held: &mut [u64], n: usize, w: usize, r: usize, value: &[u64])
     requires { Room held.old n w r (length value.now) }
-    ensures { laid_out r held.new ≡ station_at_set_up (laid_out r held.old) n w r value.now }
+    ensures memory { laid_out r held.new ≡ station_at_set_up (laid_out r held.old) n w r value.now }
+    ensures marks { MarksSet held.old n r held.new }
 {
     let count = Processes { n };
     runs::write_head(held, count, w, r);

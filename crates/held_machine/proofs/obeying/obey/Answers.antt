@@ -1,9 +1,11 @@
 -- `held_machine::obeying::obey` meets its contract: what no row refuses can be read, obeyed and written back.
-use mathlib.Core.Path.{◌≡◌, sym, ap, ◌∙◌}
+use mathlib.Core.Path.{sym, ap, subst, ◌∙◌}
 use mathlib.Core.List.{List}
 use Prim.Native.Nat.{ℕ}
 use Rattle.held_model.specs.Memory.{memory_of}
-use Rattle.held_machine.proofs.ObeyLaws.{i_in, h_in, p_in, long, own_fits, places_there, order_ready, obey_law}
+use Rattle.held_model.specs.HeldCommand.{MarksAfter}
+use Rattle.held_rows.specs.ListRows.{about}
+use Rattle.held_machine.proofs.ObeyLaws.{p_in, long, own_fits, places_there, order_ready, obey_law, obey_marks}
 use Rattle.held_machine.proofs.obeying.obey.Goals as goal
 
 pub process_at-process-requires : goal.process_at-process-requires
@@ -30,8 +32,8 @@ write_back-requires-clause-places c =
     rw (c.carried_in-stepped.ensures.length_stays, c.bank_place-bank.ensures, c.help_place-help.ensures, c.bank_index.ensures, c.help_index.ensures, c.process_at-process.ensures, c.sizes-lent.ensures.n, c.record_about.ensures)
     (let z = places_there l a.p a.order a.named v c.requires in (z.bank_long, z.help_long))
 
-pub returns : goal.returns
-returns c =
+pub returns-clause-done : goal.returns-clause-done
+returns-clause-done c =
     let a = c.args in let l = a.held.now in let v = a.value.now in
     let rows = rw (c.sizes-lent.ensures.n, c.sizes-lent.ensures.w, c.sizes-lent.ensures.r, c.record_about.ensures) at c.rows_of-rows.ensures in
     let on = rw (
@@ -49,3 +51,23 @@ returns c =
     let left = rw (c.bank_place-bank.ensures, c.help_place-help.ensures, c.bank_index.ensures, c.help_index.ensures, c.process_at-process.ensures, c.sizes-lent.ensures.n, c.record_about.ensures)
     at c.write_back.ensures in
     ap (λ (z : List ℕ). (c.carried_in-stepped.result.reply, memory_of z)) left ∙ obey_law l a.p a.order a.named v c.requires rows on
+
+pub returns-clause-marks : goal.returns-clause-marks
+returns-clause-marks c =
+    let a = c.args in let l = a.held.now in let v = a.value.now in
+    let rows = rw (c.sizes-lent.ensures.n, c.sizes-lent.ensures.w, c.sizes-lent.ensures.r, c.record_about.ensures) at c.rows_of-rows.ensures in
+    let on = rw (
+      c.words_place-at.ensures,
+      c.places_at-places.ensures,
+      c.bank_place-bank.ensures,
+      c.help_place-help.ensures,
+      c.bank_index.ensures,
+      c.help_index.ensures,
+      c.process_at-process.ensures,
+      c.sizes-lent.ensures.n,
+      c.sizes-lent.ensures.r,
+      c.record_about.ensures,
+    ) at c.carried_in-stepped.ensures in
+    let left = rw (c.bank_place-bank.ensures, c.help_place-help.ensures, c.bank_index.ensures, c.help_index.ensures, c.process_at-process.ensures, c.sizes-lent.ensures.n, c.record_about.ensures)
+    at c.write_back.ensures in
+    subst (λ (z : List ℕ). MarksAfter l z a.p (about l a.p a.order a.named)) (sym left) (obey_marks l a.p a.order a.named v c.requires rows on)

@@ -1,6 +1,5 @@
 -- `held_machine::stepping::near_command` meets its contract: the first row that holds refuses it, or it is obeyed.
-use mathlib.Core.Path.{◌≡◌, refl, sym, ap, ◌∙◌}
-use Prim.Native.Nat.{ℕ}
+use mathlib.Core.Path.{refl, sym}
 use Rattle.llsc.specs.Refusals.{refusal_number}
 use Rattle.llsc.proofs.RefusalNumbers.{number_some}
 use Rattle.held_machine.proofs.SteppingLaws.{step_refused}

@@ -1,5 +1,10 @@
 -- `held_machine::stepping::obeyed` meets its contract: what no row refuses can be obeyed.
-use mathlib.Core.Path.{◌≡◌, ◌∙◌}
+use mathlib.Core.Path.{sym, subst}
+use Rattle.station.specs.declared.StationProcess.{StationProcess}
+use Rattle.station.specs.StationRefusals.{record_about}
+use Rattle.held_model.specs.Memory.{number_at}
+use Rattle.held_model.specs.HeldCommand.{MarksAfter}
+use Rattle.held_model.proofs.MemoryLaws.{process_there}
 use Prim.Native.Nat.{◌<◌}
 use native.Mathlib.Omega.{arith}
 use Rattle.held_rows.proofs.NearRowLaws.{near_admits}
@@ -24,5 +29,8 @@ told-requires c = let a = c.args in p_in a.held.now a.p a.order a.named a.value.
 
 pub returns : goal.returns
 returns c =
-    step_done c.obey-reply.result c.requires c.obey-reply.ensures
+    let a = c.args in let l = a.held.now in
+    step_done c.obey-reply.result c.requires c.obey-reply.ensures.done
     (rw (c.sizes-lent.ensures.n, c.sizes-lent.ensures.w, c.sizes-lent.ensures.r) at c.told.ensures)
+    (subst (λ (q : StationProcess). MarksAfter l c.obey-reply.new.held a.p (record_about a.order a.named q).0) (sym (process_there (number_at l 2) l a.p
+    (p_in l a.p a.order a.named a.value.now (near_admits l a.p a.order a.named a.value.now c.requires)))) c.obey-reply.ensures.marks)

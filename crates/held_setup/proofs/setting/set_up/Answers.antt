@@ -1,9 +1,6 @@
 -- `held_setup::setting::set_up` meets its contract: refused by the lengths, or done.
-use mathlib.Core.Path.{◌≡◌, sym, ap, ◌∙◌}
-use Prim.Native.Nat.{ℕ}
-use lib.ListN.{length}
+use mathlib.Core.Path.{sym, ◌∙◌}
 use Rattle.llsc.proofs.RefusalNumbers.{number_some}
-use Rattle.station_setup.specs.StationSetUpByValue.{station_set_up_number}
 use Rattle.held_setup.proofs.SetUpLaws.{room, set_up_refused, set_up_done}
 use Rattle.held_setup.proofs.setting.set_up.Goals as goal
 
@@ -15,7 +12,7 @@ prepare-requires c =
 pub returns-in-Ok : goal.returns-in-Ok
 returns-in-Ok c =
     let a = c.args in
-    set_up_done a.held.now a.n a.w a.r a.value.now c.prepare.new.held (sym (rw c.room-room.ensures at c.in-Ok.ensures)) c.prepare.ensures
+    set_up_done a.held.now a.n a.w a.r a.value.now c.prepare.new.held (sym (rw c.room-room.ensures at c.in-Ok.ensures)) c.prepare.ensures.memory c.prepare.ensures.marks
 
 pub returns-in-Err : goal.returns-in-Err
 returns-in-Err c =
