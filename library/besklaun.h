@@ -227,8 +227,8 @@ struct besklaun_told {
 struct besklaun_told besklaun_held_command(uint64_t *held, size_t held_count, size_t process, uint8_t order,
                                            size_t record, const uint64_t *value, size_t value_count);
 
-/* The same, but row 9 is looked at only for what the command reads: a quarter of the time and less. On every list that
- * only a set-up and commands have written it is that command.
+/* The same, but row 9 is looked at only for what the command reads, so that its time does not grow with n and r. On
+ * every list that only a set-up and commands have written it is that command.
  * Definition: SteppedTo, held_model/specs/HeldCommand; proved so: step_is_command, held_laws/proofs/Theorems. */
 struct besklaun_told besklaun_held_step(uint64_t *held, size_t held_count, size_t process, uint8_t order,
                                         size_t record, const uint64_t *value, size_t value_count);
