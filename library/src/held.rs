@@ -152,12 +152,14 @@ pub fn set_up(held: &mut [u64], n: usize, w: usize, r: usize, value: &[u64]) -> 
 
 /// A command to a process, on a list of any numbers; or the number of the
 /// refusal, which leaves the list as it was.
+#[inline]
 pub fn command(held: &mut [u64], process: usize, order: Order<'_>) -> Result<Reply, u8> {
     called(besklaun_held_command, held, process, order)
 }
 
 /// The same by a look at what the command reads alone, in less time: for a
 /// list that only a set-up and commands have written.
+#[inline]
 pub fn step(held: &mut [u64], process: usize, order: Order<'_>) -> Result<Reply, u8> {
     called(besklaun_held_step, held, process, order)
 }
@@ -180,6 +182,7 @@ pub fn places(held: &[u64], record: usize, places: &mut [u64]) -> Result<(), u8>
     refused(number)
 }
 
+#[inline]
 fn called(
     function: Command,
     held: &mut [u64],
@@ -218,6 +221,7 @@ fn called(
     })
 }
 
+#[inline]
 fn refused(number: u8) -> Result<(), u8> {
     match number {
         0 => Ok(()),
