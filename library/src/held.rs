@@ -160,12 +160,14 @@ pub fn set_up(
 
 /// A command to a process, on a list of any numbers; or why it is
 /// refused, which leaves the list as it was.
+#[inline]
 pub fn command(held: &mut [u64], process: usize, order: Order<'_>) -> Result<Reply, Refusal> {
     called(besklaun_held_command, held, process, order)
 }
 
 /// The same by a look at what the command reads alone, in less time: for a
 /// list that only a set-up and commands have written.
+#[inline]
 pub fn step(held: &mut [u64], process: usize, order: Order<'_>) -> Result<Reply, Refusal> {
     called(besklaun_held_step, held, process, order)
 }
@@ -188,6 +190,7 @@ pub fn places(held: &[u64], record: usize, places: &mut [u64]) -> Result<(), Ref
     outcome(number)
 }
 
+#[inline]
 fn called(
     function: Command,
     held: &mut [u64],

@@ -25,6 +25,7 @@ pub fn order_named(k: u8) -> Order
 }
 
 // A reply that shows no words.
+#[inline(always)]
 fn plain(number: u8, kind: u8, truth: bool, count: usize) -> Told
     ensures { result ≡ told_with number kind truth count }
 {
@@ -39,6 +40,7 @@ fn plain(number: u8, kind: u8, truth: bool, count: usize) -> Told
 }
 
 // A refusal, with its number.
+#[inline(always)]
 pub fn refused(number: u8) -> Told
     ensures { result ≡ told_with number 0 false 0 }
 {
@@ -54,6 +56,7 @@ fn answer_place(lent: Sizes, p: ProcessNumber) -> usize
 }
 
 // What the reply to process p tells.
+#[inline(always)]
 pub fn told(lent: Sizes, p: ProcessNumber, reply: Reply) -> Told
     requires { p.0 < 16 }
     ensures { result ≡ told lent.n lent.w lent.r p.0 reply }

@@ -10,6 +10,7 @@ use held_rows::{table, whole};
 use llsc::{Order, ProcessNumber};
 
 // One that no row refuses.
+#[inline(always)]
 fn obeyed(held: &mut [u64], p: usize, order: Order, named: usize, value: &[u64]) -> Told
     requires { near_refusal (memory_of held.old) (record { process = p; order = order; called = named; value = value.now }) ≡ 0 }
     ensures { SteppedTo held.old (record { process = p; order = order; called = named; value = value.now }) result held.new }
@@ -20,6 +21,7 @@ fn obeyed(held: &mut [u64], p: usize, order: Order, named: usize, value: &[u64])
     replies::told(lent, me, reply)
 }
 
+#[inline(always)]
 pub fn near_command(held: &mut [u64], p: usize, order: Order, named: usize, value: &[u64]) -> Told
     ensures { SteppedTo held.old (record { process = p; order = order; called = named; value = value.now }) result held.new }
 {
