@@ -5,6 +5,7 @@
 #![tactic(auto)]
 
 pub mod board_files;
+pub mod held_lists;
 pub mod logs;
 pub mod schedules;
 pub mod texts;

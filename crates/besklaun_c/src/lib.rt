@@ -6,6 +6,8 @@
 
 ghost use Rattle.std.specs.Prelude.{◌≡◌, true, false};
 ghost use Rattle.boards.specs.Merging.{merge_files};
+ghost use Rattle.held_model.specs.HeldCommand.{SetUpDone, order_of, Commanded, SteppedTo};
+ghost use Rattle.held_buffers.specs.Places.{HoldersTold};
 ghost use Rattle.verdicts.specs.Verdicts.{judged};
 ghost use Rattle.verdicts.specs.Reasons.{judged_with_reason};
 ghost use Rattle.enumeration.specs.Replies.{found_for, numbered_for, following_for};
@@ -19,8 +21,9 @@ use besklaun::board_files::BoardRun;
 use besklaun::logs::{Judgement, Reasoned};
 use besklaun::schedules::{FoundTurns, TurnsAfter, TurnsNumber};
 use besklaun::texts::TextRun;
-use besklaun::{board_files, logs, schedules, texts, versions};
+use besklaun::{board_files, held_lists, logs, schedules, texts, versions};
 use boards::Merged;
+use held_model::Told;
 
 #[unsafe(no_mangle)]
 pub extern "C" fn besklaun_version() -> u32
@@ -114,4 +117,52 @@ pub extern "C" fn besklaun_run_board(
     ensures { (result, listing.new) ≡ board_run n w initial file.now listing.old }
 {
     board_files::besklaun_run_board(n, w, initial, file, listing)
+}
+
+// A station that a caller holds as one list of numbers.
+
+#[unsafe(no_mangle)]
+pub extern "C" fn besklaun_held_set_up(
+    held: &mut [u64],
+    n: usize,
+    w: usize,
+    r: usize,
+    value: &[u64],
+) -> u8
+    ensures { SetUpDone held.old n w r value.now result held.new }
+{
+    held_lists::besklaun_held_set_up(held, n, w, r, value)
+}
+
+#[unsafe(no_mangle)]
+pub extern "C" fn besklaun_held_command(
+    held: &mut [u64],
+    process: usize,
+    order: u8,
+    on: usize,
+    value: &[u64],
+) -> Told
+    ensures { Commanded held.old (order_of process order on value.now) result held.new }
+{
+    held_lists::besklaun_held_command(held, process, order, on, value)
+}
+
+#[unsafe(no_mangle)]
+pub extern "C" fn besklaun_held_step(
+    held: &mut [u64],
+    process: usize,
+    order: u8,
+    on: usize,
+    value: &[u64],
+) -> Told
+    ensures { SteppedTo held.old (order_of process order on value.now) result held.new }
+{
+    held_lists::besklaun_held_step(held, process, order, on, value)
+}
+
+#[unsafe(no_mangle)]
+pub extern "C" fn besklaun_held_places(held: &[u64], on: usize, places: &mut [u64]) -> u8
+    ensures { HoldersTold held.now on places.old result places.new }
+{
+    held_lists::besklaun_held_places(held, on, places)
 }

@@ -1,0 +1,48 @@
+// A station that a caller holds as one list of numbers, for C: where each of them stands, `held_model/specs/Layout`.
+// Kept: number by number, as the C library's header declares them.
+ghost use Rattle.held_model.specs.HeldCommand.{SetUpDone, order_of, Commanded, SteppedTo};
+ghost use Rattle.held_buffers.specs.Places.{HoldersTold};
+
+use held_model::Told;
+
+// A set-up for n processes, w words and r records with the given value: the number of its refusal, 0 for none.
+pub fn besklaun_held_set_up(held: &mut [u64], n: usize, w: usize, r: usize, value: &[u64]) -> u8
+    ensures { SetUpDone held.old n w r value.now result held.new }
+{
+    held_setup::setting::set_up(held, n, w, r, value)
+}
+
+// A command to a process: an order by its number, the record that a start names, an SC's words.
+// Wrong programs that this rules out: one that takes a number modulo what its field holds; one that refuses and has
+// written.
+pub fn besklaun_held_command(
+    held: &mut [u64],
+    process: usize,
+    order: u8,
+    on: usize,
+    value: &[u64],
+) -> Told
+    ensures { Commanded held.old (order_of process order on value.now) result held.new }
+{
+    held_machine::stepping::command(held, process, order, on, value)
+}
+
+// The same by a look at what the command reads alone.
+pub fn besklaun_held_step(
+    held: &mut [u64],
+    process: usize,
+    order: u8,
+    on: usize,
+    value: &[u64],
+) -> Told
+    ensures { SteppedTo held.old (order_of process order on value.now) result held.new }
+{
+    held_machine::stepping::step(held, process, order, on, value)
+}
+
+// Where each buffer of a record is: the number of the refusal, 0 for none.
+pub fn besklaun_held_places(held: &[u64], on: usize, places: &mut [u64]) -> u8
+    ensures { HoldersTold held.now on places.old result places.new }
+{
+    held_buffers::telling::tell(held, on, places)
+}

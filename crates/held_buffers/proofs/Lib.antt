@@ -1,0 +1,2 @@
+pub mod HolderLaws
+pub mod ToldLaws

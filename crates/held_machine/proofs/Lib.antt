@@ -1,0 +1,4 @@
+pub mod WrittenLaws
+pub mod MemoryAfter
+pub mod ObeyLaws
+pub mod SteppingLaws

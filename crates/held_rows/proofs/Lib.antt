@@ -1,0 +1,5 @@
+pub mod FitLaws
+pub mod ListLaws
+pub mod NearRowLaws
+pub mod NearLaws
+pub mod WholeLaws

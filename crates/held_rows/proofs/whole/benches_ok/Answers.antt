@@ -1,0 +1,16 @@
+-- `held_rows::whole::benches_ok` meets its contract: `all` takes the numbers from 0 on.
+use mathlib.Core.Path.{refl, ◌∙◌}
+use native.Mathlib.Omega.{arith}
+use borrow.Author.Rules.{rules}
+use Rattle.std.proofs.lemmas.Iterator.{YieldsList-from_range}
+use Rattle.std.proofs.lemmas.Iterator.Search.{all_from_yields_List}
+use Rattle.station_rows.proofs.NumberLaws.{all_is_every}
+use Rattle.held_rows.specs.WholeRows.{bench_from_ok}
+use Rattle.held_rows.proofs.whole.benches_ok.Goals as goal
+
+pub returns : goal.returns
+returns c =
+    let a = c.args in
+    all_from_yields_List (bench_from_ok a.held.now a.lent.n) _ _ _ c.all.ensures.ran
+    (YieldsList-from_range 0 (a.lent.r) (a.lent.r) refl (omega arith)) (λ x b q k. search rules)
+    ∙ all_is_every _ (a.lent.r)

@@ -1,0 +1,3 @@
+pub mod Reads
+pub mod ListRows
+pub mod WholeRows

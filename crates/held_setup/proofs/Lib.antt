@@ -1,0 +1,4 @@
+pub mod RunLaws
+pub mod RecordLaws
+pub mod SettingLaws
+pub mod SetUpLaws
