@@ -182,6 +182,65 @@ struct besklaun_board_run besklaun_run_board(size_t n, size_t w, uint32_t initia
                                              const uint8_t *file, size_t file_count,
                                              uint8_t *listing, size_t listing_count);
 
+/* A station that the caller holds as one list of numbers. The list is the state: to look at it, copy it, compare it or
+ * go back to it needs no call. It may hold any numbers: one that is too large for its field is out of its range like any
+ * other. Of a list that is short each missing number counts as 0. */
+
+/* Where each number stands; what a start place has, one after another. */
+#define BESKLAUN_HELD_N 0
+#define BESKLAUN_HELD_W 1
+#define BESKLAUN_HELD_R 2
+/* process p: line (0 idle, 24 the words of line 7, 25 and 26 VL(X) of lines 12 and 14), word place in halves, count of
+ * own steps, the record of its open call, b, c, d, e */
+#define BESKLAUN_HELD_CALL(p) (3 + 8 * (size_t)(p))
+/* record j: X's buffer, its sequence number, its links (bit p is the link of process p) */
+#define BESKLAUN_HELD_RECORD(j) (131 + 179 * (size_t)(j))
+/* Bank[i] of record j: buffer, links */
+#define BESKLAUN_HELD_BANK(j, i) (134 + 179 * (size_t)(j) + 2 * (size_t)(i))
+/* Help[p] of record j: flag, buffer, links */
+#define BESKLAUN_HELD_HELP(j, p) (198 + 179 * (size_t)(j) + 3 * (size_t)(p))
+/* what process p holds of record j: mybuf, x's buffer, its sequence number, the mark of an answered LL (0 for none) */
+#define BESKLAUN_HELD_HOLDING(j, p) (246 + 179 * (size_t)(j) + 4 * (size_t)(p))
+/* the words of r records, in rows of w: the 3n buffers of record 0, of record 1 and so on, n return areas, n offer areas */
+#define BESKLAUN_HELD_WORDS(r) (131 + 179 * (size_t)(r))
+/* how many numbers a station needs */
+#define BESKLAUN_HELD_COUNT(n, w, r) (BESKLAUN_HELD_WORDS(r) + (3 * (size_t)(r) + 2) * (size_t)(n) * (size_t)(w))
+
+/* A set-up for n processes, w words and r records with the given value of w words. It returns 0, or the number of the
+ * refusal, 1, 2, 23, 3 or 8, which leaves every number. What n, w and r do not need stays.
+ * Definition: SetUpDone, held_model/specs/HeldCommand, by station_set_up of station/specs/StationSetUp. */
+uint8_t besklaun_held_set_up(uint64_t *held, size_t held_count, size_t n, size_t w, size_t r,
+                             const uint64_t *value, size_t value_count);
+
+struct besklaun_told {
+    uint8_t number; /* 0, or the cause of a refusal, which leaves every number: 1 to 9, 23 or 24 */
+    uint8_t kind;   /* of the call that was answered: 1 an LL, 2 an SC, 3 a VL; 0 for none */
+    bool truth;     /* what an SC or a VL answered */
+    size_t count;   /* the call's own steps */
+    size_t at;      /* an LL's words: held[at], .., held[at + words - 1] */
+    size_t words;
+};
+
+/* A command to a process. The order is 1 to start an LL, 2 an SC, 3 a VL; every other number is a step. A start names
+ * its record; an SC brings w words, else they are not looked at. Row 9 is looked at over the whole list.
+ * Definition: Commanded, held_model/specs/HeldCommand, by station_command of station/specs/StationCommand. */
+struct besklaun_told besklaun_held_command(uint64_t *held, size_t held_count, size_t process, uint8_t order,
+                                           size_t record, const uint64_t *value, size_t value_count);
+
+/* The same, but row 9 is looked at only for what the command reads: a quarter of the time and less. On every list that
+ * only a set-up and commands have written it is that command.
+ * Definition: SteppedTo, held_model/specs/HeldCommand; proved so: step_is_command, held_laws/proofs/Theorems. */
+struct besklaun_told besklaun_held_step(uint64_t *held, size_t held_count, size_t process, uint8_t order,
+                                        size_t record, const uint64_t *value, size_t value_count);
+
+/* Where each of the 3n buffers of a record is: places[b] is i where buffer b is kept at the sequence number i (by
+ * Bank[i], or by X where i is its own), and 2n + p where process p owns it; 3n where neither is so, which never is on a
+ * list that only a set-up and commands have written. place_count is 3n or more; the places behind stay. It returns 0, or
+ * the number of the refusal, 1, 2, 23, 3, 9 or 24, which leaves all places.
+ * Definition: HoldersTold, held_buffers/specs/Places. */
+uint8_t besklaun_held_places(const uint64_t *held, size_t held_count, size_t record,
+                             uint64_t *places, size_t place_count);
+
 #ifdef __cplusplus
 }
 #endif

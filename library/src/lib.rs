@@ -4,6 +4,8 @@
 //!
 //! A file for each subject, as in `crates/besklaun/src`.
 
+pub mod held;
+
 mod board_files;
 mod logs;
 mod refusals;

@@ -242,6 +242,98 @@ static int run_given(const char *style)
     return run.number;
 }
 
+/* The first schedule of README, command by command, on a list that begins with any numbers. */
+static uint64_t held[BESKLAUN_HELD_COUNT(2, 1, 1) + 1];
+#define HELD (sizeof held / sizeof *held)
+
+static struct besklaun_told held_to_its_end(size_t process, uint8_t order, const uint64_t *words)
+{
+    struct besklaun_told said = besklaun_held_step(held, HELD, process, order, 0, words, order == 2);
+    expect(said.number == 0 && said.kind == 0, "a start is accepted and not answered");
+    do {
+        said = besklaun_held_step(held, HELD, process, 0, 0, NULL, 0);
+    } while (said.number == 0 && said.kind == 0);
+    return said;
+}
+
+static bool loaded(struct besklaun_told said, size_t count, uint64_t word)
+{
+    return said.number == 0 && said.kind == 1 && said.count == count && said.words == 1 && said.at < HELD
+           && held[said.at] == word;
+}
+
+static bool answered(struct besklaun_told said, unsigned kind, size_t count, bool truth)
+{
+    return said.number == 0 && said.kind == kind && said.count == count && said.truth == truth && said.words == 0;
+}
+
+static bool held_refused(struct besklaun_told said, unsigned number)
+{
+    return said.number == number && said.kind == 0 && !said.truth && said.count == 0 && said.at == 0 && said.words == 0;
+}
+
+static void held_lists(void)
+{
+    static const uint64_t seven[] = {7, 9};
+    uint64_t places[7], copy[HELD];
+    for (size_t k = 0; k < HELD; k++) {
+        held[k] = UINT64_MAX - k;
+    }
+    memcpy(copy, held, sizeof copy);
+    expect(besklaun_held_set_up(held, HELD, 0, 1, 1, value, 1) == 1, "N = 0 is 1");
+    expect(besklaun_held_set_up(held, HELD, 2, 65, 1, value, 1) == 2, "W = 65 is 2");
+    expect(besklaun_held_set_up(held, HELD, 2, 1, 9, value, 1) == 23, "R = 9 is 23");
+    expect(besklaun_held_set_up(held, HELD, 2, 1, SIZE_MAX, value, 1) == 23, "R too large to count its numbers is 23");
+    expect(besklaun_held_set_up(held, HELD - 2, 2, 1, 1, value, 1) == 3, "a list one number short is 3");
+    expect(besklaun_held_set_up(held, HELD, 2, 1, 2, value, 1) == 3, "a list short of a record is 3");
+    expect(besklaun_held_set_up(NULL, 0, 2, 1, 1, value, 1) == 3, "no list is 3");
+    expect(besklaun_held_set_up(held, HELD, 2, 1, 1, NULL, 0) == 8, "no value is 8");
+    expect(held_refused(besklaun_held_command(NULL, 0, 0, 1, 0, NULL, 0), 1), "a command to no list is 1");
+    expect(held_refused(besklaun_held_step(held, HELD, 0, 1, 0, NULL, 0), 1), "a step of any numbers is refused");
+    expect(besklaun_held_places(NULL, 0, 0, NULL, 0) == 1, "no list has no places");
+    expect(memcmp(copy, held, sizeof copy) == 0, "a refusal leaves every number");
+
+    expect(besklaun_held_set_up(held, HELD, 2, 1, 1, value, 1) == 0, "a set-up");
+    expect(held[HELD - 1] == copy[HELD - 1], "the number behind the words stays");
+    expect(held[BESKLAUN_HELD_CALL(2)] == copy[BESKLAUN_HELD_CALL(2)], "a process that N does not need stays");
+    expect(held[BESKLAUN_HELD_BANK(0, 3)] == 3 && held[BESKLAUN_HELD_BANK(0, 3) + 1] == 0, "Bank[3] = 3");
+    expect(held[BESKLAUN_HELD_BANK(0, 4)] == copy[BESKLAUN_HELD_BANK(0, 4)], "Bank[4], which N does not need, stays");
+    expect(held[BESKLAUN_HELD_HOLDING(0, 1)] == 5, "process 1 owns buffer 2N + 1");
+    expect(held[BESKLAUN_HELD_WORDS(1)] == 5 && held[BESKLAUN_HELD_WORDS(1) + 1] == 0, "BUF[0] is the value, BUF[1] 0");
+    places[6] = 77;
+    expect(besklaun_held_places(held, HELD, 0, places, 7) == 0 && places[6] == 77, "the places, and the one behind stays");
+    expect(places[0] == 0 && places[3] == 3 && places[4] == 4 && places[5] == 5, "every buffer at its place");
+    expect(besklaun_held_places(held, HELD, 0, places, 5) == 3, "too few places are 3");
+    expect(besklaun_held_places(held, HELD, 1, places, 7) == 24, "another record is 24");
+
+    expect(held_refused(besklaun_held_step(held, HELD, 2, 1, 0, NULL, 0), 4), "process 2 is 4");
+    expect(held_refused(besklaun_held_step(held, HELD, 0, 1, 1, NULL, 0), 24), "record 1 is 24");
+    expect(held_refused(besklaun_held_step(held, HELD, 0, 2, 0, seven, 2), 8), "two words are 8");
+    expect(held_refused(besklaun_held_step(held, HELD, 0, 0, 0, NULL, 0), 6), "a step of an idle process is 6");
+    expect(held_refused(besklaun_held_step(held, HELD, 0, 3, 0, NULL, 0), 7), "a VL before any LL is 7");
+
+    expect(loaded(held_to_its_end(0, 1, NULL), 10, 5), "0 L 10 5");
+    expect(answered(held_to_its_end(0, 2, seven), 2, 6, true), "0 S 6 1");
+    expect(held[BESKLAUN_HELD_RECORD(0)] == 4 && held[BESKLAUN_HELD_RECORD(0) + 1] == 1, "X is (4, 1)");
+    expect(besklaun_held_places(held, HELD, 0, places, 6) == 0 && places[4] == 1 && places[1] == 4,
+           "X keeps buffer 4 at 1, and process 0 owns buffer 1");
+    expect(loaded(held_to_its_end(1, 1, NULL), 10, 7), "1 L 10 7");
+    expect(answered(held_to_its_end(0, 3, NULL), 3, 1, false), "0 V 1 0");
+    expect(besklaun_held_command(held, HELD, 1, 1, 0, NULL, 0).number == 0, "a start");
+    expect(held_refused(besklaun_held_command(held, HELD, 1, 1, 0, NULL, 0), 5), "a start of a busy process is 5");
+
+    memcpy(copy, held, sizeof copy);
+    held[BESKLAUN_HELD_BANK(0, 2) + 1] = (uint64_t)1 << 40;
+    expect(held_refused(besklaun_held_command(held, HELD, 1, 0, 0, NULL, 0), 9), "links of 2^40 are 9");
+    expect(besklaun_held_places(held, HELD, 0, places, 6) == 9, "and so in no list of places");
+    expect(besklaun_held_step(held, HELD, 1, 0, 0, NULL, 0).number == 0, "a step does not look there");
+    memcpy(held, copy, sizeof copy);
+    held[BESKLAUN_HELD_HELP(0, 1)] = 2;
+    expect(held_refused(besklaun_held_step(held, HELD, 1, 0, 0, NULL, 0), 9), "a flag of 2 at its own place is 9");
+    held[BESKLAUN_HELD_HELP(0, 1)] = copy[BESKLAUN_HELD_HELP(0, 1)];
+    expect(memcmp(copy, held, sizeof copy) == 0, "a refusal leaves every number");
+}
+
 int main(int count, char **given)
 {
     if (count > 1) {
@@ -253,6 +345,7 @@ int main(int count, char **given)
     schedules();
     board_files();
     board_runs();
+    held_lists();
     if (!wrong) {
         puts("as expected");
     }

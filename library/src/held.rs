@@ -1,0 +1,226 @@
+//! A station that the caller holds as one list of numbers: set up, given
+//! commands and looked at. The list is the state: to copy it, to compare it
+//! or to go back to it needs no call. A call takes less than 8 KiB of stack.
+//!
+//! The functions that name places say where each number stands.
+
+use std::ops::Range;
+
+/// Where N, W and R stand.
+pub const N: usize = 0;
+pub const W: usize = 1;
+pub const R: usize = 2;
+
+/// Process p: line, word place, count of own steps, the record of its open
+/// call, b, c, d, e.
+pub const fn call_place(p: usize) -> usize {
+    3 + 8 * p
+}
+
+/// Record j: X's buffer, its sequence number, its links.
+pub const fn record_place(j: usize) -> usize {
+    131 + 179 * j
+}
+
+/// Bank[i] of record j: buffer, links.
+pub const fn bank_place(j: usize, i: usize) -> usize {
+    134 + 179 * j + 2 * i
+}
+
+/// Help[p] of record j: flag, buffer, links.
+pub const fn help_place(j: usize, p: usize) -> usize {
+    198 + 179 * j + 3 * p
+}
+
+/// What process p holds of record j: mybuf, x's buffer and sequence number,
+/// and the mark of an answered LL, 0 for none.
+pub const fn holding_place(j: usize, p: usize) -> usize {
+    246 + 179 * j + 4 * p
+}
+
+/// The words of r records, in rows of W: the 3N buffers of record 0, of
+/// record 1 and so on, N return areas, N offer areas.
+pub const fn words_place(r: usize) -> usize {
+    131 + 179 * r
+}
+
+/// How many numbers a station needs.
+pub const fn length(n: usize, w: usize, r: usize) -> usize {
+    words_place(r) + (3 * r + 2) * n * w
+}
+
+/// What a process is ordered. A start names its record.
+#[derive(Clone, Copy, PartialEq, Eq, Debug)]
+pub enum Order<'a> {
+    Step,
+    Ll(usize),
+    Sc(usize, &'a [u64]),
+    Vl(usize),
+}
+
+/// What a command that is not refused comes to.
+#[derive(Clone, PartialEq, Eq, Debug)]
+pub enum Reply {
+    /// No answer yet.
+    Accepted,
+    /// An LL answered after so many own steps; its words stand at these
+    /// places of the list.
+    Ll {
+        count: usize,
+        words: Range<usize>,
+    },
+    Sc {
+        count: usize,
+        truth: bool,
+    },
+    Vl {
+        count: usize,
+        truth: bool,
+    },
+}
+
+#[repr(C)]
+struct Told {
+    number: u8,
+    kind: u8,
+    truth: bool,
+    count: usize,
+    at: usize,
+    words: usize,
+}
+
+type Command = unsafe extern "C" fn(*mut u64, usize, usize, u8, usize, *const u64, usize) -> Told;
+
+extern "C" {
+    fn besklaun_held_set_up(
+        held: *mut u64,
+        held_count: usize,
+        n: usize,
+        w: usize,
+        r: usize,
+        value: *const u64,
+        value_count: usize,
+    ) -> u8;
+
+    fn besklaun_held_command(
+        held: *mut u64,
+        held_count: usize,
+        process: usize,
+        order: u8,
+        record: usize,
+        value: *const u64,
+        value_count: usize,
+    ) -> Told;
+
+    fn besklaun_held_step(
+        held: *mut u64,
+        held_count: usize,
+        process: usize,
+        order: u8,
+        record: usize,
+        value: *const u64,
+        value_count: usize,
+    ) -> Told;
+
+    fn besklaun_held_places(
+        held: *const u64,
+        held_count: usize,
+        record: usize,
+        places: *mut u64,
+        place_count: usize,
+    ) -> u8;
+}
+
+/// A set-up for n processes, w words and r records with the given value, or
+/// the number of the refusal, which leaves the list as it was.
+pub fn set_up(held: &mut [u64], n: usize, w: usize, r: usize, value: &[u64]) -> Result<(), u8> {
+    // SAFETY: pointer and count are those of slices, and the borrow checker
+    // keeps the two apart
+    let number = unsafe {
+        besklaun_held_set_up(
+            held.as_mut_ptr(),
+            held.len(),
+            n,
+            w,
+            r,
+            value.as_ptr(),
+            value.len(),
+        )
+    };
+    refused(number)
+}
+
+/// A command to a process, on a list of any numbers; or the number of the
+/// refusal, which leaves the list as it was.
+pub fn command(held: &mut [u64], process: usize, order: Order<'_>) -> Result<Reply, u8> {
+    called(besklaun_held_command, held, process, order)
+}
+
+/// The same by a look at what the command reads alone, in less time: for a
+/// list that only a set-up and commands have written.
+pub fn step(held: &mut [u64], process: usize, order: Order<'_>) -> Result<Reply, u8> {
+    called(besklaun_held_step, held, process, order)
+}
+
+/// Where each buffer of a record is: at place b stands i where buffer b is
+/// kept at the sequence number i, by Bank[i] or X, and 2N + p where process p
+/// owns it. The list lent for it has 3N places or more.
+pub fn places(held: &[u64], record: usize, places: &mut [u64]) -> Result<(), u8> {
+    // SAFETY: pointer and count are those of slices, and the borrow checker
+    // keeps the two apart
+    let number = unsafe {
+        besklaun_held_places(
+            held.as_ptr(),
+            held.len(),
+            record,
+            places.as_mut_ptr(),
+            places.len(),
+        )
+    };
+    refused(number)
+}
+
+fn called(
+    function: Command,
+    held: &mut [u64],
+    process: usize,
+    order: Order<'_>,
+) -> Result<Reply, u8> {
+    let (number, record, value): (u8, usize, &[u64]) = match order {
+        Order::Step => (0, 0, &[]),
+        Order::Ll(record) => (1, record, &[]),
+        Order::Sc(record, value) => (2, record, value),
+        Order::Vl(record) => (3, record, &[]),
+    };
+    // SAFETY: the function is one of the two above; pointer and count are
+    // those of slices, and the borrow checker keeps the two apart
+    let told = unsafe {
+        function(
+            held.as_mut_ptr(),
+            held.len(),
+            process,
+            number,
+            record,
+            value.as_ptr(),
+            value.len(),
+        )
+    };
+    refused(told.number)?;
+    let Told { truth, count, .. } = told;
+    Ok(match told.kind {
+        1 => Reply::Ll {
+            count,
+            words: told.at..told.at + told.words,
+        },
+        2 => Reply::Sc { count, truth },
+        3 => Reply::Vl { count, truth },
+        _ => Reply::Accepted,
+    })
+}
+
+fn refused(number: u8) -> Result<(), u8> {
+    match number {
+        0 => Ok(()),
+        number => Err(number),
+    }
+}
