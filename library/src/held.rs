@@ -6,6 +6,8 @@
 
 use std::ops::Range;
 
+use crate::refusals::{outcome, Refusal};
+
 /// Where N, W and R stand.
 pub const N: usize = 0;
 pub const W: usize = 1;
@@ -132,8 +134,14 @@ extern "C" {
 }
 
 /// A set-up for n processes, w words and r records with the given value, or
-/// the number of the refusal, which leaves the list as it was.
-pub fn set_up(held: &mut [u64], n: usize, w: usize, r: usize, value: &[u64]) -> Result<(), u8> {
+/// why it is refused, which leaves the list as it was.
+pub fn set_up(
+    held: &mut [u64],
+    n: usize,
+    w: usize,
+    r: usize,
+    value: &[u64],
+) -> Result<(), Refusal> {
     // SAFETY: pointer and count are those of slices, and the borrow checker
     // keeps the two apart
     let number = unsafe {
@@ -147,25 +155,25 @@ pub fn set_up(held: &mut [u64], n: usize, w: usize, r: usize, value: &[u64]) -> 
             value.len(),
         )
     };
-    refused(number)
+    outcome(number)
 }
 
-/// A command to a process, on a list of any numbers; or the number of the
-/// refusal, which leaves the list as it was.
-pub fn command(held: &mut [u64], process: usize, order: Order<'_>) -> Result<Reply, u8> {
+/// A command to a process, on a list of any numbers; or why it is
+/// refused, which leaves the list as it was.
+pub fn command(held: &mut [u64], process: usize, order: Order<'_>) -> Result<Reply, Refusal> {
     called(besklaun_held_command, held, process, order)
 }
 
 /// The same by a look at what the command reads alone, in less time: for a
 /// list that only a set-up and commands have written.
-pub fn step(held: &mut [u64], process: usize, order: Order<'_>) -> Result<Reply, u8> {
+pub fn step(held: &mut [u64], process: usize, order: Order<'_>) -> Result<Reply, Refusal> {
     called(besklaun_held_step, held, process, order)
 }
 
 /// Where each buffer of a record is: at place b stands i where buffer b is
 /// kept at the sequence number i, by Bank[i] or X, and 2N + p where process p
 /// owns it. The list lent for it has 3N places or more.
-pub fn places(held: &[u64], record: usize, places: &mut [u64]) -> Result<(), u8> {
+pub fn places(held: &[u64], record: usize, places: &mut [u64]) -> Result<(), Refusal> {
     // SAFETY: pointer and count are those of slices, and the borrow checker
     // keeps the two apart
     let number = unsafe {
@@ -177,7 +185,7 @@ pub fn places(held: &[u64], record: usize, places: &mut [u64]) -> Result<(), u8>
             places.len(),
         )
     };
-    refused(number)
+    outcome(number)
 }
 
 fn called(
@@ -185,7 +193,7 @@ fn called(
     held: &mut [u64],
     process: usize,
     order: Order<'_>,
-) -> Result<Reply, u8> {
+) -> Result<Reply, Refusal> {
     let (number, record, value): (u8, usize, &[u64]) = match order {
         Order::Step => (0, 0, &[]),
         Order::Ll(record) => (1, record, &[]),
@@ -205,7 +213,7 @@ fn called(
             value.len(),
         )
     };
-    refused(told.number)?;
+    outcome(told.number)?;
     let Told { truth, count, .. } = told;
     Ok(match told.kind {
         1 => Reply::Ll {
@@ -216,11 +224,4 @@ fn called(
         3 => Reply::Vl { count, truth },
         _ => Reply::Accepted,
     })
-}
-
-fn refused(number: u8) -> Result<(), u8> {
-    match number {
-        0 => Ok(()),
-        number => Err(number),
-    }
 }

@@ -4,6 +4,7 @@
 //! Then lists of any numbers.
 
 use besklaun::held::{self, Order, Reply};
+use besklaun::Refusal;
 use witness::machine::{Answer, Bench, Lent, Order as Ordered, Reply as Answered, Sizes};
 use witness::rng::Rng;
 use witness::station::{limit_lists, list, memory, Command, List};
@@ -34,7 +35,11 @@ fn held_as(list: &List, index: u64) {
     };
     let mut bench = match Bench::station(list.set_up.sizes, lent, value) {
         Err(refusal) => {
-            assert_eq!(number, Err(refusal), "list {index}");
+            assert_eq!(
+                number.map_err(Refusal::number),
+                Err(refusal),
+                "list {index}"
+            );
             assert_eq!(held, untouched, "list {index}");
             return;
         }
@@ -63,7 +68,7 @@ fn room(lent: &Lent, sizes: Sizes) -> usize {
     held::words_place(r) + lent.words.min(60_000) as usize
 }
 
-fn given(held: &mut [u64], command: &Command, near: bool) -> Result<Reply, u8> {
+fn given(held: &mut [u64], command: &Command, near: bool) -> Result<Reply, Refusal> {
     let process = command.process as usize;
     let record = command.record as usize;
     let order = match &command.order {
@@ -80,13 +85,13 @@ fn given(held: &mut [u64], command: &Command, near: bool) -> Result<Reply, u8> {
 
 fn same_reply(
     said: &Result<Option<Answer>, u8>,
-    reply: &Result<Reply, u8>,
+    reply: &Result<Reply, Refusal>,
     held: &[u64],
     index: u64,
     k: usize,
 ) {
     let same = match (said, reply) {
-        (Err(number), Err(refusal)) => number == refusal,
+        (Err(number), Err(refusal)) => *number == refusal.number(),
         (Ok(None), Ok(Reply::Accepted)) => true,
         (Ok(Some(answer)), Ok(reply)) => answers(answer, reply, held),
         _ => false,
@@ -234,9 +239,12 @@ fn lists_of_any_numbers() {
         let process = rng.below(n + 1);
         let order = some_order(rng, r + 1);
         let said = held::command(&mut held, process, order);
-        if let Err(number) = said {
+        if let Err(cause) = said {
             assert_eq!(held, before);
-            assert_eq!(number == 9, lent_rows(&before) == 0 && !in_range(&before));
+            assert_eq!(
+                cause == Refusal::NumberOutOfRange,
+                lent_rows(&before) == 0 && !in_range(&before)
+            );
         }
         let mut stepped = before.clone();
         let near = held::step(&mut stepped, process, order);
