@@ -115,6 +115,38 @@ struct besklaun_text_run besklaun_run_text(const uint8_t *text, size_t text_coun
 struct besklaun_text_run besklaun_trace_text(const uint8_t *text, size_t text_count,
                                              uint8_t *trace, size_t trace_count);
 
+/* Where a text run stopped. */
+
+enum besklaun_stop_kind {
+    BESKLAUN_STOP_NOT_READ = 0,  /* 14 at its start, or 12 for length: the text is not looked at */
+    BESKLAUN_STOP_AT_FAULT = 1,  /* 10 or 11: at the first byte after which no text could be right */
+    BESKLAUN_STOP_NO_ITEM = 2,   /* `end`, or 1, 2 or 3: at no item */
+    BESKLAUN_STOP_AT_ITEM = 3    /* at the item whose entry is refused */
+};
+
+/* 0 where a number means nothing. */
+struct besklaun_text_stop {
+    uint8_t kind;     /* one of besklaun_stop_kind */
+    size_t place;     /* the fault's byte, or the item's first, from 0 on; the text's end counts as a place */
+    uint64_t n;       /* with kind 2 and 3, N and W as the first line has them */
+    uint64_t w;
+    uint64_t process; /* with kind 3, the item's process, 16 for every number above 15 */
+};
+
+struct besklaun_reported_run {
+    struct besklaun_text_run run;
+    struct besklaun_text_stop stop;
+};
+
+/* The two runs with the report of their stop.
+ * Definition: Reported false text listing, besklaun/specs/TextReports and text_runs/specs/StopPlaces. */
+struct besklaun_reported_run besklaun_run_text_with_report(const uint8_t *text, size_t text_count,
+                                                           uint8_t *listing, size_t listing_count);
+
+/* Definition: Reported true text trace. */
+struct besklaun_reported_run besklaun_trace_text_with_report(const uint8_t *text, size_t text_count,
+                                                             uint8_t *trace, size_t trace_count);
+
 /* Small schedules (docs/INTERLEAVINGS.md): every way in which processes 0 and 1 can take a and b turns, in dictionary
  * order, process 0 before process 1, with numbers from 0. A turn is a byte, 0 or 1.
  * refusal is 0, or 20 where a or b is above 32, or 21 where the number is not below the count of schedules, or 22

@@ -17,5 +17,6 @@ pub use board_files::{merge, run_board, BoardRun};
 pub use logs::{judge, judge_with_reason, Object, Reason, Verdict};
 pub use refusals::{NoRefusal, Refusal};
 pub use schedules::{number_for, schedule_after, schedule_for, Schedule};
-pub use texts::{run_text, trace_text, TextRun};
+pub use texts::{run_text, run_text_with_report, trace_text, trace_text_with_report};
+pub use texts::{Item, Sizes, Stop, TextRun};
 pub use versions::{version, VERSION};

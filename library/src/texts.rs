@@ -19,6 +19,66 @@ impl TextRun {
     }
 }
 
+/// Where a text run stopped.
+#[derive(Clone, Copy, PartialEq, Eq, Debug)]
+pub enum Stop {
+    /// Too little room, or too long a text: it is not looked at.
+    NotRead,
+    /// The text is not right: the first byte after which none could be.
+    AtFault(usize),
+    /// At the end, or at the first line, for a number out of its range.
+    AtNoItem(Sizes),
+    /// At the item whose entry is refused.
+    AtItem(Sizes, Item),
+}
+
+/// N and W, as the first line has them.
+#[derive(Clone, Copy, PartialEq, Eq, Debug)]
+pub struct Sizes {
+    pub n: u64,
+    pub w: u64,
+}
+
+/// An item by its first byte, and its process, 16 for every number above 15.
+#[derive(Clone, Copy, PartialEq, Eq, Debug)]
+pub struct Item {
+    pub place: usize,
+    pub process: u64,
+}
+
+#[repr(C)]
+struct Stopped {
+    kind: u8,
+    place: usize,
+    n: u64,
+    w: u64,
+    process: u64,
+}
+
+impl From<Stopped> for Stop {
+    fn from(stopped: Stopped) -> Stop {
+        let Stopped {
+            kind,
+            place,
+            n,
+            w,
+            process,
+        } = stopped;
+        match kind {
+            0 => Stop::NotRead,
+            1 => Stop::AtFault(place),
+            2 => Stop::AtNoItem(Sizes { n, w }),
+            _ => Stop::AtItem(Sizes { n, w }, Item { place, process }),
+        }
+    }
+}
+
+#[repr(C)]
+struct Reported {
+    run: Ran,
+    stop: Stopped,
+}
+
 #[repr(C)]
 struct Ran {
     number: u8,
@@ -50,6 +110,20 @@ extern "C" {
         trace: *mut u8,
         trace_count: usize,
     ) -> Ran;
+
+    fn besklaun_run_text_with_report(
+        text: *const u8,
+        text_count: usize,
+        listing: *mut u8,
+        listing_count: usize,
+    ) -> Reported;
+
+    fn besklaun_trace_text_with_report(
+        text: *const u8,
+        text_count: usize,
+        trace: *mut u8,
+        trace_count: usize,
+    ) -> Reported;
 }
 
 /// A text run whose listing goes to the bytes lent, 744 or more.
@@ -73,4 +147,27 @@ pub fn trace_text(text: &[u8], trace: &mut [u8]) -> TextRun {
     let ran =
         unsafe { besklaun_trace_text(text.as_ptr(), text.len(), trace.as_mut_ptr(), trace.len()) };
     ran.into()
+}
+
+/// The run with its listing, and where it stopped.
+pub fn run_text_with_report(text: &[u8], listing: &mut [u8]) -> (TextRun, Stop) {
+    // SAFETY: as above
+    let Reported { run, stop } = unsafe {
+        besklaun_run_text_with_report(
+            text.as_ptr(),
+            text.len(),
+            listing.as_mut_ptr(),
+            listing.len(),
+        )
+    };
+    (run.into(), stop.into())
+}
+
+/// The run with its trace, and where it stopped.
+pub fn trace_text_with_report(text: &[u8], trace: &mut [u8]) -> (TextRun, Stop) {
+    // SAFETY: as above
+    let Reported { run, stop } = unsafe {
+        besklaun_trace_text_with_report(text.as_ptr(), text.len(), trace.as_mut_ptr(), trace.len())
+    };
+    (run.into(), stop.into())
 }

@@ -116,6 +116,35 @@ static void texts(void)
     expect(memcmp(lent, "refused 10 0\n", 13) == 0 && stays(13), "the listing of no text");
 }
 
+static bool stopped(struct besklaun_text_stop stop, unsigned kind, size_t place, uint64_t n, uint64_t process)
+{
+    return stop.kind == kind && stop.place == place && stop.n == n && stop.w == (n == 0 ? 0 : 1) && stop.process == process;
+}
+
+/* Places by hand: the bytes of the texts are counted. */
+static void reports(void)
+{
+    static const uint8_t right[] = "2 1 5\n0l 0!\n";
+    static const uint8_t wrong[] = "2 1 5\n0l 0! 0q\n";
+    static const uint8_t idle[] = "2 1 5\n0l 0! 3(0s7 0! 0.)\n";
+    static const uint8_t none[] = "2 1 5\n0l 0! 700l\n";
+    static const uint8_t many[] = "17 1 5\n0l\n";
+    struct besklaun_reported_run said = besklaun_run_text_with_report(right, sizeof right - 1, lent, 743);
+    expect(ran(said.run, 14, 0, 0) && stopped(said.stop, BESKLAUN_STOP_NOT_READ, 0, 0, 0), "14 looks at no text");
+    said = besklaun_run_text_with_report(NULL, 0, lent, 744);
+    expect(said.run.number == 10 && stopped(said.stop, BESKLAUN_STOP_AT_FAULT, 0, 0, 0), "no text stops at its end");
+    said = besklaun_run_text_with_report(wrong, sizeof wrong - 1, lent, sizeof lent);
+    expect(said.run.number == 10 && stopped(said.stop, BESKLAUN_STOP_AT_FAULT, 13, 0, 0), "the fault is the q");
+    said = besklaun_run_text_with_report(right, sizeof right - 1, lent, sizeof lent);
+    expect(said.run.number == 0 && stopped(said.stop, BESKLAUN_STOP_NO_ITEM, 0, 2, 0), "an end is at no item");
+    said = besklaun_trace_text_with_report(many, sizeof many - 1, lent, sizeof lent);
+    expect(said.run.number == 1 && stopped(said.stop, BESKLAUN_STOP_NO_ITEM, 0, 17, 0), "1 is at no item");
+    said = besklaun_run_text_with_report(idle, sizeof idle - 1, lent, sizeof lent);
+    expect(said.run.number == 6 && stopped(said.stop, BESKLAUN_STOP_AT_ITEM, 21, 2, 0), "the refused item of a group");
+    said = besklaun_trace_text_with_report(none, sizeof none - 1, lent, sizeof lent);
+    expect(said.run.number == 4 && stopped(said.stop, BESKLAUN_STOP_AT_ITEM, 12, 2, 16), "a process above 15 is told as 16");
+}
+
 static bool found(struct besklaun_found_turns said, unsigned refusal, size_t count)
 {
     return said.refusal == refusal && said.count == count;
@@ -342,6 +371,7 @@ int main(int count, char **given)
     logs();
     reasons();
     texts();
+    reports();
     schedules();
     board_files();
     board_runs();

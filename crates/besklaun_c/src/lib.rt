@@ -14,13 +14,14 @@ ghost use Rattle.enumeration.specs.Replies.{found_for, numbered_for, following_f
 ghost use Rattle.besklaun.specs.BoardRuns.{board_run};
 ghost use Rattle.besklaun.specs.Judgements.{judgement_of, reasoned_of};
 ghost use Rattle.besklaun.specs.OwnBench.{text_run};
+ghost use Rattle.besklaun.specs.TextReports.{Reported};
 ghost use Rattle.besklaun.specs.TurnBytes.{schedule_into, number_told, after_into};
 ghost use Rattle.besklaun.specs.Version.{version_number};
 
 use besklaun::board_files::BoardRun;
 use besklaun::logs::{Judgement, Reasoned};
 use besklaun::schedules::{FoundTurns, TurnsAfter, TurnsNumber};
-use besklaun::texts::TextRun;
+use besklaun::texts::{ReportedRun, TextRun};
 use besklaun::{board_files, held_lists, logs, schedules, texts, versions};
 use boards::Merged;
 use held_model::Told;
@@ -67,6 +68,20 @@ pub extern "C" fn besklaun_trace_text(text: &[u8], trace: &mut [u8]) -> TextRun
     ensures { (result, trace.new) ≡ text_run true text.now trace.old }
 {
     texts::besklaun_trace_text(text, trace)
+}
+
+#[unsafe(no_mangle)]
+pub extern "C" fn besklaun_run_text_with_report(text: &[u8], listing: &mut [u8]) -> ReportedRun
+    ensures { Reported false text.now listing.old result listing.new }
+{
+    texts::besklaun_run_text_with_report(text, listing)
+}
+
+#[unsafe(no_mangle)]
+pub extern "C" fn besklaun_trace_text_with_report(text: &[u8], trace: &mut [u8]) -> ReportedRun
+    ensures { Reported true text.now trace.old result trace.new }
+{
+    texts::besklaun_trace_text_with_report(text, trace)
 }
 
 // Small schedules (02, CR 5): to C a schedule is the bytes of its turns.

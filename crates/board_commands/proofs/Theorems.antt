@@ -25,7 +25,7 @@ use Rattle.board_commands.proofs.ReplyLaws.{obeyed_replies}
 
 -- a command keeps W, and its reply has the number of its refusal
 module _ (s : StationMemory) (c : StationOrder) where
-  w_stays : (station_command s c).1.w ≡ s.w
+  pub w_stays : (station_command s c).1.w ≡ s.w
   unfolding station_command
   w_stays = go (eqb (station_refusal s c) 0)
     where
@@ -33,7 +33,7 @@ module _ (s : StationMemory) (c : StationOrder) where
       go true = refl
       go false = refl
 
-  command_number : number_of (station_command s c).0 ≡ station_refusal s c
+  pub command_number : number_of (station_command s c).0 ≡ station_refusal s c
   command_number = go (station_refusal s c) refl
     where
       go : (k : ℕ) → station_refusal s c ≡ k → number_of (station_command s c).0 ≡ station_refusal s c

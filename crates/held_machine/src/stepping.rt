@@ -11,7 +11,7 @@ use llsc::{Order, ProcessNumber};
 
 // One that no row refuses.
 #[inline(always)]
-fn obeyed(held: &mut [u64], p: usize, order: Order, named: usize, value: &[u64]) -> Told
+pub fn obeyed(held: &mut [u64], p: usize, order: Order, named: usize, value: &[u64]) -> Told
     requires { near_refusal (memory_of held.old) (record { process = p; order = order; called = named; value = value.now }) ≡ 0 }
     ensures { SteppedTo held.old (record { process = p; order = order; called = named; value = value.now }) result held.new }
 {

@@ -26,7 +26,7 @@ module _ (l : List ℕ) (n w r : ℕ) (value : List ℕ) where
   abbrev s : StationMemory
   s = laid_out r l
 
-  number_is : number ≡ station_set_up_refusal s n w r value
+  pub number_is : number ≡ station_set_up_refusal s n w r value
   unfolding station_set_up_number station_set_up_refusal
   number_is =
       sym (ap₂ (λ (i k : ℕ). station_set_up_number n w r i k (length value)) (tab_length (process_in r l) 0 16) (length-drop (words_place r) l))

@@ -6,7 +6,8 @@ use std::fs;
 use std::path::{Path, PathBuf};
 use std::thread;
 
-use besklaun::{run_text, trace_text, Refusal, TextRun};
+use besklaun::{run_text, run_text_with_report, trace_text, trace_text_with_report};
+use besklaun::{Refusal, Sizes, Stop, TextRun};
 use witness::rng::Rng;
 use witness::schedule::{self as separately, Form, LISTING, TRACE};
 use witness::texts::{limit_texts, text};
@@ -137,6 +138,79 @@ fn alike(run: Run, form: &Form, text: &[u8], room: usize) {
     assert_eq!(ran.entries as u64, outcome.entries, "{shown}");
     assert_eq!(ran.written, outcome.written, "{shown}");
     assert!(lent == expected, "{shown}");
+}
+
+/// Where it stopped: at the fault that the separately written reader finds;
+/// or at an item before which the text comes to its end, and with which it
+/// is refused alike.
+#[test]
+fn stops_where_it_is_refused() {
+    let limits = limit_texts();
+    let mut seen = [0; 4];
+    for index in 0..3000 {
+        let text = text(13, index, &limits);
+        let shown = text.escape_ascii();
+        let mut lent = vec![BEFORE; ROOM];
+        let (run, stop) = run_text_with_report(&text, &mut lent);
+        assert_eq!(run, run_text(&text, &mut lent), "{shown}");
+        let mut trace = vec![BEFORE; 10 * ROOM];
+        let (traced, at) = trace_text_with_report(&text, &mut trace);
+        if run.outcome != Err(Refusal::NoRoom) && traced.outcome != Err(Refusal::NoRoom) {
+            assert_eq!((traced.outcome, at), (run.outcome, stop), "{shown}");
+        }
+        seen[kind(stop)] += 1;
+        stops(&text, run, stop);
+    }
+    assert!(seen.iter().all(|count| *count > 0), "{seen:?}");
+}
+
+fn kind(stop: Stop) -> usize {
+    match stop {
+        Stop::NotRead => 0,
+        Stop::AtFault(_) => 1,
+        Stop::AtNoItem(_) => 2,
+        Stop::AtItem(..) => 3,
+    }
+}
+
+fn stops(text: &[u8], run: TextRun, stop: Stop) {
+    let shown = text.escape_ascii();
+    if text.len() > separately::TEXT_LIMIT {
+        assert_eq!(stop, Stop::NotRead, "{shown}");
+        return;
+    }
+    let read = match separately::parse(text) {
+        Err(fault) => {
+            assert_eq!(stop, Stop::AtFault(fault.place), "{shown}");
+            return;
+        }
+        Ok(read) => read,
+    };
+    let Sizes { n, w } = match stop {
+        Stop::AtNoItem(sizes) | Stop::AtItem(sizes, _) => sizes,
+        _ => panic!("{stop:?}: {shown}"),
+    };
+    assert_eq!((n, w), (read.n, read.w), "{shown}");
+    let Stop::AtItem(_, item) = stop else {
+        assert!(run.number() < 4, "{shown}");
+        return;
+    };
+    let (before, rest) = text.split_at(item.place);
+    let digits = rest.iter().take_while(|byte| byte.is_ascii_digit()).count();
+    let process = String::from_utf8_lossy(&rest[..digits]).parse::<u64>();
+    assert_eq!(process.unwrap().min(16), item.process, "{shown}");
+    // behind a group that is open the text before the item is no text
+    if separately::parse(before).is_ok() {
+        let length = rest
+            .iter()
+            .position(|byte| b" \n".contains(byte))
+            .unwrap_or(rest.len());
+        let (end, _) = separately::run_text(before, &LISTING, &mut vec![0; ROOM], None);
+        assert_eq!(end.number, 0, "{shown}");
+        let with = &text[..item.place + length];
+        let (again, _) = separately::run_text(with, &LISTING, &mut vec![0; ROOM], None);
+        assert_eq!((again.number, again.entries), (run.number(), run.entries as u64), "{shown}");
+    }
 }
 
 /// The stack that besklaun.h names, in several threads at once.
