@@ -14,8 +14,8 @@
  * what it leaves there is what its definition says, named at each function, in the folder crates/ of the project.
  * Nothing is kept between calls, so calls from several threads do not disturb each other.
  * Not proved: that the stack suffices. besklaun_run_text and besklaun_trace_text take less than 640 KiB of it,
- * besklaun_run_board less than 128 KiB, the judges less than 64 KiB, the others less than 32 KiB. Where a thread has
- * less, the system ends the process.
+ * besklaun_run_board and the text runs of Moir's bench less than 128 KiB, the judges less than 64 KiB, the others less
+ * than 32 KiB. Where a thread has less, the system ends the process.
  *
  * `number` is 0, or the number of the cause of a refusal (BESKLAUN_NO_SUCH_PROCESS and its like, below).
  */
@@ -114,6 +114,79 @@ struct besklaun_text_run besklaun_run_text(const uint8_t *text, size_t text_coun
  * Definition: text_run true text trace. */
 struct besklaun_text_run besklaun_trace_text(const uint8_t *text, size_t text_count,
                                              uint8_t *trace, size_t trace_count);
+
+/* The same text on Moir's bench (docs/NOTATION.md), with room as above. Where a WLL names a process its letter is N.
+ * Definition: moir_text_run false text listing, besklaun/specs/MoirTexts and moir_text_model/specs/TextRun. */
+struct besklaun_text_run besklaun_moir_run_text(const uint8_t *text, size_t text_count,
+                                                uint8_t *listing, size_t listing_count);
+
+/* Definition: moir_text_run true text trace. */
+struct besklaun_text_run besklaun_moir_trace_text(const uint8_t *text, size_t text_count,
+                                                  uint8_t *trace, size_t trace_count);
+
+/* The view of a written value: the words of success k, of a record that begins with `value` and to which successes wrote
+ * the values of `written`, w words each, in their order. Success 0 is the value with which it begins. */
+
+struct besklaun_part {
+    uint8_t number; /* 0, or the cause of a refusal: 2, 3, 8 or 15 */
+    bool written;   /* whether the words stand in `written`, else in `value` */
+    size_t start;   /* the first of them */
+    size_t count;   /* how many: w, or 0 where it is refused */
+};
+
+/* Definition: view_told w value written k, besklaun/specs/Views and model/specs/View. */
+struct besklaun_part besklaun_view(size_t w, const uint64_t *value, size_t value_count,
+                                   const uint64_t *written, size_t written_count, size_t k);
+
+/* A season of listings (docs/FRACTIONS.md): the sums of up to 4,096 listings of n processes and w words, in whatever
+ * order. The caller keeps them; numbers that it made otherwise are refused where they are out of their range. */
+
+struct besklaun_sum {
+    uint64_t successes; /* SCs that succeeded */
+    uint64_t scs;       /* SCs answered */
+    uint64_t steps;     /* the steps of all LLs answered */
+    uint64_t lls;       /* LLs answered */
+};
+
+struct besklaun_sums {
+    uint64_t n;
+    uint64_t w;
+    uint64_t taken;               /* how many listings were added */
+    struct besklaun_sum each[16]; /* of each process; those from n on are not looked at */
+};
+
+/* The sums before the first listing.
+ * Definition: empty_sums n w, sums/specs/Season. */
+struct besklaun_sums besklaun_empty_sums(uint64_t n, uint64_t w);
+
+struct besklaun_added {
+    uint8_t number; /* 0, or the cause of a refusal, which leaves the sums: 1, 2, 9, 19 or 18 */
+    size_t at;      /* 18: the place of the first wrong byte; else 0 */
+};
+
+/* A listing added. `season` is aligned for the struct, and read and written.
+ * Definition: adding season listing, besklaun/specs/Seasons. */
+struct besklaun_added besklaun_add_listing(struct besklaun_sums *season, const uint8_t *listing, size_t listing_count);
+
+struct besklaun_fraction {
+    uint64_t over;
+    uint64_t under;
+};
+
+/* Of a process: successful SCs over SCs answered, and LL steps over LLs answered, in lowest terms; 0 over 0 for no call. */
+struct besklaun_row {
+    struct besklaun_fraction successes;
+    struct besklaun_fraction steps;
+};
+
+struct besklaun_fractions {
+    uint8_t number;               /* 0, or the cause of a refusal, whose rows are all 0 over 0: 1, 2 or 9 */
+    struct besklaun_row rows[16]; /* those from n on are 0 over 0 */
+};
+
+/* The table of the sums.
+ * Definition: fractions_of (table season), besklaun/specs/Seasons and sums/specs/Fractions. */
+struct besklaun_fractions besklaun_fractions(const struct besklaun_sums *season);
 
 /* Small schedules (docs/INTERLEAVINGS.md): every way in which processes 0 and 1 can take a and b turns, in dictionary
  * order, process 0 before process 1, with numbers from 0. A turn is a byte, 0 or 1.

@@ -116,6 +116,79 @@ static void texts(void)
     expect(memcmp(lent, "refused 10 0\n", 13) == 0 && stays(13), "the listing of no text");
 }
 
+/* The first two calls of examples/first-steps.txt on Moir's bench: 2W + 1 steps and 6W + 2 (examples/moir). */
+static void moir_texts(void)
+{
+    static const uint8_t given[] = "2 1 5\n0l 0! 0s7 0!\n";
+    static const char listing[] = "0 L 3 5\n0 S 8 1\nend 13\n";
+    memset(lent, BEFORE, sizeof lent);
+    expect(ran(besklaun_moir_run_text(given, 6, NULL, 0), 14, 0, 0), "Moir: no listing at all is 14");
+    expect(ran(besklaun_moir_trace_text(given, 6, lent, 871), 14, 0, 0), "Moir: 871 bytes are too few for a trace");
+    expect(stays(0), "Moir: a refusal with 14 writes nothing");
+    expect(ran(besklaun_moir_trace_text(given, 6, lent, 872), 0, 0, 6), "Moir: the trace of no entries");
+    expect(ran(besklaun_moir_run_text(given, sizeof given - 1, lent, sizeof lent), 0, 13, sizeof listing - 1), "Moir: a run");
+    expect(memcmp(lent, listing, sizeof listing - 1) == 0 && stays(sizeof listing - 1), "Moir: its listing");
+    memset(lent, BEFORE, sizeof lent);
+    expect(ran(besklaun_moir_run_text(NULL, 0, lent, 744), 10, 0, 13), "Moir: no text is 10");
+    expect(memcmp(lent, "refused 10 0\n", 13) == 0 && stays(13), "Moir: the listing of no text");
+}
+
+static bool part(struct besklaun_part said, unsigned number, bool written, size_t start, size_t count)
+{
+    return said.number == number && said.written == written && said.start == start && said.count == count;
+}
+
+static void views(void)
+{
+    static const uint64_t first[] = {1, 2}, written[] = {3, 4, 5, 6};
+    expect(part(besklaun_view(2, first, 2, written, 4, 0), 0, false, 0, 2), "success 0 is the value");
+    expect(part(besklaun_view(2, first, 2, written, 4, 1), 0, true, 0, 2), "success 1 is the list's first");
+    expect(part(besklaun_view(2, first, 2, written, 4, 2), 0, true, 2, 2), "success 2 is its second");
+    expect(part(besklaun_view(2, first, 2, written, 4, 3), 15, false, 0, 0), "there is no success 3");
+    expect(part(besklaun_view(2, first, 2, NULL, 0, SIZE_MAX), 15, false, 0, 0), "nor any of no list but 0");
+    expect(part(besklaun_view(2, first, 2, NULL, 0, 0), 0, false, 0, 2), "success 0 of no list");
+    expect(part(besklaun_view(2, first, 2, written, 3, 0), 3, false, 0, 0), "a list of no whole values is 3");
+    expect(part(besklaun_view(2, NULL, 0, written, 4, 0), 8, false, 0, 0), "no value is 8");
+    expect(part(besklaun_view(SIZE_MAX, NULL, 0, NULL, 0, 0), 2, false, 0, 0), "too many words are 2");
+}
+
+static bool fraction(struct besklaun_fraction f, uint64_t over, uint64_t under)
+{
+    return f.over == over && f.under == under;
+}
+
+static bool taken(struct besklaun_added said, unsigned number, size_t at)
+{
+    return said.number == number && said.at == at;
+}
+
+static void seasons(void)
+{
+    static const uint8_t one[] = "0 L 10 5\n0 S 6 1\nend 18\n", two[] = "0 L 14 5\n0 S 6 0\nend 22\n";
+    struct besklaun_sums season = besklaun_empty_sums(2, 1), copy;
+    struct besklaun_fractions table = besklaun_fractions(&season);
+    expect(table.number == 0 && fraction(table.rows[0].steps, 0, 0), "no listing has 0 over 0");
+    expect(taken(besklaun_add_listing(&season, one, sizeof one - 1), 0, 0), "a listing");
+    expect(taken(besklaun_add_listing(&season, two, sizeof two - 1), 0, 0), "and another");
+    copy = season;
+    expect(taken(besklaun_add_listing(&season, one, sizeof one - 2), 18, sizeof one - 2), "its last line feed is missing");
+    expect(taken(besklaun_add_listing(&season, NULL, 0), 18, 0), "no bytes are 18");
+    expect(memcmp(&copy, &season, sizeof copy) == 0, "what is not taken leaves the sums");
+    table = besklaun_fractions(&season);
+    expect(table.number == 0 && season.taken == 2, "two listings");
+    expect(fraction(table.rows[0].successes, 1, 2) && fraction(table.rows[0].steps, 12, 1), "1 of 2 SCs, 24 steps of 2 LLs");
+    expect(fraction(table.rows[1].successes, 0, 0) && fraction(table.rows[15].steps, 0, 0), "the others have 0 over 0");
+    season.taken = 4096;
+    expect(taken(besklaun_add_listing(&season, one, sizeof one - 1), 19, 0), "4,096 listings are enough");
+    season.each[1].lls = UINT64_MAX;
+    table = besklaun_fractions(&season);
+    expect(table.number == 9 && fraction(table.rows[0].successes, 0, 0), "a sum that is too large is 9");
+    season.n = 0;
+    expect(besklaun_fractions(&season).number == 1, "no process is 1");
+    season = besklaun_empty_sums(1, 65);
+    expect(taken(besklaun_add_listing(&season, one, sizeof one - 1), 2, 0), "65 words are 2");
+}
+
 static bool found(struct besklaun_found_turns said, unsigned refusal, size_t count)
 {
     return said.refusal == refusal && said.count == count;
@@ -342,6 +415,9 @@ int main(int count, char **given)
     logs();
     reasons();
     texts();
+    moir_texts();
+    views();
+    seasons();
     schedules();
     board_files();
     board_runs();

@@ -13,17 +13,27 @@ ghost use Rattle.verdicts.specs.Reasons.{judged_with_reason};
 ghost use Rattle.enumeration.specs.Replies.{found_for, numbered_for, following_for};
 ghost use Rattle.besklaun.specs.BoardRuns.{board_run};
 ghost use Rattle.besklaun.specs.Judgements.{judgement_of, reasoned_of};
+ghost use Rattle.besklaun.specs.MoirTexts.{moir_text_run};
 ghost use Rattle.besklaun.specs.OwnBench.{text_run};
+ghost use Rattle.besklaun.specs.Seasons.{adding, fractions_of};
 ghost use Rattle.besklaun.specs.TurnBytes.{schedule_into, number_told, after_into};
 ghost use Rattle.besklaun.specs.Version.{version_number};
+ghost use Rattle.besklaun.specs.Views.{view_told};
+ghost use Rattle.sums.specs.Season.{empty_sums};
+ghost use Rattle.sums.specs.Fractions.{table};
 
 use besklaun::board_files::BoardRun;
 use besklaun::logs::{Judgement, Reasoned};
 use besklaun::schedules::{FoundTurns, TurnsAfter, TurnsNumber};
+use besklaun::seasons::{Added, Fractions};
 use besklaun::texts::TextRun;
-use besklaun::{board_files, held_lists, logs, schedules, texts, versions};
+use besklaun::views::View;
+use besklaun::{
+    board_files, held_lists, logs, moir_texts, schedules, seasons, texts, versions, views,
+};
 use boards::Merged;
 use held_model::Told;
+use sums::Sums;
 
 #[unsafe(no_mangle)]
 pub extern "C" fn besklaun_version() -> u32
@@ -67,6 +77,54 @@ pub extern "C" fn besklaun_trace_text(text: &[u8], trace: &mut [u8]) -> TextRun
     ensures { (result, trace.new) ≡ text_run true text.now trace.old }
 {
     texts::besklaun_trace_text(text, trace)
+}
+
+// The same on Moir's bench.
+
+#[unsafe(no_mangle)]
+pub extern "C" fn besklaun_moir_run_text(text: &[u8], listing: &mut [u8]) -> TextRun
+    ensures { (result, listing.new) ≡ moir_text_run false text.now listing.old }
+{
+    moir_texts::besklaun_moir_run_text(text, listing)
+}
+
+#[unsafe(no_mangle)]
+pub extern "C" fn besklaun_moir_trace_text(text: &[u8], trace: &mut [u8]) -> TextRun
+    ensures { (result, trace.new) ≡ moir_text_run true text.now trace.old }
+{
+    moir_texts::besklaun_moir_trace_text(text, trace)
+}
+
+// The view of a written value.
+
+#[unsafe(no_mangle)]
+pub extern "C" fn besklaun_view(w: usize, value: &[u64], written: &[u64], k: usize) -> View
+    ensures { result ≡ view_told w value.now written.now k }
+{
+    views::besklaun_view(w, value, written, k)
+}
+
+// A season of listings (02, CR 2).
+
+#[unsafe(no_mangle)]
+pub extern "C" fn besklaun_empty_sums(n: u64, w: u64) -> Sums
+    ensures { result ≡ empty_sums n w }
+{
+    seasons::besklaun_empty_sums(n, w)
+}
+
+#[unsafe(no_mangle)]
+pub extern "C" fn besklaun_add_listing(season: &mut Sums, listing: &[u8]) -> Added
+    ensures { (result, season.new) ≡ adding season.old listing.now }
+{
+    seasons::besklaun_add_listing(season, listing)
+}
+
+#[unsafe(no_mangle)]
+pub extern "C" fn besklaun_fractions(season: &Sums) -> Fractions
+    ensures { result ≡ fractions_of (table season.now) }
+{
+    seasons::besklaun_fractions(season)
 }
 
 // Small schedules (02, CR 5): to C a schedule is the bytes of its turns.
