@@ -1,16 +1,15 @@
 -- The memory of a list, read where its numbers stand.
-use mathlib.Core.Path.{◌≡◌, refl, ap}
-use mathlib.Core.List.{List, map}
-use Prim.Native.Nat.{ℕ, ◌+◌, ◌<◌, ◌≤◌}
+use mathlib.Core.Path.{◌≡◌, refl}
+use mathlib.Core.List.{List}
+use Prim.Native.Nat.{ℕ, ◌+◌, ◌<◌}
 use native.Mathlib.Omega.{arith}
 use lib.ListN.{length, get_or}
-use Rattle.moir_model.specs.declared.Process.{Process}
 use Rattle.moir_model.specs.Records.{record_at, no_process}
 use Rattle.moir_model.specs.Machine.{Shaped}
 use Rattle.held_model.proofs.TabLaws.{tab_length, tab_at}
 use Rattle.held_model.proofs.MemoryLaws.{Same}
 use Rattle.moir_held_model.specs.Layout.{process_place}
-use Rattle.moir_held_model.specs.Memory.{process_from, tag_from, bench_from, memory_of}
+use Rattle.moir_held_model.specs.Memory.{process_from, tag_from, memory_of}
 
 module _ (l : List ℕ) where
   pub record_there : (p : ℕ) → p < 16 → record_at (memory_of l).records (record { 0 = p }) ≡ process_from l p

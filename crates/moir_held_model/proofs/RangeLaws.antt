@@ -1,28 +1,22 @@
 -- Where no tag has more than sixteen bits, a held list's row 9 is `moir_model`'s, and so is its command; and where row 9
 -- holds of nothing, a command by a look at what it reads alone is that command.
-use mathlib.Core.Path.{◌≡◌, refl, sym, ap, ap₂, ◌∙◌}
+use mathlib.Core.Path.{◌≡◌, refl, ap, ap₂}
 use mathlib.Core.List.{List, [], ◌∷◌}
-use mathlib.Core.Bool.{Bool, true, false, cond, not, ◌&&◌, ◌||◌}
-use Prim.Native.Nat.{ℕ, ◌+◌, ◌*◌, ◌<◌, ◌≤◌}
-use native.Mathlib.Omega.{arith}
-use lib.Dec.{eqb, ltb, leb}
-use lib.ListN.{length, get_or, take, length-take}
-use lib.Seq.{get_or-take}
-use borrow.Author.Tests.{ltb-false, ltb-true, leb-false, not-false}
+use mathlib.Core.Bool.{Bool, true, false, cond, ◌&&◌}
+use Prim.Native.Nat.{ℕ}
+use lib.Dec.{eqb}
+use lib.ListN.{length, take}
 use Rattle.llsc.specs.declared.Order.{Order}
-use Rattle.llsc.specs.Rows.{first, every, row1, row2, row3, row4, row8, row9}
+use Rattle.llsc.specs.Rows.{first, every}
 use Rattle.moir_model.specs.declared.Reply.{Reply}
 use Rattle.moir_model.specs.declared.Reply.TheVariants.{Refused}
 use Rattle.moir_model.specs.declared.Process.{Process}
-use Rattle.moir_model.specs.Sizes.{lent_words}
-use Rattle.moir_model.specs.Records.{record_at, no_process}
-use Rattle.moir_model.specs.Machine.{Memory, Shaped}
-use Rattle.moir_model.specs.Refusals.{header_ok, process_ok, in_range, row5, row6, row7, rows_of}
+use Rattle.moir_model.specs.Records.{record_at}
+use Rattle.moir_model.specs.Machine.{Memory}
+use Rattle.moir_model.specs.Refusals.{header_ok, process_ok, in_range, rows_of}
 use Rattle.moir_model.specs.Command.{obeyed, refusal, command}
-use Rattle.laws.proofs.ListLaws.{every_at}
 use Rattle.laws.proofs.AndLaws.{left, right}
-use Rattle.serving.proofs.RefusalFacts.{or_false, inside}
-use Rattle.moir_held_model.specs.Ranges.{tag_ok, process_tags_ok, tags_ok, header_whole, process_whole, held_in_range, held_refusal, held_command, touched_ok, near_refusal, near_command}
+use Rattle.moir_held_model.specs.Ranges.{tag_ok, process_tags_ok, tags_ok, header_whole, process_whole, held_in_range, held_refusal, held_command}
 
 and_drop : (a b : Bool) → b ≡ true → a && b ≡ a
 and_drop true b e = e

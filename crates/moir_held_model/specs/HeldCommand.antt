@@ -1,5 +1,5 @@
 -- What a set-up and a command make of a held list of Moir's bench, and what they tell.
-use Rattle.std.specs.Prelude.{◌≡◌, ℕ, List, Bool, true}
+use Rattle.std.specs.Prelude.{◌≡◌, ℕ, List, true}
 use Rattle.llsc.specs.declared.Order.{Order}
 use Rattle.moir_model.specs.declared.Reply.{Reply}
 use Rattle.moir_model.specs.Machine.{Memory}

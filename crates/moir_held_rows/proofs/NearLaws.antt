@@ -1,8 +1,8 @@
 -- Where row 9 holds of nothing, a command by a look at what it reads alone is the command.
 use mathlib.Core.Path.{◌≡◌, sym, ap, ap₂, subst, ◌∙◌}
 use mathlib.Core.List.{List, [], ◌∷◌}
-use mathlib.Core.Bool.{Bool, true, false, cond, not, ◌&&◌}
-use Prim.Native.Nat.{ℕ, ◌+◌, ◌<◌, ◌≤◌}
+use mathlib.Core.Bool.{Bool, true, cond, not, ◌&&◌}
+use Prim.Native.Nat.{ℕ, ◌<◌, ◌≤◌}
 use native.Mathlib.Omega.{arith}
 use lib.Dec.{eqb}
 use lib.ListN.{length, get_or, take, length-take}
@@ -17,12 +17,12 @@ use Rattle.moir_model.specs.declared.Reply.{Reply}
 use Rattle.moir_model.specs.declared.Reply.TheVariants.{Refused}
 use Rattle.moir_model.specs.Records.{record_at, no_process}
 use Rattle.moir_model.specs.Machine.{Memory, Shaped}
-use Rattle.moir_model.specs.Refusals.{row3, row5, row6, row7, in_range}
+use Rattle.moir_model.specs.Refusals.{row3, row5, row6, row7}
 use Rattle.moir_model.specs.Command.{obeyed, refusal, command}
-use Rattle.moir_held_model.specs.Ranges.{tag_ok, header_whole, process_whole, held_in_range, touched_ok, near_rest, near_refusal, near_command}
+use Rattle.moir_held_model.specs.Ranges.{tag_ok, header_whole, process_whole, held_in_range, held_refusal, held_command, touched_ok, near_refusal, near_command}
 use Rattle.moir_held_model.proofs.RangeLaws.{in_range_all}
 use Rattle.moir_held_rows.proofs.ListLaws.{whole_ranges}
-use Rattle.moir_held_rows.proofs.NearRowLaws.{three, same_row}
+use Rattle.moir_held_rows.proofs.NearRowLaws.{same_row}
 
 module _ (m : Memory) (shaped : Shaped m) (in_all : held_in_range m ≡ true) (p : ℕ) (o : Order) (v : List ℕ) where
   abbrev n : ℕ
@@ -54,14 +54,33 @@ module _ (m : Memory) (shaped : Shaped m) (in_all : held_in_range m ≡ true) (p
   abbrev calls : ℕ
   calls = first (row8 o w (length v) ∷ row5 o q ∷ row6 o q ∷ row7 o q ∷ [])
 
-  pub near_refusal_is : near_refusal m p o v ≡ refusal m p o v
-  unfolding near_refusal refusal
-  near_refusal_is =
+  -- the rows 1, 2, 3, 9 and the others, with the truth of row 9
+  abbrev rows : Bool → ℕ
+  rows t =
+      cond (row1 n).holds 1 (cond (row2 w).holds 2 (cond (row3 n w (length m.records) (length m.words)).holds 3 (cond (not t) 9 (cond (row4 n p).holds 4 calls))))
+
+  near_rows : near_refusal m p o v ≡ rows true
+  unfolding near_refusal
+  near_rows =
       same_row (row1 n).holds 1 _ _ (λ e1. same_row (row2 w).holds 2 _ _ (λ e2. same_row (row3 n w (length m.records) (length m.words)).holds 3 _ _ (λ e3.
       let few : w ≤ 64 = (inside 1 64 w e2).1 in
       let records : n ≤ length m.records = ltb-false (length m.records) n (or_false _ _ e3).1 in
-      same_row (row4 n p).holds 4 _ _ (λ e4. ap (λ (t : Bool). cond (not t) 9 calls) (touched_is_ok few records (leb-false n p e4)))
-      ∙ ap (λ (t : Bool). cond (not t) 9 (cond (row4 n p).holds 4 calls)) (sym (in_range_all m in_all)))))
+      same_row (row4 n p).holds 4 _ _ (λ e4. ap (λ (t : Bool). cond (not t) 9 calls) (touched_is_ok few records (leb-false n p e4))))))
+
+  near_refusal_held : near_refusal m p o v ≡ held_refusal m p o v
+  unfolding held_refusal
+  near_refusal_held = near_rows ∙ ap rows (sym in_all)
+
+  near_command_held : near_command m p o v ≡ held_command m p o v
+  unfolding near_command held_command
+  near_command_held = ap (λ (k : ℕ). cond {A = Reply × Memory} (eqb k 0) (obeyed m (record { 0 = p }) o v) (Refused k, m)) near_refusal_held
+
+  pub near_is_held : (near_refusal m p o v ≡ held_refusal m p o v) × (near_command m p o v ≡ held_command m p o v)
+  near_is_held = (near_refusal_held, near_command_held)
+
+  pub near_refusal_is : near_refusal m p o v ≡ refusal m p o v
+  unfolding refusal
+  near_refusal_is = near_rows ∙ ap rows (sym (in_range_all m in_all))
 
   pub near_command_is : near_command m p o v ≡ command m p o v
   unfolding near_command command

@@ -2,10 +2,10 @@
 use mathlib.Core.Path.{◌≡◌, refl, sym, ap, ap₂, ◌∙◌}
 use mathlib.Core.List.{List, [], ◌∷◌}
 use mathlib.Core.Bool.{Bool, true, false, cond, not, ◌&&◌}
-use Prim.Native.Nat.{ℕ, zero, suc, ◌+◌, ◌-◌, ◌*◌, ◌<◌, ◌≤◌}
+use Prim.Native.Nat.{ℕ, zero, suc, ◌-◌, ◌<◌}
 use native.Mathlib.Omega.{arith}
 use lib.Dec.{eqb}
-use lib.ListN.{length, get_or, drop, length-drop}
+use lib.ListN.{length, get_or, length-drop}
 use borrow.Author.Tests.{leb-false, eqb-true, eqb-false, eq-eqb, ne_eqb, not-false}
 use Rattle.llsc.specs.declared.Order.{Order}
 use Rattle.llsc.specs.Rows.{first, brings_value, row1, row2, row4, row8}
@@ -19,7 +19,7 @@ use Rattle.moir_model.specs.Machine.{Memory}
 use Rattle.moir_model.specs.Refusals.{row3, row5, row6, row7, process_rows}
 use Rattle.moir_rows.specs.CommandRows.{lent_number}
 use Rattle.moir_held_model.specs.Layout.{header_place, words_place}
-use Rattle.moir_held_model.specs.Memory.{header_from, process_from, tag_from, memory_of}
+use Rattle.moir_held_model.specs.Memory.{header_from, process_from, memory_of}
 use Rattle.moir_held_model.specs.Ranges.{tag_ok, header_whole, process_whole, held_in_range, held_refusal, touched_ok, near_rest, near_refusal}
 use Rattle.moir_held_model.proofs.MemoryLaws.{record_there, tag_there, sixteen}
 use Rattle.moir_held_rows.specs.ListRows.{list_lent, LentList, touched_from, own_number, Admits, memory_number}

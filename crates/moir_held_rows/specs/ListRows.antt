@@ -8,7 +8,7 @@ use Rattle.held_model.specs.Memory.{number_at}
 use Rattle.moir_model.specs.Sizes.{lent_words}
 use Rattle.moir_model.specs.Refusals.{row5, row6, row7}
 use Rattle.moir_rows.specs.CommandRows.{lent_number}
-use Rattle.moir_held_model.specs.Layout.{header_place, tag_place, words_place}
+use Rattle.moir_held_model.specs.Layout.{header_place, words_place}
 use Rattle.moir_held_model.specs.Memory.{header_from, process_from, tag_from, memory_of}
 use Rattle.moir_held_model.specs.Ranges.{tag_ok, header_whole, process_whole, held_in_range}
 
