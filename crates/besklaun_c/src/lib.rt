@@ -8,6 +8,8 @@ ghost use Rattle.std.specs.Prelude.{◌≡◌, true, false};
 ghost use Rattle.boards.specs.Merging.{merge_files};
 ghost use Rattle.held_model.specs.HeldCommand.{SetUpDone, order_of, Commanded, SteppedTo};
 ghost use Rattle.held_buffers.specs.Places.{HoldersTold};
+ghost use Rattle.held_model.specs.Told.{order_named};
+ghost use Rattle.moir_held_model.specs.HeldCommand.{SetUpDone as MoirSetUpDone, Commanded as MoirCommanded, SteppedTo as MoirSteppedTo};
 ghost use Rattle.verdicts.specs.Verdicts.{judged};
 ghost use Rattle.verdicts.specs.Reasons.{judged_with_reason};
 ghost use Rattle.enumeration.specs.Replies.{found_for, numbered_for, following_for};
@@ -29,10 +31,11 @@ use besklaun::seasons::{Added, Fractions};
 use besklaun::texts::TextRun;
 use besklaun::views::View;
 use besklaun::{
-    board_files, held_lists, logs, moir_texts, schedules, seasons, texts, versions, views,
+    board_files, held_lists, logs, moir_lists, moir_texts, schedules, seasons, texts, versions, views,
 };
 use boards::Merged;
 use held_model::Told;
+use moir_held_model::Told as MoirTold;
 use sums::Sums;
 
 #[unsafe(no_mangle)]
@@ -223,4 +226,37 @@ pub extern "C" fn besklaun_held_places(held: &[u64], on: usize, places: &mut [u6
     ensures { HoldersTold held.now on places.old result places.new }
 {
     held_lists::besklaun_held_places(held, on, places)
+}
+
+// Moir's bench that a caller holds as one list of numbers.
+
+#[unsafe(no_mangle)]
+pub extern "C" fn besklaun_moir_set_up(held: &mut [u64], n: usize, w: usize, value: &[u64]) -> u8
+    ensures { MoirSetUpDone held.old n w value.now result held.new }
+{
+    moir_lists::besklaun_moir_set_up(held, n, w, value)
+}
+
+#[unsafe(no_mangle)]
+pub extern "C" fn besklaun_moir_command(
+    held: &mut [u64],
+    process: usize,
+    order: u8,
+    value: &[u64],
+) -> MoirTold
+    ensures { MoirCommanded held.old process (order_named order) value.now result held.new }
+{
+    moir_lists::besklaun_moir_command(held, process, order, value)
+}
+
+#[unsafe(no_mangle)]
+pub extern "C" fn besklaun_moir_step(
+    held: &mut [u64],
+    process: usize,
+    order: u8,
+    value: &[u64],
+) -> MoirTold
+    ensures { MoirSteppedTo held.old process (order_named order) value.now result held.new }
+{
+    moir_lists::besklaun_moir_step(held, process, order, value)
 }
