@@ -314,6 +314,52 @@ struct besklaun_told besklaun_held_step(uint64_t *held, size_t held_count, size_
 uint8_t besklaun_held_places(const uint64_t *held, size_t held_count, size_t record,
                              uint64_t *places, size_t place_count);
 
+/* Moir's bench (docs/NOTATION.md) that the caller holds as one list of numbers, as above. */
+
+/* Where each number stands; what a start place has, one after another. */
+#define BESKLAUN_MOIR_N 0
+#define BESKLAUN_MOIR_W 1
+/* the header: tag, process */
+#define BESKLAUN_MOIR_HEADER 2
+/* the tag of segment k */
+#define BESKLAUN_MOIR_TAG(k) (4 + (size_t)(k))
+/* process p: line (0 idle, Figure 6's, and 20 more in the Copy of an SC), word place, count of own steps, the mark of an
+ * answered WLL (0 for none), the tag that it keeps; x, oldhdr, newhdr, h (tag, process); y, z (tag, word) */
+#define BESKLAUN_MOIR_PROCESS(p) (68 + 17 * (size_t)(p))
+/* the words, in rows of w: n of the array A, the segments, n return areas, n offer areas */
+#define BESKLAUN_MOIR_WORDS 340
+/* how many numbers it needs */
+#define BESKLAUN_MOIR_COUNT(n, w) (BESKLAUN_MOIR_WORDS + (3 * (size_t)(n) + 1) * (size_t)(w))
+
+/* A set-up for n processes and w words with the given value of w words. It returns 0, or the number of the refusal, 1, 2,
+ * 3 or 8, which leaves every number. What n and w do not need stays.
+ * Definition: SetUpDone, moir_held_model/specs/HeldCommand, by set_up of moir_model/specs/SetUp. */
+uint8_t besklaun_moir_set_up(uint64_t *held, size_t held_count, size_t n, size_t w,
+                             const uint64_t *value, size_t value_count);
+
+struct besklaun_moir_told {
+    uint8_t number; /* 0, or the cause of a refusal, which leaves every number: 1 to 9 */
+    uint8_t kind;   /* of the call that was answered: 1 a WLL with words, 2 an SC, 3 a VL, 4 a WLL that names a process; 0
+                     * for none */
+    bool truth;     /* what an SC or a VL answered */
+    uint8_t named;  /* the process that a WLL names */
+    size_t count;   /* the call's own steps */
+    size_t at;      /* a WLL's words: held[at], .., held[at + words - 1] */
+    size_t words;
+};
+
+/* A command to a process. The order is 1 to start a WLL, 2 an SC, 3 a VL; every other number is a step. An SC brings w
+ * words, else they are not looked at. Row 9 is looked at over the whole list; a tag above 65,535 is out of its range.
+ * Definition: Commanded, moir_held_model/specs/HeldCommand, by command of moir_model/specs/Command. */
+struct besklaun_moir_told besklaun_moir_command(uint64_t *held, size_t held_count, size_t process, uint8_t order,
+                                                const uint64_t *value, size_t value_count);
+
+/* The same, but row 9 is looked at only for what the command reads. On every list for which row 9 holds of nothing it is
+ * that command.
+ * Definition: SteppedTo, moir_held_model/specs/HeldCommand. */
+struct besklaun_moir_told besklaun_moir_step(uint64_t *held, size_t held_count, size_t process, uint8_t order,
+                                             const uint64_t *value, size_t value_count);
+
 #ifdef __cplusplus
 }
 #endif

@@ -5,6 +5,7 @@
 //! A file for each subject, as in `crates/besklaun/src`.
 
 pub mod held;
+pub mod moir;
 
 mod board_files;
 mod logs;

@@ -407,6 +407,83 @@ static void held_lists(void)
     expect(memcmp(copy, held, sizeof copy) == 0, "a refusal leaves every number");
 }
 
+#define MOIR (BESKLAUN_MOIR_COUNT(2, 1) + 1)
+
+static uint64_t moir[MOIR];
+
+/* a call of process p, to its end */
+static struct besklaun_moir_told moir_to_its_end(size_t p, uint8_t order, const uint64_t *words)
+{
+    struct besklaun_moir_told told = besklaun_moir_step(moir, MOIR, p, order, words, words ? 1 : 0);
+    while (told.number == 0 && told.kind == 0) {
+        told = besklaun_moir_step(moir, MOIR, p, 0, NULL, 0);
+    }
+    return told;
+}
+
+static bool moir_answered(struct besklaun_moir_told told, unsigned kind, size_t count, bool truth)
+{
+    return told.number == 0 && told.kind == kind && told.count == count && told.truth == truth;
+}
+
+static void moir_lists(void)
+{
+    static const uint64_t seven[] = {7, 9};
+    uint64_t copy[MOIR];
+    for (size_t k = 0; k < MOIR; k++) {
+        moir[k] = UINT64_MAX - k;
+    }
+    memcpy(copy, moir, sizeof copy);
+    expect(besklaun_moir_set_up(moir, MOIR, 17, 1, value, 1) == 1, "Moir: N = 17 is 1");
+    expect(besklaun_moir_set_up(moir, MOIR, 2, 0, value, 1) == 2, "Moir: W = 0 is 2");
+    expect(besklaun_moir_set_up(moir, MOIR - 2, 2, 1, value, 1) == 3, "Moir: a list one number short is 3");
+    expect(besklaun_moir_set_up(NULL, 0, 2, 1, value, 1) == 3, "Moir: no list is 3");
+    expect(besklaun_moir_set_up(moir, MOIR, 2, 1, NULL, 0) == 8, "Moir: no value is 8");
+    expect(besklaun_moir_command(NULL, 0, 0, 1, NULL, 0).number == 1, "Moir: a command to no list is 1");
+    expect(besklaun_moir_step(moir, MOIR, 0, 1, NULL, 0).number == 1, "Moir: a step of any numbers is refused");
+    expect(memcmp(copy, moir, sizeof copy) == 0, "Moir: a refusal leaves every number");
+
+    expect(besklaun_moir_set_up(moir, MOIR, 2, 1, value, 1) == 0, "Moir: a set-up");
+    expect(moir[MOIR - 1] == copy[MOIR - 1], "Moir: the number behind the words stays");
+    expect(moir[BESKLAUN_MOIR_TAG(1)] == copy[BESKLAUN_MOIR_TAG(1)], "Moir: a tag that W does not need stays");
+    expect(moir[BESKLAUN_MOIR_PROCESS(2)] == copy[BESKLAUN_MOIR_PROCESS(2)], "Moir: a process that N does not need stays");
+    expect(moir[BESKLAUN_MOIR_WORDS] == 5 && moir[BESKLAUN_MOIR_WORDS + 2] == 5, "Moir: A[0] and the segment are the value");
+    expect(besklaun_moir_step(moir, MOIR, 2, 1, NULL, 0).number == 4, "Moir: process 2 is 4");
+    expect(besklaun_moir_step(moir, MOIR, 0, 2, seven, 2).number == 8, "Moir: two words are 8");
+    expect(besklaun_moir_step(moir, MOIR, 0, 0, NULL, 0).number == 6, "Moir: a step of an idle process is 6");
+    expect(besklaun_moir_step(moir, MOIR, 0, 3, NULL, 0).number == 7, "Moir: a VL before any WLL is 7");
+
+    /* examples/moir/first-steps.listing */
+    struct besklaun_moir_told told = moir_to_its_end(0, 1, NULL);
+    expect(moir_answered(told, 1, 3, false) && told.words == 1 && moir[told.at] == 5, "Moir: 0 L 3 5");
+    expect(moir_answered(moir_to_its_end(0, 2, seven), 2, 8, true), "Moir: 0 S 8 1");
+    expect(moir[BESKLAUN_MOIR_HEADER] == 1 && moir[BESKLAUN_MOIR_HEADER + 1] == 0, "Moir: the header is (1, 0)");
+    told = moir_to_its_end(1, 1, NULL);
+    expect(moir_answered(told, 1, 3, false) && moir[told.at] == 7, "Moir: 1 L 3 7");
+    expect(moir_answered(moir_to_its_end(0, 3, NULL), 3, 1, false), "Moir: 0 V 1 0");
+
+    /* process 1's WLL has read the header, then process 0 writes: it names process 0 */
+    moir_to_its_end(0, 1, NULL);
+    expect(besklaun_moir_command(moir, MOIR, 1, 1, NULL, 0).number == 0, "Moir: a start");
+    expect(besklaun_moir_command(moir, MOIR, 1, 1, NULL, 0).number == 5, "Moir: a start of a busy process is 5");
+    expect(besklaun_moir_command(moir, MOIR, 1, 0, NULL, 0).number == 0, "Moir: line 10");
+    expect(moir_answered(moir_to_its_end(0, 2, seven), 2, 8, true), "Moir: process 0 writes");
+    do {
+        told = besklaun_moir_command(moir, MOIR, 1, 0, NULL, 0);
+    } while (told.number == 0 && told.kind == 0);
+    expect(told.kind == 4 && told.named == 0 && told.words == 0, "Moir: the WLL names process 0");
+
+    memcpy(copy, moir, sizeof copy);
+    moir[BESKLAUN_MOIR_PROCESS(1) + 4] = 65536;
+    expect(besklaun_moir_command(moir, MOIR, 0, 1, NULL, 0).number == 9, "Moir: a tag of 65,536 is 9");
+    expect(besklaun_moir_step(moir, MOIR, 0, 1, NULL, 0).number == 0, "Moir: a step of process 0 does not look there");
+    memcpy(moir, copy, sizeof copy);
+    moir[BESKLAUN_MOIR_HEADER + 1] = 2;
+    expect(besklaun_moir_step(moir, MOIR, 0, 1, NULL, 0).number == 9, "Moir: a header of process 2 is 9");
+    moir[BESKLAUN_MOIR_HEADER + 1] = copy[BESKLAUN_MOIR_HEADER + 1];
+    expect(memcmp(copy, moir, sizeof copy) == 0, "Moir: a refusal leaves every number");
+}
+
 int main(int count, char **given)
 {
     if (count > 1) {
@@ -422,6 +499,7 @@ int main(int count, char **given)
     board_files();
     board_runs();
     held_lists();
+    moir_lists();
     if (!wrong) {
         puts("as expected");
     }
