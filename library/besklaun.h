@@ -314,6 +314,21 @@ struct besklaun_told besklaun_held_step(uint64_t *held, size_t held_count, size_
 uint8_t besklaun_held_places(const uint64_t *held, size_t held_count, size_t record,
                              uint64_t *places, size_t place_count);
 
+/* A turn of process 0 or 1 (docs/INTERLEAVINGS.md), whose list has `left` calls: the first of them has this kind (1 an LL, 2
+ * an SC, every other number a VL), names the record and brings an SC's w words. A busy process steps; an idle one starts
+ * that call, which leaves the list even if it is refused, or passes where the list is empty. */
+struct besklaun_turned {
+    struct besklaun_told told; /* what the command told; number is 22 for another process, first of all, then row 9 and those
+                                * before it, for a pass too */
+    bool passed;               /* whether it passed; then `told` has all 0 */
+    size_t left;               /* the calls left on the list */
+};
+
+/* A refusal and a pass leave every number. Row 9 is looked at over the whole list.
+ * Definition: TurnDone, held_turns/specs/TurnTold, by turn_of of turns_model/specs/Turns. */
+struct besklaun_turned besklaun_turn(uint64_t *held, size_t held_count, size_t process, uint8_t kind, size_t record,
+                                     size_t left, const uint64_t *value, size_t value_count);
+
 /* Moir's bench (docs/NOTATION.md) that the caller holds as one list of numbers, as above. */
 
 /* Where each number stands; what a start place has, one after another. */

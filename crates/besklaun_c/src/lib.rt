@@ -8,6 +8,7 @@ ghost use Rattle.std.specs.Prelude.{◌≡◌, true, false};
 ghost use Rattle.boards.specs.Merging.{merge_files};
 ghost use Rattle.held_model.specs.HeldCommand.{SetUpDone, order_of, Commanded, SteppedTo};
 ghost use Rattle.held_buffers.specs.Places.{HoldersTold};
+ghost use Rattle.held_turns.specs.TurnTold.{next_named, TurnDone};
 ghost use Rattle.held_model.specs.Told.{order_named};
 ghost use Rattle.moir_held_model.specs.HeldCommand.{SetUpDone as MoirSetUpDone, Commanded as MoirCommanded, SteppedTo as MoirSteppedTo};
 ghost use Rattle.verdicts.specs.Verdicts.{judged};
@@ -35,6 +36,7 @@ use besklaun::{
 };
 use boards::Merged;
 use held_model::Told;
+use held_turns::HeldTurn;
 use moir_held_model::Told as MoirTold;
 use sums::Sums;
 
@@ -226,6 +228,20 @@ pub extern "C" fn besklaun_held_places(held: &[u64], on: usize, places: &mut [u6
     ensures { HoldersTold held.now on places.old result places.new }
 {
     held_lists::besklaun_held_places(held, on, places)
+}
+
+#[unsafe(no_mangle)]
+pub extern "C" fn besklaun_turn(
+    held: &mut [u64],
+    process: usize,
+    kind: u8,
+    on: usize,
+    left: usize,
+    value: &[u64],
+) -> HeldTurn
+    ensures { TurnDone held.old process (next_named kind on) value.now left result held.new }
+{
+    held_lists::besklaun_turn(held, process, kind, on, left, value)
 }
 
 // Moir's bench that a caller holds as one list of numbers.
