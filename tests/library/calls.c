@@ -407,6 +407,33 @@ static void held_lists(void)
     expect(memcmp(copy, held, sizeof copy) == 0, "a refusal leaves every number");
 }
 
+static bool turned(struct besklaun_turned said, unsigned number, unsigned kind, bool passed, size_t left)
+{
+    return said.told.number == number && said.told.kind == kind && said.passed == passed && said.left == left;
+}
+
+/* process 0 has an LL and an SC of 7 on its list, process 1 nothing */
+static void turns(void)
+{
+    static const uint64_t seven[] = {7};
+    uint64_t copy[HELD];
+    expect(besklaun_held_set_up(held, HELD, 2, 1, 1, value, 1) == 0, "a set-up for turns");
+    expect(turned(besklaun_turn(held, HELD, 1, 0, 0, 0, NULL, 0), 0, 0, true, 0), "process 1 passes");
+    expect(turned(besklaun_turn(held, HELD, 2, 1, 0, 2, NULL, 0), 22, 0, false, 2), "a turn of process 2 is 22");
+    expect(turned(besklaun_turn(held, HELD, 0, 1, 0, 2, NULL, 0), 0, 0, false, 1), "process 0 starts its LL");
+    for (size_t step = 1; step < 10; step++) {
+        expect(turned(besklaun_turn(held, HELD, 0, 2, 0, 1, seven, 1), 0, 0, false, 1), "it steps");
+    }
+    expect(turned(besklaun_turn(held, HELD, 0, 2, 0, 1, seven, 1), 0, 1, false, 1), "it answers after 10");
+    expect(turned(besklaun_turn(held, HELD, 0, 2, 1, 1, seven, 1), 24, 0, false, 0), "a refused call leaves the list");
+    expect(turned(besklaun_turn(held, HELD, 0, 2, 0, 1, seven, 1), 0, 0, false, 0), "it starts its SC");
+    held[BESKLAUN_HELD_BANK(0, 2)] = 6;
+    memcpy(copy, held, sizeof copy);
+    expect(turned(besklaun_turn(held, HELD, 1, 0, 0, 0, NULL, 0), 9, 0, false, 0), "9 before a pass");
+    expect(turned(besklaun_turn(NULL, 0, 1, 0, 0, 3, NULL, 0), 1, 0, false, 3), "a turn on no list is 1");
+    expect(memcmp(copy, held, sizeof copy) == 0, "a refused turn leaves every number");
+}
+
 #define MOIR (BESKLAUN_MOIR_COUNT(2, 1) + 1)
 
 static uint64_t moir[MOIR];
@@ -499,6 +526,7 @@ int main(int count, char **given)
     board_files();
     board_runs();
     held_lists();
+    turns();
     moir_lists();
     if (!wrong) {
         puts("as expected");
