@@ -14,8 +14,8 @@
  * what it leaves there is what its definition says, named at each function, in the folder crates/ of the project.
  * Nothing is kept between calls, so calls from several threads do not disturb each other.
  * Not proved: that the stack suffices. besklaun_run_text and besklaun_trace_text take less than 640 KiB of it,
- * besklaun_run_board less than 128 KiB, the judges less than 64 KiB, the others less than 32 KiB. Where a thread has
- * less, the system ends the process.
+ * besklaun_run_board and the text runs of Moir's bench less than 128 KiB, the judges less than 64 KiB, the others less
+ * than 32 KiB. Where a thread has less, the system ends the process.
  *
  * `number` is 0, or the number of the cause of a refusal (BESKLAUN_NO_SUCH_PROCESS and its like, below).
  */
@@ -147,6 +147,79 @@ struct besklaun_reported_run besklaun_run_text_with_report(const uint8_t *text, 
 struct besklaun_reported_run besklaun_trace_text_with_report(const uint8_t *text, size_t text_count,
                                                              uint8_t *trace, size_t trace_count);
 
+/* The same text on Moir's bench (docs/NOTATION.md), with room as above. Where a WLL names a process its letter is N.
+ * Definition: moir_text_run false text listing, besklaun/specs/MoirTexts and moir_text_model/specs/TextRun. */
+struct besklaun_text_run besklaun_moir_run_text(const uint8_t *text, size_t text_count,
+                                                uint8_t *listing, size_t listing_count);
+
+/* Definition: moir_text_run true text trace. */
+struct besklaun_text_run besklaun_moir_trace_text(const uint8_t *text, size_t text_count,
+                                                  uint8_t *trace, size_t trace_count);
+
+/* The view of a written value: the words of success k, of a record that begins with `value` and to which successes wrote
+ * the values of `written`, w words each, in their order. Success 0 is the value with which it begins. */
+
+struct besklaun_part {
+    uint8_t number; /* 0, or the cause of a refusal: 2, 3, 8 or 15 */
+    bool written;   /* whether the words stand in `written`, else in `value` */
+    size_t start;   /* the first of them */
+    size_t count;   /* how many: w, or 0 where it is refused */
+};
+
+/* Definition: view_told w value written k, besklaun/specs/Views and model/specs/View. */
+struct besklaun_part besklaun_view(size_t w, const uint64_t *value, size_t value_count,
+                                   const uint64_t *written, size_t written_count, size_t k);
+
+/* A season of listings (docs/FRACTIONS.md): the sums of up to 4,096 listings of n processes and w words, in whatever
+ * order. The caller keeps them; numbers that it made otherwise are refused where they are out of their range. */
+
+struct besklaun_sum {
+    uint64_t successes; /* SCs that succeeded */
+    uint64_t scs;       /* SCs answered */
+    uint64_t steps;     /* the steps of all LLs answered */
+    uint64_t lls;       /* LLs answered */
+};
+
+struct besklaun_sums {
+    uint64_t n;
+    uint64_t w;
+    uint64_t taken;               /* how many listings were added */
+    struct besklaun_sum each[16]; /* of each process; those from n on are not looked at */
+};
+
+/* The sums before the first listing.
+ * Definition: empty_sums n w, sums/specs/Season. */
+struct besklaun_sums besklaun_empty_sums(uint64_t n, uint64_t w);
+
+struct besklaun_added {
+    uint8_t number; /* 0, or the cause of a refusal, which leaves the sums: 1, 2, 9, 19 or 18 */
+    size_t at;      /* 18: the place of the first wrong byte; else 0 */
+};
+
+/* A listing added. `season` is aligned for the struct, and read and written.
+ * Definition: adding season listing, besklaun/specs/Seasons. */
+struct besklaun_added besklaun_add_listing(struct besklaun_sums *season, const uint8_t *listing, size_t listing_count);
+
+struct besklaun_fraction {
+    uint64_t over;
+    uint64_t under;
+};
+
+/* Of a process: successful SCs over SCs answered, and LL steps over LLs answered, in lowest terms; 0 over 0 for no call. */
+struct besklaun_row {
+    struct besklaun_fraction successes;
+    struct besklaun_fraction steps;
+};
+
+struct besklaun_fractions {
+    uint8_t number;               /* 0, or the cause of a refusal, whose rows are all 0 over 0: 1, 2 or 9 */
+    struct besklaun_row rows[16]; /* those from n on are 0 over 0 */
+};
+
+/* The table of the sums.
+ * Definition: fractions_of (table season), besklaun/specs/Seasons and sums/specs/Fractions. */
+struct besklaun_fractions besklaun_fractions(const struct besklaun_sums *season);
+
 /* Small schedules (docs/INTERLEAVINGS.md): every way in which processes 0 and 1 can take a and b turns, in dictionary
  * order, process 0 before process 1, with numbers from 0. A turn is a byte, 0 or 1.
  * refusal is 0, or 20 where a or b is above 32, or 21 where the number is not below the count of schedules, or 22
@@ -272,6 +345,67 @@ struct besklaun_told besklaun_held_step(uint64_t *held, size_t held_count, size_
  * Definition: HoldersTold, held_buffers/specs/Places. */
 uint8_t besklaun_held_places(const uint64_t *held, size_t held_count, size_t record,
                              uint64_t *places, size_t place_count);
+
+/* A turn of process 0 or 1 (docs/INTERLEAVINGS.md), whose list has `left` calls: the first of them has this kind (1 an LL, 2
+ * an SC, every other number a VL), names the record and brings an SC's w words. A busy process steps; an idle one starts
+ * that call, which leaves the list even if it is refused, or passes where the list is empty. */
+struct besklaun_turned {
+    struct besklaun_told told; /* what the command told; number is 22 for another process, first of all, then row 9 and those
+                                * before it, for a pass too */
+    bool passed;               /* whether it passed; then `told` has all 0 */
+    size_t left;               /* the calls left on the list */
+};
+
+/* A refusal and a pass leave every number. Row 9 is looked at over the whole list.
+ * Definition: TurnDone, held_turns/specs/TurnTold, by turn_of of turns_model/specs/Turns. */
+struct besklaun_turned besklaun_turn(uint64_t *held, size_t held_count, size_t process, uint8_t kind, size_t record,
+                                     size_t left, const uint64_t *value, size_t value_count);
+
+/* Moir's bench (docs/NOTATION.md) that the caller holds as one list of numbers, as above. */
+
+/* Where each number stands; what a start place has, one after another. */
+#define BESKLAUN_MOIR_N 0
+#define BESKLAUN_MOIR_W 1
+/* the header: tag, process */
+#define BESKLAUN_MOIR_HEADER 2
+/* the tag of segment k */
+#define BESKLAUN_MOIR_TAG(k) (4 + (size_t)(k))
+/* process p: line (0 idle, Figure 6's, and 20 more in the Copy of an SC), word place, count of own steps, the mark of an
+ * answered WLL (0 for none), the tag that it keeps; x, oldhdr, newhdr, h (tag, process); y, z (tag, word) */
+#define BESKLAUN_MOIR_PROCESS(p) (68 + 17 * (size_t)(p))
+/* the words, in rows of w: n of the array A, the segments, n return areas, n offer areas */
+#define BESKLAUN_MOIR_WORDS 340
+/* how many numbers it needs */
+#define BESKLAUN_MOIR_COUNT(n, w) (BESKLAUN_MOIR_WORDS + (3 * (size_t)(n) + 1) * (size_t)(w))
+
+/* A set-up for n processes and w words with the given value of w words. It returns 0, or the number of the refusal, 1, 2,
+ * 3 or 8, which leaves every number. What n and w do not need stays.
+ * Definition: SetUpDone, moir_held_model/specs/HeldCommand, by set_up of moir_model/specs/SetUp. */
+uint8_t besklaun_moir_set_up(uint64_t *held, size_t held_count, size_t n, size_t w,
+                             const uint64_t *value, size_t value_count);
+
+struct besklaun_moir_told {
+    uint8_t number; /* 0, or the cause of a refusal, which leaves every number: 1 to 9 */
+    uint8_t kind;   /* of the call that was answered: 1 a WLL with words, 2 an SC, 3 a VL, 4 a WLL that names a process; 0
+                     * for none */
+    bool truth;     /* what an SC or a VL answered */
+    uint8_t named;  /* the process that a WLL names */
+    size_t count;   /* the call's own steps */
+    size_t at;      /* a WLL's words: held[at], .., held[at + words - 1] */
+    size_t words;
+};
+
+/* A command to a process. The order is 1 to start a WLL, 2 an SC, 3 a VL; every other number is a step. An SC brings w
+ * words, else they are not looked at. Row 9 is looked at over the whole list; a tag above 65,535 is out of its range.
+ * Definition: Commanded, moir_held_model/specs/HeldCommand, by command of moir_model/specs/Command. */
+struct besklaun_moir_told besklaun_moir_command(uint64_t *held, size_t held_count, size_t process, uint8_t order,
+                                                const uint64_t *value, size_t value_count);
+
+/* The same, but row 9 is looked at only for what the command reads. On every list for which row 9 holds of nothing it is
+ * that command.
+ * Definition: SteppedTo, moir_held_model/specs/HeldCommand. */
+struct besklaun_moir_told besklaun_moir_step(uint64_t *held, size_t held_count, size_t process, uint8_t order,
+                                             const uint64_t *value, size_t value_count);
 
 #ifdef __cplusplus
 }

@@ -91,6 +91,13 @@ struct Told {
     words: usize,
 }
 
+#[repr(C)]
+struct Turned {
+    told: Told,
+    passed: bool,
+    left: usize,
+}
+
 type Command = unsafe extern "C" fn(*mut u64, usize, usize, u8, usize, *const u64, usize) -> Told;
 
 extern "C" {
@@ -123,6 +130,17 @@ extern "C" {
         value: *const u64,
         value_count: usize,
     ) -> Told;
+
+    fn besklaun_turn(
+        held: *mut u64,
+        held_count: usize,
+        process: usize,
+        kind: u8,
+        record: usize,
+        left: usize,
+        value: *const u64,
+        value_count: usize,
+    ) -> Turned;
 
     fn besklaun_held_places(
         held: *const u64,
@@ -216,6 +234,10 @@ fn called(
             value.len(),
         )
     };
+    reply(told)
+}
+
+fn reply(told: Told) -> Result<Reply, Refusal> {
     outcome(told.number)?;
     let Told { truth, count, .. } = told;
     Ok(match told.kind {
@@ -227,4 +249,55 @@ fn called(
         3 => Reply::Vl { count, truth },
         _ => Reply::Accepted,
     })
+}
+
+/// A call on a process's list; it names its record.
+#[derive(Clone, Copy, PartialEq, Eq, Debug)]
+pub enum Call<'a> {
+    Ll(usize),
+    Sc(usize, &'a [u64]),
+    Vl(usize),
+}
+
+/// What a turn came to: the reply of the command that it gave, or none where
+/// it passed; and how many calls are left on the list.
+#[derive(Clone, PartialEq, Eq, Debug)]
+pub struct Turn {
+    pub outcome: Result<Option<Reply>, Refusal>,
+    pub left: usize,
+}
+
+/// A turn of process 0 or 1 (docs/INTERLEAVINGS.md) with these calls on its
+/// list: a busy process steps; an idle one starts the first of them, which
+/// leaves the list even if it is refused, or passes where there is none. A
+/// refusal and a pass leave the list of numbers as it was.
+pub fn turn(held: &mut [u64], process: usize, calls: &[Call<'_>]) -> Turn {
+    let (kind, record, value): (u8, usize, &[u64]) = match calls.first() {
+        Some(Call::Ll(record)) => (1, *record, &[]),
+        Some(Call::Sc(record, value)) => (2, *record, value),
+        Some(Call::Vl(record)) => (3, *record, &[]),
+        None => (0, 0, &[]),
+    };
+    // SAFETY: pointer and count are those of slices, and the borrow checker
+    // keeps the two apart
+    let turned = unsafe {
+        besklaun_turn(
+            held.as_mut_ptr(),
+            held.len(),
+            process,
+            kind,
+            record,
+            calls.len(),
+            value.as_ptr(),
+            value.len(),
+        )
+    };
+    let outcome = match turned.passed {
+        true => Ok(None),
+        false => reply(turned.told).map(Some),
+    };
+    Turn {
+        outcome,
+        left: turned.left,
+    }
 }

@@ -5,18 +5,24 @@
 //! A file for each subject, as in `crates/besklaun/src`.
 
 pub mod held;
+pub mod moir;
 
 mod board_files;
 mod logs;
 mod refusals;
 mod schedules;
+mod seasons;
 mod texts;
 mod versions;
+mod views;
 
 pub use board_files::{merge, run_board, BoardRun};
 pub use logs::{judge, judge_with_reason, Object, Reason, Verdict};
 pub use refusals::{NoRefusal, Refusal};
 pub use schedules::{number_for, schedule_after, schedule_for, Schedule};
+pub use seasons::{Fraction, NotAdded, Row, Season, Sum};
+pub use texts::{moir_run_text, moir_trace_text};
 pub use texts::{run_text, run_text_with_report, trace_text, trace_text_with_report};
 pub use texts::{Item, Sizes, Stop, TextRun};
 pub use versions::{version, VERSION};
+pub use views::view;

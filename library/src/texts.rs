@@ -1,5 +1,5 @@
 //! Schedule texts (docs/NOTATION.md), each run on a bench of its own. A run
-//! takes less than 640 KiB of stack.
+//! takes less than 640 KiB of stack, on Moir's bench less than 128 KiB.
 
 use crate::refusals::{number_of, outcome, Refusal};
 
@@ -96,6 +96,8 @@ impl From<Ran> for TextRun {
     }
 }
 
+type Run = unsafe extern "C" fn(*const u8, usize, *mut u8, usize) -> Ran;
+
 extern "C" {
     fn besklaun_run_text(
         text: *const u8,
@@ -124,29 +126,47 @@ extern "C" {
         trace: *mut u8,
         trace_count: usize,
     ) -> Reported;
+
+    fn besklaun_moir_run_text(
+        text: *const u8,
+        text_count: usize,
+        listing: *mut u8,
+        listing_count: usize,
+    ) -> Ran;
+
+    fn besklaun_moir_trace_text(
+        text: *const u8,
+        text_count: usize,
+        trace: *mut u8,
+        trace_count: usize,
+    ) -> Ran;
+}
+
+fn ran(run: Run, text: &[u8], into: &mut [u8]) -> TextRun {
+    // SAFETY: the function is one of those above; pointer and count are those
+    // of slices, and the borrow checker keeps the two apart
+    let ran = unsafe { run(text.as_ptr(), text.len(), into.as_mut_ptr(), into.len()) };
+    ran.into()
 }
 
 /// A text run whose listing goes to the bytes lent, 744 or more.
 pub fn run_text(text: &[u8], listing: &mut [u8]) -> TextRun {
-    // SAFETY: pointer and count are those of slices, and the borrow checker
-    // keeps the two apart
-    let ran = unsafe {
-        besklaun_run_text(
-            text.as_ptr(),
-            text.len(),
-            listing.as_mut_ptr(),
-            listing.len(),
-        )
-    };
-    ran.into()
+    ran(besklaun_run_text, text, listing)
 }
 
 /// The same run with its trace (docs/TRACE.md), 872 bytes or more.
 pub fn trace_text(text: &[u8], trace: &mut [u8]) -> TextRun {
-    // SAFETY: as above
-    let ran =
-        unsafe { besklaun_trace_text(text.as_ptr(), text.len(), trace.as_mut_ptr(), trace.len()) };
-    ran.into()
+    ran(besklaun_trace_text, text, trace)
+}
+
+/// The same text on Moir's bench, with its listing.
+pub fn moir_run_text(text: &[u8], listing: &mut [u8]) -> TextRun {
+    ran(besklaun_moir_run_text, text, listing)
+}
+
+/// The same text on Moir's bench, with its trace.
+pub fn moir_trace_text(text: &[u8], trace: &mut [u8]) -> TextRun {
+    ran(besklaun_moir_trace_text, text, trace)
 }
 
 /// The run with its listing, and where it stopped.

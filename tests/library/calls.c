@@ -145,6 +145,79 @@ static void reports(void)
     expect(said.run.number == 4 && stopped(said.stop, BESKLAUN_STOP_AT_ITEM, 12, 2, 16), "a process above 15 is told as 16");
 }
 
+/* The first two calls of examples/first-steps.txt on Moir's bench: 2W + 1 steps and 6W + 2 (examples/moir). */
+static void moir_texts(void)
+{
+    static const uint8_t given[] = "2 1 5\n0l 0! 0s7 0!\n";
+    static const char listing[] = "0 L 3 5\n0 S 8 1\nend 13\n";
+    memset(lent, BEFORE, sizeof lent);
+    expect(ran(besklaun_moir_run_text(given, 6, NULL, 0), 14, 0, 0), "Moir: no listing at all is 14");
+    expect(ran(besklaun_moir_trace_text(given, 6, lent, 871), 14, 0, 0), "Moir: 871 bytes are too few for a trace");
+    expect(stays(0), "Moir: a refusal with 14 writes nothing");
+    expect(ran(besklaun_moir_trace_text(given, 6, lent, 872), 0, 0, 6), "Moir: the trace of no entries");
+    expect(ran(besklaun_moir_run_text(given, sizeof given - 1, lent, sizeof lent), 0, 13, sizeof listing - 1), "Moir: a run");
+    expect(memcmp(lent, listing, sizeof listing - 1) == 0 && stays(sizeof listing - 1), "Moir: its listing");
+    memset(lent, BEFORE, sizeof lent);
+    expect(ran(besklaun_moir_run_text(NULL, 0, lent, 744), 10, 0, 13), "Moir: no text is 10");
+    expect(memcmp(lent, "refused 10 0\n", 13) == 0 && stays(13), "Moir: the listing of no text");
+}
+
+static bool part(struct besklaun_part said, unsigned number, bool written, size_t start, size_t count)
+{
+    return said.number == number && said.written == written && said.start == start && said.count == count;
+}
+
+static void views(void)
+{
+    static const uint64_t first[] = {1, 2}, written[] = {3, 4, 5, 6};
+    expect(part(besklaun_view(2, first, 2, written, 4, 0), 0, false, 0, 2), "success 0 is the value");
+    expect(part(besklaun_view(2, first, 2, written, 4, 1), 0, true, 0, 2), "success 1 is the list's first");
+    expect(part(besklaun_view(2, first, 2, written, 4, 2), 0, true, 2, 2), "success 2 is its second");
+    expect(part(besklaun_view(2, first, 2, written, 4, 3), 15, false, 0, 0), "there is no success 3");
+    expect(part(besklaun_view(2, first, 2, NULL, 0, SIZE_MAX), 15, false, 0, 0), "nor any of no list but 0");
+    expect(part(besklaun_view(2, first, 2, NULL, 0, 0), 0, false, 0, 2), "success 0 of no list");
+    expect(part(besklaun_view(2, first, 2, written, 3, 0), 3, false, 0, 0), "a list of no whole values is 3");
+    expect(part(besklaun_view(2, NULL, 0, written, 4, 0), 8, false, 0, 0), "no value is 8");
+    expect(part(besklaun_view(SIZE_MAX, NULL, 0, NULL, 0, 0), 2, false, 0, 0), "too many words are 2");
+}
+
+static bool fraction(struct besklaun_fraction f, uint64_t over, uint64_t under)
+{
+    return f.over == over && f.under == under;
+}
+
+static bool taken(struct besklaun_added said, unsigned number, size_t at)
+{
+    return said.number == number && said.at == at;
+}
+
+static void seasons(void)
+{
+    static const uint8_t one[] = "0 L 10 5\n0 S 6 1\nend 18\n", two[] = "0 L 14 5\n0 S 6 0\nend 22\n";
+    struct besklaun_sums season = besklaun_empty_sums(2, 1), copy;
+    struct besklaun_fractions table = besklaun_fractions(&season);
+    expect(table.number == 0 && fraction(table.rows[0].steps, 0, 0), "no listing has 0 over 0");
+    expect(taken(besklaun_add_listing(&season, one, sizeof one - 1), 0, 0), "a listing");
+    expect(taken(besklaun_add_listing(&season, two, sizeof two - 1), 0, 0), "and another");
+    copy = season;
+    expect(taken(besklaun_add_listing(&season, one, sizeof one - 2), 18, sizeof one - 2), "its last line feed is missing");
+    expect(taken(besklaun_add_listing(&season, NULL, 0), 18, 0), "no bytes are 18");
+    expect(memcmp(&copy, &season, sizeof copy) == 0, "what is not taken leaves the sums");
+    table = besklaun_fractions(&season);
+    expect(table.number == 0 && season.taken == 2, "two listings");
+    expect(fraction(table.rows[0].successes, 1, 2) && fraction(table.rows[0].steps, 12, 1), "1 of 2 SCs, 24 steps of 2 LLs");
+    expect(fraction(table.rows[1].successes, 0, 0) && fraction(table.rows[15].steps, 0, 0), "the others have 0 over 0");
+    season.taken = 4096;
+    expect(taken(besklaun_add_listing(&season, one, sizeof one - 1), 19, 0), "4,096 listings are enough");
+    season.each[1].lls = UINT64_MAX;
+    table = besklaun_fractions(&season);
+    expect(table.number == 9 && fraction(table.rows[0].successes, 0, 0), "a sum that is too large is 9");
+    season.n = 0;
+    expect(besklaun_fractions(&season).number == 1, "no process is 1");
+    season = besklaun_empty_sums(1, 65);
+    expect(taken(besklaun_add_listing(&season, one, sizeof one - 1), 2, 0), "65 words are 2");
+}
+
 static bool found(struct besklaun_found_turns said, unsigned refusal, size_t count)
 {
     return said.refusal == refusal && said.count == count;
@@ -363,6 +436,110 @@ static void held_lists(void)
     expect(memcmp(copy, held, sizeof copy) == 0, "a refusal leaves every number");
 }
 
+static bool turned(struct besklaun_turned said, unsigned number, unsigned kind, bool passed, size_t left)
+{
+    return said.told.number == number && said.told.kind == kind && said.passed == passed && said.left == left;
+}
+
+/* process 0 has an LL and an SC of 7 on its list, process 1 nothing */
+static void turns(void)
+{
+    static const uint64_t seven[] = {7};
+    uint64_t copy[HELD];
+    expect(besklaun_held_set_up(held, HELD, 2, 1, 1, value, 1) == 0, "a set-up for turns");
+    expect(turned(besklaun_turn(held, HELD, 1, 0, 0, 0, NULL, 0), 0, 0, true, 0), "process 1 passes");
+    expect(turned(besklaun_turn(held, HELD, 2, 1, 0, 2, NULL, 0), 22, 0, false, 2), "a turn of process 2 is 22");
+    expect(turned(besklaun_turn(held, HELD, 0, 1, 0, 2, NULL, 0), 0, 0, false, 1), "process 0 starts its LL");
+    for (size_t step = 1; step < 10; step++) {
+        expect(turned(besklaun_turn(held, HELD, 0, 2, 0, 1, seven, 1), 0, 0, false, 1), "it steps");
+    }
+    expect(turned(besklaun_turn(held, HELD, 0, 2, 0, 1, seven, 1), 0, 1, false, 1), "it answers after 10");
+    expect(turned(besklaun_turn(held, HELD, 0, 2, 1, 1, seven, 1), 24, 0, false, 0), "a refused call leaves the list");
+    expect(turned(besklaun_turn(held, HELD, 0, 2, 0, 1, seven, 1), 0, 0, false, 0), "it starts its SC");
+    held[BESKLAUN_HELD_BANK(0, 2)] = 6;
+    memcpy(copy, held, sizeof copy);
+    expect(turned(besklaun_turn(held, HELD, 1, 0, 0, 0, NULL, 0), 9, 0, false, 0), "9 before a pass");
+    expect(turned(besklaun_turn(NULL, 0, 1, 0, 0, 3, NULL, 0), 1, 0, false, 3), "a turn on no list is 1");
+    expect(memcmp(copy, held, sizeof copy) == 0, "a refused turn leaves every number");
+}
+
+#define MOIR (BESKLAUN_MOIR_COUNT(2, 1) + 1)
+
+static uint64_t moir[MOIR];
+
+/* a call of process p, to its end */
+static struct besklaun_moir_told moir_to_its_end(size_t p, uint8_t order, const uint64_t *words)
+{
+    struct besklaun_moir_told told = besklaun_moir_step(moir, MOIR, p, order, words, words ? 1 : 0);
+    while (told.number == 0 && told.kind == 0) {
+        told = besklaun_moir_step(moir, MOIR, p, 0, NULL, 0);
+    }
+    return told;
+}
+
+static bool moir_answered(struct besklaun_moir_told told, unsigned kind, size_t count, bool truth)
+{
+    return told.number == 0 && told.kind == kind && told.count == count && told.truth == truth;
+}
+
+static void moir_lists(void)
+{
+    static const uint64_t seven[] = {7, 9};
+    uint64_t copy[MOIR];
+    for (size_t k = 0; k < MOIR; k++) {
+        moir[k] = UINT64_MAX - k;
+    }
+    memcpy(copy, moir, sizeof copy);
+    expect(besklaun_moir_set_up(moir, MOIR, 17, 1, value, 1) == 1, "Moir: N = 17 is 1");
+    expect(besklaun_moir_set_up(moir, MOIR, 2, 0, value, 1) == 2, "Moir: W = 0 is 2");
+    expect(besklaun_moir_set_up(moir, MOIR - 2, 2, 1, value, 1) == 3, "Moir: a list one number short is 3");
+    expect(besklaun_moir_set_up(NULL, 0, 2, 1, value, 1) == 3, "Moir: no list is 3");
+    expect(besklaun_moir_set_up(moir, MOIR, 2, 1, NULL, 0) == 8, "Moir: no value is 8");
+    expect(besklaun_moir_command(NULL, 0, 0, 1, NULL, 0).number == 1, "Moir: a command to no list is 1");
+    expect(besklaun_moir_step(moir, MOIR, 0, 1, NULL, 0).number == 1, "Moir: a step of any numbers is refused");
+    expect(memcmp(copy, moir, sizeof copy) == 0, "Moir: a refusal leaves every number");
+
+    expect(besklaun_moir_set_up(moir, MOIR, 2, 1, value, 1) == 0, "Moir: a set-up");
+    expect(moir[MOIR - 1] == copy[MOIR - 1], "Moir: the number behind the words stays");
+    expect(moir[BESKLAUN_MOIR_TAG(1)] == copy[BESKLAUN_MOIR_TAG(1)], "Moir: a tag that W does not need stays");
+    expect(moir[BESKLAUN_MOIR_PROCESS(2)] == copy[BESKLAUN_MOIR_PROCESS(2)], "Moir: a process that N does not need stays");
+    expect(moir[BESKLAUN_MOIR_WORDS] == 5 && moir[BESKLAUN_MOIR_WORDS + 2] == 5, "Moir: A[0] and the segment are the value");
+    expect(besklaun_moir_step(moir, MOIR, 2, 1, NULL, 0).number == 4, "Moir: process 2 is 4");
+    expect(besklaun_moir_step(moir, MOIR, 0, 2, seven, 2).number == 8, "Moir: two words are 8");
+    expect(besklaun_moir_step(moir, MOIR, 0, 0, NULL, 0).number == 6, "Moir: a step of an idle process is 6");
+    expect(besklaun_moir_step(moir, MOIR, 0, 3, NULL, 0).number == 7, "Moir: a VL before any WLL is 7");
+
+    /* examples/moir/first-steps.listing */
+    struct besklaun_moir_told told = moir_to_its_end(0, 1, NULL);
+    expect(moir_answered(told, 1, 3, false) && told.words == 1 && moir[told.at] == 5, "Moir: 0 L 3 5");
+    expect(moir_answered(moir_to_its_end(0, 2, seven), 2, 8, true), "Moir: 0 S 8 1");
+    expect(moir[BESKLAUN_MOIR_HEADER] == 1 && moir[BESKLAUN_MOIR_HEADER + 1] == 0, "Moir: the header is (1, 0)");
+    told = moir_to_its_end(1, 1, NULL);
+    expect(moir_answered(told, 1, 3, false) && moir[told.at] == 7, "Moir: 1 L 3 7");
+    expect(moir_answered(moir_to_its_end(0, 3, NULL), 3, 1, false), "Moir: 0 V 1 0");
+
+    /* process 1's WLL has read the header, then process 0 writes: it names process 0 */
+    moir_to_its_end(0, 1, NULL);
+    expect(besklaun_moir_command(moir, MOIR, 1, 1, NULL, 0).number == 0, "Moir: a start");
+    expect(besklaun_moir_command(moir, MOIR, 1, 1, NULL, 0).number == 5, "Moir: a start of a busy process is 5");
+    expect(besklaun_moir_command(moir, MOIR, 1, 0, NULL, 0).number == 0, "Moir: line 10");
+    expect(moir_answered(moir_to_its_end(0, 2, seven), 2, 8, true), "Moir: process 0 writes");
+    do {
+        told = besklaun_moir_command(moir, MOIR, 1, 0, NULL, 0);
+    } while (told.number == 0 && told.kind == 0);
+    expect(told.kind == 4 && told.named == 0 && told.words == 0, "Moir: the WLL names process 0");
+
+    memcpy(copy, moir, sizeof copy);
+    moir[BESKLAUN_MOIR_PROCESS(1) + 4] = 65536;
+    expect(besklaun_moir_command(moir, MOIR, 0, 1, NULL, 0).number == 9, "Moir: a tag of 65,536 is 9");
+    expect(besklaun_moir_step(moir, MOIR, 0, 1, NULL, 0).number == 0, "Moir: a step of process 0 does not look there");
+    memcpy(moir, copy, sizeof copy);
+    moir[BESKLAUN_MOIR_HEADER + 1] = 2;
+    expect(besklaun_moir_step(moir, MOIR, 0, 1, NULL, 0).number == 9, "Moir: a header of process 2 is 9");
+    moir[BESKLAUN_MOIR_HEADER + 1] = copy[BESKLAUN_MOIR_HEADER + 1];
+    expect(memcmp(copy, moir, sizeof copy) == 0, "Moir: a refusal leaves every number");
+}
+
 int main(int count, char **given)
 {
     if (count > 1) {
@@ -372,10 +549,15 @@ int main(int count, char **given)
     reasons();
     texts();
     reports();
+    moir_texts();
+    views();
+    seasons();
     schedules();
     board_files();
     board_runs();
     held_lists();
+    turns();
+    moir_lists();
     if (!wrong) {
         puts("as expected");
     }

@@ -11,6 +11,7 @@ mod whole;
 pub use whole::read_listing;
 
 // What one process's answers add up to: SCs that succeeded, SCs answered, the steps of all LLs, and LLs answered.
+#[repr(C)]
 #[derive(Clone, Copy, PartialEq, Eq)]
 pub struct Sum {
     pub successes: u64,

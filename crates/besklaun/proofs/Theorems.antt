@@ -2,7 +2,7 @@
 use mathlib.Core.Path.{◌≡◌, refl, ap, ◌∙◌}
 use mathlib.Core.List.{List}
 use mathlib.Core.Bool.{Bool, true, false}
-use Prim.Native.Nat.{ℕ, ◌≤◌, ◌*◌}
+use Prim.Native.Nat.{ℕ, ◌≤◌, ◌*◌, ◌+◌}
 use native.Mathlib.Nat.{mul-le-mul}
 use native.Mathlib.Omega.{arith}
 use lib.Dec.{leb}
@@ -12,6 +12,8 @@ use Rattle.notation.specs.Grammar.{Said}
 use Rattle.notation.specs.Readings.{right}
 use Rattle.notation.specs.FirstLine.{read}
 use Rattle.model.specs.SetUp.{set_up_refusal}
+use Rattle.moir_model.specs.SetUp.{set_up_refusal as moir_set_up_refusal}
+use Rattle.moir_text_machine.specs.TextRan.{at_start}
 use Rattle.besklaun.specs.OwnBench.{narrow, words_for, words_of, own_memory, own_words}
 
 rows : {n : ℕ} → n ≤ 16 → 5 * n ≤ 80
@@ -38,3 +40,14 @@ pub own_bench_has_room : (text : List ℕ) (a : Said) (value : List ℕ) → rea
 own_bench_has_room text a value reads some few words most whole =
     ap (λ (ws : List ℕ). set_up_refusal (own_memory ws) a.n a.w value) (ap words_of reads)
     ∙ words_have_room a.n a.w value some few words most whole
+
+-- nor on Moir's bench
+moir_rows : {n : ℕ} → n ≤ 16 → 3 * n + 1 ≤ 49
+moir_rows few = omega (arith, few)
+
+pub moir_bench_has_room : (n w : ℕ) (value : List ℕ) → 1 ≤ n → n ≤ 16 → 1 ≤ w → w ≤ 64 → length value ≡ w →
+    moir_set_up_refusal at_start n w value ≡ 0
+unfolding moir_set_up_refusal
+moir_bench_has_room n w value some few words most whole =
+    let lent = le-ltb 3136 ((3 * n + 1) * w) (mul-le-mul (moir_rows few) most) in
+    simp (le-leb 1 n some, le-leb n 16 few, le-leb 1 w words, le-leb w 64 most, lent, le-ltb 16 n few, eq-eqb (length value) w whole)

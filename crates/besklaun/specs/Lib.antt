@@ -1,6 +1,9 @@
 pub mod BoardRuns
 pub mod Judgements
+pub mod MoirTexts
 pub mod OwnBench
+pub mod Seasons
 pub mod TextReports
 pub mod TurnBytes
 pub mod Version
+pub mod Views

@@ -5,7 +5,9 @@ use Rattle.model.specs.Machine.{Memory}
 use Rattle.model.specs.SetUp.{empty_bench}
 use Rattle.notation.specs.Readings.{Reading, right, wrong}
 use Rattle.notation.proofs.ReadingLaws.{reader}
-use Rattle.text_model.specs.TextRun.{Ended, run_with}
+use Rattle.text_model.specs.TextRun.{run_with}
+use Rattle.text_runs.specs.Machines.{Machine}
+use Rattle.text_runs.specs.TextRun.{Ended}
 use Rattle.text_runs.specs.declared.returned.TextRun.{TextRun}
 
 -- 5NW words for N = 16 and W = 64, enough for every text; and for N = 16 and W = 8
@@ -36,7 +38,7 @@ own_memory words = record { bench = empty_bench; records = replicate 16 no_proce
 
 -- 01: "Every text run returns a number (0 at `end`), the entries done and the count of listing bytes written." The
 -- caller sees these and the bytes that it lent, and nothing of the bench.
-abbrev pub seen : Ended → TextRun × List ℕ
+abbrev pub seen : {x : Machine} → Ended x → TextRun × List ℕ
 seen e = (record { number = e.number; entries = e.entries; written = e.written }, e.listing)
 
 -- a text run on a bench with these words

@@ -2,8 +2,10 @@
 // Kept: number by number, as the C library's header declares them.
 ghost use Rattle.held_model.specs.HeldCommand.{SetUpDone, order_of, Commanded, SteppedTo};
 ghost use Rattle.held_buffers.specs.Places.{HoldersTold};
+ghost use Rattle.held_turns.specs.TurnTold.{next_named, TurnDone};
 
 use held_model::Told;
+use held_turns::HeldTurn;
 
 // A set-up for n processes, w words and r records with the given value: the number of its refusal, 0 for none.
 pub fn besklaun_held_set_up(held: &mut [u64], n: usize, w: usize, r: usize, value: &[u64]) -> u8
@@ -45,4 +47,18 @@ pub fn besklaun_held_places(held: &[u64], on: usize, places: &mut [u64]) -> u8
     ensures { HoldersTold held.now on places.old result places.new }
 {
     held_buffers::telling::tell(held, on, places)
+}
+
+// A turn of process 0 or 1 (02, CR 5): so many calls are left on its list, the first of this kind.
+pub fn besklaun_turn(
+    held: &mut [u64],
+    process: usize,
+    kind: u8,
+    on: usize,
+    left: usize,
+    value: &[u64],
+) -> HeldTurn
+    ensures { TurnDone held.old process (next_named kind on) value.now left result held.new }
+{
+    held_turns::turning::turn(held, process, kind, on, left, value)
 }

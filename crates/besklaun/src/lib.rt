@@ -7,6 +7,10 @@
 pub mod board_files;
 pub mod held_lists;
 pub mod logs;
+pub mod moir_lists;
+pub mod moir_texts;
 pub mod schedules;
+pub mod seasons;
 pub mod texts;
 pub mod versions;
+pub mod views;

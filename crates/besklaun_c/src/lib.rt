@@ -8,23 +8,38 @@ ghost use Rattle.std.specs.Prelude.{◌≡◌, true, false};
 ghost use Rattle.boards.specs.Merging.{merge_files};
 ghost use Rattle.held_model.specs.HeldCommand.{SetUpDone, order_of, Commanded, SteppedTo};
 ghost use Rattle.held_buffers.specs.Places.{HoldersTold};
+ghost use Rattle.held_turns.specs.TurnTold.{next_named, TurnDone};
+ghost use Rattle.held_model.specs.Told.{order_named};
+ghost use Rattle.moir_held_model.specs.HeldCommand.{SetUpDone as MoirSetUpDone, Commanded as MoirCommanded, SteppedTo as MoirSteppedTo};
 ghost use Rattle.verdicts.specs.Verdicts.{judged};
 ghost use Rattle.verdicts.specs.Reasons.{judged_with_reason};
 ghost use Rattle.enumeration.specs.Replies.{found_for, numbered_for, following_for};
 ghost use Rattle.besklaun.specs.BoardRuns.{board_run};
 ghost use Rattle.besklaun.specs.Judgements.{judgement_of, reasoned_of};
+ghost use Rattle.besklaun.specs.MoirTexts.{moir_text_run};
 ghost use Rattle.besklaun.specs.OwnBench.{text_run};
+ghost use Rattle.besklaun.specs.Seasons.{adding, fractions_of};
 ghost use Rattle.besklaun.specs.TextReports.{Reported};
 ghost use Rattle.besklaun.specs.TurnBytes.{schedule_into, number_told, after_into};
 ghost use Rattle.besklaun.specs.Version.{version_number};
+ghost use Rattle.besklaun.specs.Views.{view_told};
+ghost use Rattle.sums.specs.Season.{empty_sums};
+ghost use Rattle.sums.specs.Fractions.{table};
 
 use besklaun::board_files::BoardRun;
 use besklaun::logs::{Judgement, Reasoned};
 use besklaun::schedules::{FoundTurns, TurnsAfter, TurnsNumber};
 use besklaun::texts::{ReportedRun, TextRun};
-use besklaun::{board_files, held_lists, logs, schedules, texts, versions};
+use besklaun::seasons::{Added, Fractions};
+use besklaun::views::View;
+use besklaun::{
+    board_files, held_lists, logs, moir_lists, moir_texts, schedules, seasons, texts, versions, views,
+};
 use boards::Merged;
 use held_model::Told;
+use held_turns::HeldTurn;
+use moir_held_model::Told as MoirTold;
+use sums::Sums;
 
 #[unsafe(no_mangle)]
 pub extern "C" fn besklaun_version() -> u32
@@ -82,6 +97,54 @@ pub extern "C" fn besklaun_trace_text_with_report(text: &[u8], trace: &mut [u8])
     ensures { Reported true text.now trace.old result trace.new }
 {
     texts::besklaun_trace_text_with_report(text, trace)
+}
+
+// The same on Moir's bench.
+
+#[unsafe(no_mangle)]
+pub extern "C" fn besklaun_moir_run_text(text: &[u8], listing: &mut [u8]) -> TextRun
+    ensures { (result, listing.new) ≡ moir_text_run false text.now listing.old }
+{
+    moir_texts::besklaun_moir_run_text(text, listing)
+}
+
+#[unsafe(no_mangle)]
+pub extern "C" fn besklaun_moir_trace_text(text: &[u8], trace: &mut [u8]) -> TextRun
+    ensures { (result, trace.new) ≡ moir_text_run true text.now trace.old }
+{
+    moir_texts::besklaun_moir_trace_text(text, trace)
+}
+
+// The view of a written value.
+
+#[unsafe(no_mangle)]
+pub extern "C" fn besklaun_view(w: usize, value: &[u64], written: &[u64], k: usize) -> View
+    ensures { result ≡ view_told w value.now written.now k }
+{
+    views::besklaun_view(w, value, written, k)
+}
+
+// A season of listings (02, CR 2).
+
+#[unsafe(no_mangle)]
+pub extern "C" fn besklaun_empty_sums(n: u64, w: u64) -> Sums
+    ensures { result ≡ empty_sums n w }
+{
+    seasons::besklaun_empty_sums(n, w)
+}
+
+#[unsafe(no_mangle)]
+pub extern "C" fn besklaun_add_listing(season: &mut Sums, listing: &[u8]) -> Added
+    ensures { (result, season.new) ≡ adding season.old listing.now }
+{
+    seasons::besklaun_add_listing(season, listing)
+}
+
+#[unsafe(no_mangle)]
+pub extern "C" fn besklaun_fractions(season: &Sums) -> Fractions
+    ensures { result ≡ fractions_of (table season.now) }
+{
+    seasons::besklaun_fractions(season)
 }
 
 // Small schedules (02, CR 5): to C a schedule is the bytes of its turns.
@@ -180,4 +243,51 @@ pub extern "C" fn besklaun_held_places(held: &[u64], on: usize, places: &mut [u6
     ensures { HoldersTold held.now on places.old result places.new }
 {
     held_lists::besklaun_held_places(held, on, places)
+}
+
+#[unsafe(no_mangle)]
+pub extern "C" fn besklaun_turn(
+    held: &mut [u64],
+    process: usize,
+    kind: u8,
+    on: usize,
+    left: usize,
+    value: &[u64],
+) -> HeldTurn
+    ensures { TurnDone held.old process (next_named kind on) value.now left result held.new }
+{
+    held_lists::besklaun_turn(held, process, kind, on, left, value)
+}
+
+// Moir's bench that a caller holds as one list of numbers.
+
+#[unsafe(no_mangle)]
+pub extern "C" fn besklaun_moir_set_up(held: &mut [u64], n: usize, w: usize, value: &[u64]) -> u8
+    ensures { MoirSetUpDone held.old n w value.now result held.new }
+{
+    moir_lists::besklaun_moir_set_up(held, n, w, value)
+}
+
+#[unsafe(no_mangle)]
+pub extern "C" fn besklaun_moir_command(
+    held: &mut [u64],
+    process: usize,
+    order: u8,
+    value: &[u64],
+) -> MoirTold
+    ensures { MoirCommanded held.old process (order_named order) value.now result held.new }
+{
+    moir_lists::besklaun_moir_command(held, process, order, value)
+}
+
+#[unsafe(no_mangle)]
+pub extern "C" fn besklaun_moir_step(
+    held: &mut [u64],
+    process: usize,
+    order: u8,
+    value: &[u64],
+) -> MoirTold
+    ensures { MoirSteppedTo held.old process (order_named order) value.now result held.new }
+{
+    moir_lists::besklaun_moir_step(held, process, order, value)
 }

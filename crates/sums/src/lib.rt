@@ -18,6 +18,7 @@ use std::fmt::{Display, Formatter};
 
 // The sums of the listings taken so far, of n processes and w words. Those of processes not below n are never looked
 // at.
+#[repr(C)]
 #[derive(Clone, Copy, PartialEq, Eq)]
 pub struct Sums {
     pub n: u64,
@@ -56,6 +57,7 @@ impl From<Refusal> for NotAdded {
 }
 
 // `over` parts of `under`.
+#[repr(C)]
 #[derive(Clone, Copy)]
 pub struct Fraction {
     pub over: u64,
@@ -72,6 +74,7 @@ impl Display for Fraction {
 }
 
 // The fractions of a process: successful SCs over SCs answered, and LL steps over LLs answered.
+#[repr(C)]
 #[derive(Clone, Copy)]
 pub struct Row {
     pub successes: Fraction,

@@ -42,7 +42,7 @@ impl Fraction {
 
 impl Row {
     // A row of 0 over 0.
-    const NONE: Row = Row {
+    pub const NONE: Row = Row {
         successes: Fraction::NONE,
         steps: Fraction::NONE,
     };

@@ -17,12 +17,12 @@ module _ (s : StationMemory) (p : ℕ) where
   tells a = (turn_number a.reply, turn_says a.memory p a.reply)
 
   module _ (calls : List ListedCall) where
-    another_turn : 1 < p → turn s p calls ≡ turn_refused 22 s calls
+    pub another_turn : 1 < p → turn s p calls ≡ turn_refused 22 s calls
     unfolding turn
     another_turn h = simp (lt-ltb 1 p h)
 
     module _ (low : p ≤ 1) where
-      refused_turn_is : (lent_refusal s ≡ 0 → ⊥) → turn s p calls ≡ turn_refused (lent_refusal s) s calls
+      pub refused_turn_is : (lent_refusal s ≡ 0 → ⊥) → turn s p calls ≡ turn_refused (lent_refusal s) s calls
       unfolding turn
       refused_turn_is n = simp (le-ltb 1 p low, ne_eqb (lent_refusal s) 0 n)
 
@@ -30,10 +30,10 @@ module _ (s : StationMemory) (p : ℕ) where
       unfolding turn
       given_turn e = simp (le-ltb 1 p low, eq-eqb (lent_refusal s) 0 e)
 
-      busy_turn : lent_refusal s ≡ 0 → counts_as_idle s p ≡ false → turn s p calls ≡ turn_commands s (step_by p) calls
+      pub busy_turn : lent_refusal s ≡ 0 → counts_as_idle s p ≡ false → turn s p calls ≡ turn_commands s (step_by p) calls
       busy_turn e b = given_turn e ∙ ap (λ t. cond t (idle_turn s p calls) (turn_commands s (step_by p) calls)) b
 
-      idle_turn_is : lent_refusal s ≡ 0 → counts_as_idle s p ≡ true → turn s p calls ≡ idle_turn s p calls
+      pub idle_turn_is : lent_refusal s ≡ 0 → counts_as_idle s p ≡ true → turn s p calls ≡ idle_turn s p calls
       idle_turn_is e b = given_turn e ∙ ap (λ t. cond t (idle_turn s p calls) (turn_commands s (step_by p) calls)) b
 
 pub every_turn_says : EveryTurnSays

@@ -1,0 +1,5 @@
+pub mod NearBench
+pub mod MemoryAfter
+pub mod ObeyLaws
+pub mod SteppingLaws
+pub mod SettingLaws

@@ -1,0 +1,5 @@
+pub mod RangeFits
+pub mod ListLaws
+pub mod NearRowLaws
+pub mod WholeLaws
+pub mod NearLaws
