@@ -17,7 +17,7 @@ use Rattle.held_machine.specs.Writes.{x_numbers, bank_numbers, help_numbers, hol
 abbrev pub Off : ℕ → ℕ → ℕ → Type 0
 Off a c k = a ≤ k → k < a + c → ⊥
 
-truth_back : (t : Bool) → not (eqb (cond t 1 0) 0) ≡ t
+pub truth_back : (t : Bool) → not (eqb (cond t 1 0) 0) ≡ t
 truth_back true = refl
 truth_back false = refl
 

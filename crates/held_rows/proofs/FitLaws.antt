@@ -16,7 +16,7 @@ use Rattle.laws.proofs.Updates.{contra}
 use Rattle.serving.proofs.RefusalFacts.{and_true}
 use Rattle.held_rows.specs.Reads.{XFits, BankFits, HelpFits, ProcessFits}
 
-below : (k a m : ℕ) (rest : Bool) (t : Bool) → eqb k a ≡ t → a ≤ m → (rest ≡ true → k ≤ m) → t || rest ≡ true → k ≤ m
+pub below : (k a m : ℕ) (rest : Bool) (t : Bool) → eqb k a ≡ t → a ≤ m → (rest ≡ true → k ≤ m) → t || rest ≡ true → k ≤ m
 below k a m rest true t h f e = omega (arith, eqb-true k a t, h)
 below k a m rest false t h f e = f e
 

@@ -61,14 +61,14 @@ four_passed a b c d rest e =
     over a 1 ca.0 (over b 2 cb.0 (over c 23 cc.0 (over d 3 cd.0 refl)))
 
 -- row 9 refuses where it holds; where it does not, the list is in range
-abbrev nine : Bool → ℕ → ℕ
+abbrev pub nine : Bool → ℕ → ℕ
 nine t rest = cond (not t) 9 rest
 
-row_9 : (t : Bool) (rest : ℕ) → (nine t 0 ≡ 0 → ⊥) → nine t 0 ≡ nine t rest
+pub row_9 : (t : Bool) (rest : ℕ) → (nine t 0 ≡ 0 → ⊥) → nine t 0 ≡ nine t rest
 row_9 true rest h = absurd (h refl)
 row_9 false rest h = refl
 
-and_same : (a x y : Bool) → (a ≡ true → x ≡ y) → a && x ≡ a && y
+pub and_same : (a x y : Bool) → (a ≡ true → x ≡ y) → a && x ≡ a && y
 and_same true x y f = f refl
 and_same false x y f = refl
 

@@ -20,15 +20,8 @@ use Rattle.moir_model.specs.Machine.{Memory}
 use Rattle.moir_held_model.specs.Layout.{header_place, tag_place, process_place, words_place}
 use Rattle.moir_held_model.specs.Memory.{header_from, process_from, tag_from, memory_of}
 use Rattle.moir_held_model.proofs.MemoryLaws.{process_same}
+use Rattle.held_machine.proofs.WrittenLaws.{Off, truth_back}
 use Rattle.moir_held_machine.specs.Writes.{header_numbers, process_numbers, written}
-
--- i is none of the c numbers from a on
-abbrev Off : ℕ → ℕ → ℕ → Type 0
-Off a c i = a ≤ i → i < a + c → ⊥
-
-truth_back : (t : Bool) → not (eqb (cond t 1 0) 0) ≡ t
-truth_back true = refl
-truth_back false = refl
 
 -- a memory, part by part
 abbrev mk : ℕ → ℕ → Header → List ℕ → List Process → List ℕ → Memory

@@ -26,6 +26,7 @@ use Rattle.moir_held_model.specs.Memory.{process_from, tag_from, memory_of}
 use Rattle.moir_held_model.specs.HeldCommand.{SetUpDone}
 use Rattle.moir_held_model.proofs.MemoryLaws.{process_same, sixteen}
 use Rattle.moir_held_machine.specs.Setting.{head_set, WordsSet, Room}
+use Rattle.held_machine.proofs.WrittenLaws.{Off}
 use Rattle.moir_held_machine.proofs.MemoryAfter.{parts}
 
 -- the first k of them the same
@@ -45,10 +46,6 @@ tab_first {A} f g c k v d h first rest =
     at i m false e =
         let b : k ≤ i = ltb-false i k e in
         rest i b m ∙ sym (above d (map f (numbers 0 c)) (replicate k v) 0 i (omega (arith, b, run)) ∙ tab_at f c i d m)
-
--- i is none of the c numbers from a on
-abbrev Off : ℕ → ℕ → ℕ → Type 0
-Off a c i = a ≤ i → i < a + c → ⊥
 
 module _ (l : List ℕ) (n w : ℕ) (n_in : n ≤ 16) (w_in : w ≤ 64) (long : words_place ≤ length l) where
   abbrev head : List ℕ

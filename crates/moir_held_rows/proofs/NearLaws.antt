@@ -12,6 +12,7 @@ use Rattle.llsc.specs.declared.Order.{Order}
 use Rattle.llsc.specs.Rows.{first, every, row1, row2, row4, row8}
 use Rattle.laws.proofs.ListLaws.{every_at}
 use Rattle.serving.proofs.RefusalFacts.{and_true, or_false, inside}
+use Rattle.station_rows.proofs.StationRowLaws.{same_row}
 use Rattle.moir_model.specs.declared.Process.{Process}
 use Rattle.moir_model.specs.declared.Reply.{Reply}
 use Rattle.moir_model.specs.declared.Reply.TheVariants.{Refused}
@@ -22,7 +23,6 @@ use Rattle.moir_model.specs.Command.{obeyed, refusal, command}
 use Rattle.moir_held_model.specs.Ranges.{tag_ok, header_whole, process_whole, held_in_range, held_refusal, held_command, touched_ok, near_refusal, near_command}
 use Rattle.moir_held_model.proofs.RangeLaws.{in_range_all}
 use Rattle.moir_held_rows.proofs.ListLaws.{whole_ranges}
-use Rattle.moir_held_rows.proofs.NearRowLaws.{same_row}
 
 module _ (m : Memory) (shaped : Shaped m) (in_all : held_in_range m ≡ true) (p : ℕ) (o : Order) (v : List ℕ) where
   abbrev n : ℕ

@@ -12,7 +12,9 @@ use Rattle.llsc.specs.Rows.{first, brings_value, row1, row2, row4, row8}
 use Rattle.laws.proofs.Updates.{contra}
 use Rattle.serving.proofs.RefusalFacts.{and_true}
 use Rattle.rows.proofs.RowLaws.{over, cleared}
+use Rattle.station_rows.proofs.StationRowLaws.{same_row}
 use Rattle.held_model.specs.Memory.{number_at}
+use Rattle.held_rows.proofs.NearRowLaws.{nine, row_9, and_same}
 use Rattle.moir_model.specs.declared.Process.{Process}
 use Rattle.moir_model.specs.Records.{record_at}
 use Rattle.moir_model.specs.Machine.{Memory}
@@ -41,22 +43,6 @@ three_passed a b c rest e =
     let cb = cleared b 1 (cond c 3 0) ca.1 in
     let cc = cleared c 2 0 cb.1 in
     over a 1 ca.0 (over b 2 cb.0 (over c 3 cc.0 refl))
-
--- row 9 refuses where it holds
-abbrev nine : Bool → ℕ → ℕ
-nine t rest = cond (not t) 9 rest
-
-row_9 : (t : Bool) (rest : ℕ) → (nine t 0 ≡ 0 → ⊥) → nine t 0 ≡ nine t rest
-row_9 true rest h = absurd (h refl)
-row_9 false rest h = refl
-
-and_same : (a x y : Bool) → (a ≡ true → x ≡ y) → a && x ≡ a && y
-and_same true x y f = f refl
-and_same false x y f = refl
-
-pub same_row : (a : Bool) (k x y : ℕ) → (a ≡ false → x ≡ y) → cond a k x ≡ cond a k y
-same_row true k x y f = refl
-same_row false k x y f = f refl
 
 module _ (l : List ℕ) where
   abbrev n : ℕ

@@ -15,11 +15,8 @@ use Rattle.moir_model.specs.Tags.{tag_values}
 use Rattle.moir_model.specs.Points.{Point, line_number, busy_points}
 use Rattle.moir_model.specs.Refusals.{header_ok, line_ok, process_ok}
 use Rattle.moir_held_model.specs.Ranges.{tag_ok, process_tags_ok, header_whole, process_whole}
+use Rattle.held_rows.proofs.FitLaws.{below}
 use Rattle.moir_held_rows.specs.Reads.{HeaderFits, ProcessFits}
-
-below : (k a m : ℕ) (rest : Bool) (t : Bool) → eqb k a ≡ t → a ≤ m → (rest ≡ true → k ≤ m) → t || rest ≡ true → k ≤ m
-below k a m rest true t h f e = omega (arith, eqb-true k a t, h)
-below k a m rest false t h f e = f e
 
 -- the number of some point is that of a point
 among : (k m : ℕ) (ys : List Point) → every (λ y. leb (line_number y) m) ys ≡ true → some (λ y. eqb k (line_number y)) ys ≡ true → k ≤ m
