@@ -11,16 +11,16 @@ use Rattle.listing.proofs.WritingLaws.{then, none, same}
 use Rattle.notation.specs.declared.Entry.{Entry}
 use Rattle.text_runs.specs.Machines.{Machine}
 use Rattle.text_runs.specs.TextRun.{most_entries, process_of, order_of, value_of}
-use Rattle.text_runs.specs.TextRun.{Progress, trace_line, lines_of, counted, carry_all, begun, ended}
+use Rattle.text_runs.specs.TextRun.{Progress, stopped, trace_line, lines_of, counted, carry_all, begun, ended}
 use Rattle.text_runs.specs.RunCommands.{obeying, next, Accepted, answer_lines, Carries}
 use Rattle.text_runs.specs.TrueTraces.{outcome, Told, begins, writes, stops}
 use Rattle.text_runs.proofs.SingleEntries.{made_commanded}
 use Rattle.text_runs.proofs.ToldLaws.{Walk, walked}
 
 -- an accepted entry, with fewer than 60,000 done
-record Done (M : Machine) (e : Entry) (t : Progress M) : Type 0 where
-  accepted : M.number_of (outcome M e t).0 ≡ 0
-  few : t.entries < most_entries
+pub record Done (M : Machine) (e : Entry) (t : Progress M) : Type 0 where
+  pub accepted : M.number_of (outcome M e t).0 ≡ 0
+  pub few : t.entries < most_entries
 
 module _ (M : Machine) where
   abbrev Any : Progress M → Type 0
@@ -48,14 +48,14 @@ module _ (M : Machine) where
 
   module _ (traced : Bool) (m : M.Memory) (listing : List ℕ) where
     -- what a run in progress has carried out
-    record So (t : Progress M) : Type 0 where
-      commands : List Command
-      accepted : Accepted M m commands
-      count : length commands ≡ t.entries
-      most : t.entries ≤ most_entries
-      memory : t.memory ≡ after_all (next M) m commands
-      style : t.traced ≡ traced
-      lines : traced ≡ false → Wrote listing 0 (answer_lines M m commands) t.listing t.written
+    pub record So (t : Progress M) : Type 0 where
+      pub commands : List Command
+      pub accepted : Accepted M m commands
+      pub count : length commands ≡ t.entries
+      pub most : t.entries ≤ most_entries
+      pub memory : t.memory ≡ after_all (next M) m commands
+      pub style : t.traced ≡ traced
+      pub lines : traced ≡ false → Wrote listing 0 (answer_lines M m commands) t.listing t.written
 
     -- one entry more
     module _ (e : Entry) (t : Progress M) (d : Done M e t) (s : So t) where
@@ -76,7 +76,7 @@ module _ (M : Machine) where
           let there : line_at last c ≡ lines_of M t e (outcome M e t) = sym (only ∙ ap (λ (x : M.Memory). line_at x c) s.memory) in
           same there (record { place = refl; list = refl })
 
-      one_more : So made
+      pub one_more : So made
       one_more = record {
         commands = s.commands ++ c ∷ [];
         accepted = accepted_one m s.commands c s.accepted (subst (λ (x : M.Memory). M.number_of (obeying M x c).0 ≡ 0) s.memory d.accepted);
@@ -87,27 +87,36 @@ module _ (M : Machine) where
         lines = λ f. same (lines_one m s.commands c) (then (s.lines f) (adds f));
       }
 
+      pub one_behind : one_more.commands ≡ s.commands ++ c ∷ []
+      unfolding one_more
+      one_behind = refl
+
+    -- before the first entry
+    abbrev pub none_yet : So (begun M traced m listing 0)
+    none_yet = record { commands = []; accepted = tt; count = refl; most = omega arith; memory = refl; style = refl; lines = λ f. none listing 0 }
+
+    abbrev pub halted : (k : ℕ) (t : Progress M) → So t → So (stopped M k t)
+    halted k t s = record { commands = s.commands; accepted = s.accepted; count = s.count; most = s.most; memory = s.memory; style = s.style; lines = s.lines }
+
     ran : {t : Progress M} → Told M (Done M) (begun M traced m listing 0) t → So t
-    ran begins = record { commands = []; accepted = tt; count = refl; most = omega arith; memory = refl; style = refl; lines = λ f. none listing 0 }
+    ran begins = none_yet
     ran (writes {t} x e d) = subst So (sym (made_commanded M e t d.accepted)) (one_more e t d (ran x))
-    ran (stops {t} x k) =
-        let s = ran x in
-        record { commands = s.commands; accepted = s.accepted; count = s.count; most = s.most; memory = s.memory; style = s.style; lines = s.lines }
+    ran (stops {t} x k) = halted k t (ran x)
+
+    abbrev pub carried : (t : Progress M) → So t → Carries M traced m listing (ended M t)
+    carried t s = record {
+      commands = s.commands;
+      accepted = s.accepted;
+      count = s.count;
+      most = omega (arith, s.count, s.most);
+      memory = s.memory;
+      lines = λ f. (then (s.lines f) (record { place = refl; list = refl })).list;
+    }
 
     -- the entries of any text, after its set-up
     module _ (es : List Entry) where
       abbrev run : Progress M
       run = carry_all M es (begun M traced m listing 0)
 
-      so : So run
-      so = ran (walked M done (begun M traced m listing 0) es tt)
-
       pub carries : Carries M traced m listing (ended M run)
-      carries = record {
-        commands = so.commands;
-        accepted = so.accepted;
-        count = so.count;
-        most = omega (arith, so.count, so.most);
-        memory = so.memory;
-        lines = λ f. (then (so.lines f) (record { place = refl; list = refl })).list;
-      }
+      carries = carried run (ran (walked M done (begun M traced m listing 0) es tt))
