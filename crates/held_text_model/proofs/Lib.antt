@@ -1,1 +1,4 @@
 pub mod FarLaws
+pub mod FirstCommands
+pub mod FirstStateLaws
+pub mod CountedRuns

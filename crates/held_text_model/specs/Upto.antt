@@ -1,9 +1,13 @@
 -- A machine for at most so many commands, which writes no lines of its answers. Beside its memory stands how many commands
 -- are left; where none is, one more is refused with 12, as a text's entry after the 60,000th is.
-use Rattle.std.specs.Prelude.{ℕ, ◌-◌, List, [], Bool, false, cond, eqb}
+use Rattle.std.specs.Prelude.{ℕ, ◌-◌, List, [], Bool, false, cond, eqb, replicate}
 use Rattle.trace_parts.specs.TraceParts.{step_line}
 use Rattle.text_runs.specs.Machines.{Machine}
 use Rattle.held_text_model.specs.declared.Unseen.{Unseen}
+
+-- room for a run that writes no line of an answer
+abbrev pub quiet : List ℕ
+quiet = replicate 744 0
 
 -- no access is shown
 abbrev pub nothing_shown : Unseen → List ℕ

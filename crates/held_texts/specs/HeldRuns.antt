@@ -21,8 +21,7 @@ use Rattle.whole_runs.specs.Whole.{progress_with, Ran}
 use Rattle.held_model.specs.Memory.{number_at, laid_out, memory_of}
 use Rattle.held_laws.specs.Reached.{Reached}
 use Rattle.held_texts.specs.declared.running.Left.{Left}
-use Rattle.held_text_model.specs.Upto.{nothing_shown, upto}
-use Rattle.held_text_model.specs.States.{quiet}
+use Rattle.held_text_model.specs.Upto.{nothing_shown, quiet, upto}
 
 -- the command c of a reached list is carried out, or refused
 pub record ObeyedOn (l : List ℕ) (c : StationOrder) (r : Result (Unit {0}) Refusal) (l' : List ℕ) : Type 0 where
