@@ -9,8 +9,7 @@ use std::io::Write;
 pub(crate) fn tell(to: &mut impl Write, refusal: Refusal, ended: Ended) -> io::Result<()> {
     write!(to, "refused {}: ", refusal.number())?;
     match ended.run.report {
-        // the programs lend room enough, so that the text is too long
-        StopReport::NotRead => write!(to, "the text has more than 16,384 bytes"),
+        StopReport::NotRead => write!(to, "{}", not_read(refusal)),
         StopReport::AtFault(place) => faults::at(to, refusal, ended.text, place),
         StopReport::AtNoItem(sizes) => numbers::out_of_range(to, refusal, sizes),
         StopReport::AtItem(sizes, item) => {
@@ -19,4 +18,12 @@ pub(crate) fn tell(to: &mut impl Write, refusal: Refusal, ended: Ended) -> io::R
         }
     }?;
     writeln!(to)
+}
+
+// Why a text was not looked at. The programs lend room enough.
+fn not_read(refusal: Refusal) -> &'static str {
+    match refusal {
+        Refusal::NoRoom => "there is too little room to write to",
+        _ => "the text has more than 16,384 bytes",
+    }
 }
