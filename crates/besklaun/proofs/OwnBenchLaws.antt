@@ -36,7 +36,7 @@ use Rattle.besklaun.specs.OwnBench.{all_words, few_words, narrow, words_for, wor
 pub own_memory_lem : (held : Held) (words : List ℕ) → held ≡ empty_held → memory_of held 16 words ≡ own_memory words
 own_memory_lem held words e = rw e refl
 
-pub ran_alone : (t : Bool) (held : Held) (ws text bytes : List ℕ) (r : Finished Held) (words after : List ℕ) {run : TextRun} {stop : TextStop} →
+abbrev pub ran_alone : (t : Bool) (held : Held) (ws text bytes : List ℕ) (r : Finished Held) (words after : List ℕ) {run : TextRun} {stop : TextStop} →
     held ≡ empty_held → TextRan t held 16 ws text bytes r words after → run ≡ told r → stop ≡ stop_of r.report →
     ReportedOn ws t text bytes (record { run = run; stop = stop }) after
 ran_alone t held ws text bytes r words after e ran is stop_is = record {

@@ -4,6 +4,8 @@ pub mod MoirTexts
 pub mod OwnBench
 pub mod Seasons
 pub mod TextReports
+pub mod Explained
 pub mod TurnBytes
 pub mod Version
 pub mod Views
+pub mod HeldTexts

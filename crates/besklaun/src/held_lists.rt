@@ -3,9 +3,13 @@
 ghost use Rattle.held_model.specs.HeldCommand.{SetUpDone, order_of, Commanded, SteppedTo};
 ghost use Rattle.held_buffers.specs.Places.{HoldersTold};
 ghost use Rattle.held_turns.specs.TurnTold.{next_named, TurnDone};
+ghost use Rattle.besklaun.specs.HeldTexts.{StateTold};
 
+use crate::texts::TextStop;
 use held_model::Told;
+use held_texts::states;
 use held_turns::HeldTurn;
+use llsc::refusals;
 
 // A set-up for n processes, w words and r records with the given value: the number of its refusal, 0 for none.
 pub fn besklaun_held_set_up(held: &mut [u64], n: usize, w: usize, r: usize, value: &[u64]) -> u8
@@ -61,4 +65,29 @@ pub fn besklaun_turn(
     ensures { TurnDone held.old process (next_named kind on) value.now left result held.new }
 {
     held_turns::turning::turn(held, process, kind, on, left, value)
+}
+
+// What a text's run on a held list tells: its number, the entries done, and where it stopped.
+// Kept: no enum crosses to C.
+#[repr(C)]
+#[derive(Clone, Copy)]
+pub struct HeldRun {
+    pub number: u8,
+    pub entries: usize,
+    pub stop: TextStop,
+}
+
+// The list is set up for a text's N and W and one record, and the first `entries` of its entries are carried out: one more
+// is refused with 12, and the stop is then at its item.
+// Wrong programs that this rules out: one whose state is an entry late.
+#[tactic(auto, using(crate::proofs::HeldTextLaws::state_told))]
+pub fn besklaun_held_text(held: &mut [u64], text: &[u8], entries: usize) -> HeldRun
+    ensures { StateTold held.old text.now entries result held.new }
+{
+    let out = states::after_text(text, entries, held);
+    HeldRun {
+        number: refusals::number_of(out.outcome),
+        entries: out.entries,
+        stop: TextStop::from(out.report),
+    }
 }

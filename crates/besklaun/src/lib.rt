@@ -5,6 +5,7 @@
 #![tactic(auto)]
 
 pub mod board_files;
+pub mod explained;
 pub mod held_lists;
 pub mod logs;
 pub mod moir_lists;

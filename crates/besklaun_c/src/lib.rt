@@ -15,6 +15,8 @@ ghost use Rattle.verdicts.specs.Verdicts.{judged};
 ghost use Rattle.verdicts.specs.Reasons.{judged_with_reason};
 ghost use Rattle.enumeration.specs.Replies.{found_for, numbered_for, following_for};
 ghost use Rattle.besklaun.specs.BoardRuns.{board_run};
+ghost use Rattle.besklaun.specs.Explained.{Explained};
+ghost use Rattle.besklaun.specs.HeldTexts.{StateTold};
 ghost use Rattle.besklaun.specs.Judgements.{judgement_of, reasoned_of};
 ghost use Rattle.besklaun.specs.MoirTexts.{moir_text_run};
 ghost use Rattle.besklaun.specs.OwnBench.{text_run};
@@ -27,13 +29,16 @@ ghost use Rattle.sums.specs.Season.{empty_sums};
 ghost use Rattle.sums.specs.Fractions.{table};
 
 use besklaun::board_files::BoardRun;
+use besklaun::explained::ExplainedRun;
+use besklaun::held_lists::HeldRun;
 use besklaun::logs::{Judgement, Reasoned};
 use besklaun::schedules::{FoundTurns, TurnsAfter, TurnsNumber};
-use besklaun::texts::{ReportedRun, TextRun};
 use besklaun::seasons::{Added, Fractions};
+use besklaun::texts::{ReportedRun, TextRun};
 use besklaun::views::View;
 use besklaun::{
-    board_files, held_lists, logs, moir_lists, moir_texts, schedules, seasons, texts, versions, views,
+    board_files, explained, held_lists, logs, moir_lists, moir_texts, schedules, seasons, texts,
+    versions, views,
 };
 use boards::Merged;
 use held_model::Told;
@@ -97,6 +102,28 @@ pub extern "C" fn besklaun_trace_text_with_report(text: &[u8], trace: &mut [u8])
     ensures { Reported true text.now trace.old result trace.new }
 {
     texts::besklaun_trace_text_with_report(text, trace)
+}
+
+#[unsafe(no_mangle)]
+pub extern "C" fn besklaun_explain_text(
+    text: &[u8],
+    listing: &mut [u8],
+    words: &mut [u8],
+) -> ExplainedRun
+    ensures { Explained false text.now listing.old words.old result listing.new words.new }
+{
+    explained::besklaun_explain_text(text, listing, words)
+}
+
+#[unsafe(no_mangle)]
+pub extern "C" fn besklaun_explain_trace(
+    text: &[u8],
+    trace: &mut [u8],
+    words: &mut [u8],
+) -> ExplainedRun
+    ensures { Explained true text.now trace.old words.old result trace.new words.new }
+{
+    explained::besklaun_explain_trace(text, trace, words)
 }
 
 // The same on Moir's bench.
@@ -257,6 +284,13 @@ pub extern "C" fn besklaun_turn(
     ensures { TurnDone held.old process (next_named kind on) value.now left result held.new }
 {
     held_lists::besklaun_turn(held, process, kind, on, left, value)
+}
+
+#[unsafe(no_mangle)]
+pub extern "C" fn besklaun_held_text(held: &mut [u64], text: &[u8], entries: usize) -> HeldRun
+    ensures { StateTold held.old text.now entries result held.new }
+{
+    held_lists::besklaun_held_text(held, text, entries)
 }
 
 // Moir's bench that a caller holds as one list of numbers.
