@@ -147,6 +147,31 @@ struct besklaun_reported_run besklaun_run_text_with_report(const uint8_t *text, 
 struct besklaun_reported_run besklaun_trace_text_with_report(const uint8_t *text, size_t text_count,
                                                              uint8_t *trace, size_t trace_count);
 
+/* The two runs with what ./schedule and ./trace say of them on standard error: where and why the run was refused, and
+ * which calls are open at its end, a line each; none where there is nothing to say. */
+
+/* room enough for every message */
+#define BESKLAUN_MESSAGE_ROOM 4096
+
+struct besklaun_explained_run {
+    struct besklaun_text_run run;
+    struct besklaun_text_stop stop;
+    size_t told; /* the bytes of the message that are written, from the first on; the bytes after them stay */
+    bool whole;  /* whether there was room for all of it */
+};
+
+/* Proved of the words: where the run comes to its `end`, they are the lines of the calls that it leaves open. Where it is
+ * refused, they are written by the functions that write them for ./schedule, and no definition says which they are.
+ * Definition: Explained false text listing words, besklaun/specs/Explained and messages/specs/OpenLines. */
+struct besklaun_explained_run besklaun_explain_text(const uint8_t *text, size_t text_count,
+                                                    uint8_t *listing, size_t listing_count,
+                                                    uint8_t *words, size_t words_count);
+
+/* Definition: Explained true text trace words. */
+struct besklaun_explained_run besklaun_explain_trace(const uint8_t *text, size_t text_count,
+                                                     uint8_t *trace, size_t trace_count,
+                                                     uint8_t *words, size_t words_count);
+
 /* The same text on Moir's bench (docs/NOTATION.md), with room as above. Where a WLL names a process its letter is N.
  * Definition: moir_text_run false text listing, besklaun/specs/MoirTexts and moir_text_model/specs/TextRun. */
 struct besklaun_text_run besklaun_moir_run_text(const uint8_t *text, size_t text_count,
@@ -360,6 +385,23 @@ struct besklaun_turned {
  * Definition: TurnDone, held_turns/specs/TurnTold, by turn_of of turns_model/specs/Turns. */
 struct besklaun_turned besklaun_turn(uint64_t *held, size_t held_count, size_t process, uint8_t kind, size_t record,
                                      size_t left, const uint64_t *value, size_t value_count);
+
+/* The state that the first entries of a schedule text leave, an entry being a line of its trace. */
+struct besklaun_held_run {
+    uint8_t number;                 /* 0 at the text's end, or the cause that ended the run */
+    size_t entries;                 /* the commands carried out */
+    struct besklaun_text_stop stop; /* the item of the entry that was not carried out, where there is one */
+};
+
+/* The list is set up for the text's N and W and one record, and the text's first `entries` commands are carried out, or as
+ * many as come before its end or before one that is refused. Where more commands follow, the number is 12, entries is
+ * as asked, and the stop is at the item of the next. No listing is written, so that no run is refused with 14.
+ * Before its set-up a run is refused with 12 for a text over 16,384 bytes, 10, 11, 1, 2, or 3 for too short a list, and
+ * the list then stands for the same memory. It takes less than 640 KiB of stack.
+ * Definition: StateTold, besklaun/specs/HeldTexts, by first_run of held_text_model/specs/States; that this is the memory
+ * after the run's first commands: every_first_state, held_text_model/proofs/FirstStateLaws. */
+struct besklaun_held_run besklaun_held_text(uint64_t *held, size_t held_count, const uint8_t *text, size_t text_count,
+                                            size_t entries);
 
 /* Moir's bench (docs/NOTATION.md) that the caller holds as one list of numbers, as above. */
 

@@ -7,6 +7,7 @@
 use std::ops::Range;
 
 use crate::refusals::{outcome, Refusal};
+use crate::texts::{Stop, Stopped};
 
 /// Where N, W and R stand.
 pub const N: usize = 0;
@@ -98,6 +99,13 @@ struct Turned {
     left: usize,
 }
 
+#[repr(C)]
+struct Run {
+    number: u8,
+    entries: usize,
+    stop: Stopped,
+}
+
 type Command = unsafe extern "C" fn(*mut u64, usize, usize, u8, usize, *const u64, usize) -> Told;
 
 extern "C" {
@@ -141,6 +149,14 @@ extern "C" {
         value: *const u64,
         value_count: usize,
     ) -> Turned;
+
+    fn besklaun_held_text(
+        held: *mut u64,
+        held_count: usize,
+        text: *const u8,
+        text_count: usize,
+        entries: usize,
+    ) -> Run;
 
     fn besklaun_held_places(
         held: *const u64,
@@ -299,5 +315,41 @@ pub fn turn(held: &mut [u64], process: usize, calls: &[Call<'_>]) -> Turn {
     Turn {
         outcome,
         left: turned.left,
+    }
+}
+
+/// What the first entries of a text came to.
+#[derive(Clone, Copy, PartialEq, Eq, Debug)]
+pub struct FirstEntries {
+    /// `Ok` at the text's end; `TooMuch` where more commands follow than were
+    /// asked for; or why the text or the next command is refused.
+    pub outcome: Result<(), Refusal>,
+    /// The commands carried out.
+    pub entries: usize,
+    /// The item of the command that was not carried out, where there is one.
+    pub stop: Stop,
+}
+
+/// The state that the first entries of a schedule text leave, an entry being
+/// a line of its trace: the list is set up for the text's N and W and one
+/// record, and as many commands are carried out, or all that come before the
+/// text's end or before one that is refused. A text that is refused before
+/// its set-up leaves the list as it was. No run is refused for room.
+pub fn after_text(held: &mut [u64], text: &[u8], entries: usize) -> FirstEntries {
+    // SAFETY: pointer and count are those of slices, and the borrow checker
+    // keeps the two apart
+    let run = unsafe {
+        besklaun_held_text(
+            held.as_mut_ptr(),
+            held.len(),
+            text.as_ptr(),
+            text.len(),
+            entries,
+        )
+    };
+    FirstEntries {
+        outcome: outcome(run.number),
+        entries: run.entries,
+        stop: run.stop.into(),
     }
 }

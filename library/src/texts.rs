@@ -1,6 +1,8 @@
 //! Schedule texts (docs/NOTATION.md), each run on a bench of its own. A run
 //! takes less than 640 KiB of stack, on Moir's bench less than 128 KiB.
 
+use std::fmt;
+
 use crate::refusals::{number_of, outcome, Refusal};
 
 /// What a text run returns: whether it came to its `end`, the commands
@@ -46,8 +48,27 @@ pub struct Item {
     pub process: u64,
 }
 
+/// What `./schedule` says of a run on standard error: where and why it was
+/// refused, and which calls are open at its end, a line each.
+#[derive(Clone, PartialEq, Eq, Debug)]
+pub struct Message(String);
+
+impl fmt::Display for Message {
+    fn fmt(&self, to: &mut fmt::Formatter<'_>) -> fmt::Result {
+        to.write_str(&self.0)
+    }
+}
+
+/// A run with its stop and its message.
+#[derive(Clone, PartialEq, Eq, Debug)]
+pub struct Explained {
+    pub run: TextRun,
+    pub stop: Stop,
+    pub message: Message,
+}
+
 #[repr(C)]
-struct Stopped {
+pub(crate) struct Stopped {
     kind: u8,
     place: usize,
     n: u64,
@@ -80,6 +101,14 @@ struct Reported {
 }
 
 #[repr(C)]
+struct Said {
+    run: Ran,
+    stop: Stopped,
+    told: usize,
+    whole: bool,
+}
+
+#[repr(C)]
 struct Ran {
     number: u8,
     entries: usize,
@@ -97,6 +126,7 @@ impl From<Ran> for TextRun {
 }
 
 type Run = unsafe extern "C" fn(*const u8, usize, *mut u8, usize) -> Ran;
+type Explain = unsafe extern "C" fn(*const u8, usize, *mut u8, usize, *mut u8, usize) -> Said;
 
 extern "C" {
     fn besklaun_run_text(
@@ -126,6 +156,24 @@ extern "C" {
         trace: *mut u8,
         trace_count: usize,
     ) -> Reported;
+
+    fn besklaun_explain_text(
+        text: *const u8,
+        text_count: usize,
+        listing: *mut u8,
+        listing_count: usize,
+        words: *mut u8,
+        words_count: usize,
+    ) -> Said;
+
+    fn besklaun_explain_trace(
+        text: *const u8,
+        text_count: usize,
+        trace: *mut u8,
+        trace_count: usize,
+        words: *mut u8,
+        words_count: usize,
+    ) -> Said;
 
     fn besklaun_moir_run_text(
         text: *const u8,
@@ -190,4 +238,40 @@ pub fn trace_text_with_report(text: &[u8], trace: &mut [u8]) -> (TextRun, Stop) 
         besklaun_trace_text_with_report(text.as_ptr(), text.len(), trace.as_mut_ptr(), trace.len())
     };
     (run.into(), stop.into())
+}
+
+/// `BESKLAUN_MESSAGE_ROOM`: room enough for every message.
+const MESSAGE_ROOM: usize = 4096;
+
+fn explained(explain: Explain, text: &[u8], into: &mut [u8]) -> Explained {
+    let mut words = [0; MESSAGE_ROOM];
+    // SAFETY: the function is one of the two above; pointer and count are
+    // those of slices, and the borrow checker keeps the three apart
+    let said = unsafe {
+        explain(
+            text.as_ptr(),
+            text.len(),
+            into.as_mut_ptr(),
+            into.len(),
+            words.as_mut_ptr(),
+            words.len(),
+        )
+    };
+    debug_assert!(said.whole, "a message that fills its room");
+    let message = String::from_utf8_lossy(&words[..said.told]);
+    Explained {
+        run: said.run.into(),
+        stop: said.stop.into(),
+        message: Message(message.into_owned()),
+    }
+}
+
+/// The run with its listing, where it stopped, and what is to be said of it.
+pub fn explain_text(text: &[u8], listing: &mut [u8]) -> Explained {
+    explained(besklaun_explain_text, text, listing)
+}
+
+/// The same with its trace.
+pub fn explain_trace(text: &[u8], trace: &mut [u8]) -> Explained {
+    explained(besklaun_explain_trace, text, trace)
 }

@@ -1,7 +1,8 @@
 //! `look`: the state that the entries of a schedule text leave, as tables that
-//! a person reads (docs/TRACE.md). Text run and state are the proved
-//! library's; what stands here is not proved: it takes the commands from the
-//! trace, and chooses the words.
+//! a person reads (docs/TRACE.md). Text run, state and the words of a refusal
+//! are the proved library's; what stands here is not proved: it takes the
+//! commands of a run of states from the trace, and chooses the words of a
+//! state.
 
 #![forbid(unsafe_code)]
 
@@ -71,7 +72,7 @@ fn called(given: &[OsString]) -> Result<u8, Stop> {
         return shown.map(|()| 0);
     };
     match asked.name {
-        None => say(&words),
+        None => say(words),
         Some(ref name) => say(&format!("{name}: {words}")),
     }
     shown.map(|()| 1)
@@ -87,21 +88,18 @@ fn text() -> Result<Vec<u8>, Stop> {
 /// The states asked for, with an empty line between two; none of a text that
 /// has no set-up.
 fn show(run: &Run, asked: &Asked) -> Result<(), Stop> {
-    let Some(first) = run.first_line() else {
+    let Some(sizes) = run.sizes() else {
         return Ok(());
     };
     let (from, to) = asked.states(run.entries).map_err(Stop::Trouble)?;
-    asked.process_below(first.n).map_err(Stop::Trouble)?;
-    let mut station = first.station();
+    asked
+        .process_below(sizes.n as usize)
+        .map_err(Stop::Trouble)?;
+    let mut station = run.state(sizes, from);
     let mut out = BufWriter::new(io::stdout().lock());
-    for entry in 0..=to {
-        if entry > 0 {
-            run.carry_out(entry, &mut station).map_err(Stop::Trouble)?;
-        }
-        if entry < from {
-            continue;
-        }
+    for entry in from..=to {
         if entry > from {
+            run.carry_out(entry, &mut station).map_err(Stop::Trouble)?;
             writeln!(out)?;
         }
         table::write(&mut out, run, entry, &station, asked.process)?;

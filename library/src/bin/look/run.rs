@@ -1,6 +1,7 @@
-//! A text run, by its trace.
+//! A text run, by its trace; its states, and what is to be said of it.
 
-use besklaun::{trace_text, Refusal};
+use besklaun::held::{self, FirstEntries};
+use besklaun::{explain_trace, Sizes, Stop};
 
 use super::commands::Command;
 use super::station::Station;
@@ -11,56 +12,49 @@ const LINE_ROOM: usize = 872;
 
 pub struct Run {
     pub entries: usize,
-    outcome: Result<(), Refusal>,
-    /// The text's first line, where it has one.
-    first: String,
+    pub is_refused: bool,
+    text: Vec<u8>,
+    stop: Stop,
+    /// What `./schedule` says of it.
+    message: String,
     /// The trace's lines, the last one apart.
     lines: Vec<String>,
-}
-
-/// The numbers of a first line that was taken.
-#[derive(Clone, Copy)]
-pub struct FirstLine {
-    pub n: usize,
-    pub w: usize,
-    pub initial: u64,
-}
-
-impl FirstLine {
-    pub fn station(self) -> Station {
-        let FirstLine { n, w, initial } = self;
-        Station::set_up(n, w, initial)
-    }
 }
 
 impl Run {
     pub fn of(text: &[u8]) -> Run {
         let mut trace = vec![0; (MOST_ENTRIES + 1) * LINE_ROOM];
-        let run = trace_text(text, &mut trace);
+        let explained = explain_trace(text, &mut trace);
+        let run = explained.run;
         trace.truncate(run.written);
         let trace = String::from_utf8_lossy(&trace);
-        let first = text.split(|byte| *byte == b'\n').next().unwrap_or(&[]);
         Run {
             entries: run.entries,
-            outcome: run.outcome,
-            first: String::from_utf8_lossy(first).into_owned(),
+            is_refused: run.outcome.is_err(),
+            text: text.to_vec(),
+            stop: explained.stop,
+            message: explained.message.to_string(),
             lines: trace.lines().take(run.entries).map(String::from).collect(),
         }
     }
 
-    /// None where the text was refused before its set-up: it is judged whole
-    /// before anything is carried out.
-    pub fn first_line(&self) -> Option<FirstLine> {
-        use Refusal::{NOutOfRange, TextBroken, TooDeep, TooMuch, WOutOfRange};
-        let none = match self.outcome {
-            Err(NOutOfRange | WOutOfRange | TextBroken | TooDeep) => true,
-            Err(TooMuch) => self.entries == 0,
-            _ => false,
-        };
-        let mut numbers = self.first.split(' ').map(|word| word.parse::<u64>().ok());
-        let mut next = || numbers.next().flatten().filter(|_| !none);
-        let (n, w, initial) = (next()? as usize, next()? as usize, next()?);
-        Some(FirstLine { n, w, initial })
+    /// N and W; none where the text was refused before its set-up, as it is
+    /// judged whole before anything is carried out.
+    pub fn sizes(&self) -> Option<Sizes> {
+        match self.stop {
+            Stop::AtItem(sizes, _) => Some(sizes),
+            Stop::AtNoItem(sizes) if !self.is_refused => Some(sizes),
+            Stop::AtNoItem(_) | Stop::AtFault(_) | Stop::NotRead => None,
+        }
+    }
+
+    /// The state after this entry, of a run that has it.
+    pub fn state(&self, sizes: Sizes, entry: usize) -> Station {
+        let (n, w) = (sizes.n as usize, sizes.w as usize);
+        let mut list = vec![0; held::length(n, w, 1)];
+        let FirstEntries { entries, .. } = held::after_text(&mut list, &self.text, entry);
+        assert_eq!(entries, entry, "the text run has these entries");
+        Station::of(list, n, w)
     }
 
     /// The trace's line of an entry.
@@ -68,7 +62,8 @@ impl Run {
         self.lines.get(entry.checked_sub(1)?).map(String::as_str)
     }
 
-    /// The command of this entry, which the run accepted.
+    /// The command of this entry, which the run accepted, on the state before
+    /// it.
     pub fn carry_out(&self, entry: usize, station: &mut Station) -> Result<(), String> {
         let line = self.line(entry).unwrap_or("");
         let command =
@@ -81,24 +76,10 @@ impl Run {
         }
     }
 
-    /// What is known of a refusal: its cause, and the entry that was refused.
-    pub fn refused(&self) -> Option<String> {
-        let cause = self.outcome.err()?;
-        let next = self.entries + 1;
-        Some(match (cause, self.first_line()) {
-            (Refusal::TooMuch, None) => {
-                "refused 12: the text has more than 16,384 bytes".to_string()
-            }
-            (Refusal::TooMuch, Some(_)) => {
-                format!("refused 12: entry {next}: 60,000 entries are done, which is the most")
-            }
-            (_, None) => format!("{cause}; ./schedule says at which place"),
-            (_, Some(_)) => {
-                let words = cause.to_string();
-                let why = words.split_once(": ").map_or("", |(_, why)| why);
-                let number = cause.number();
-                format!("refused {number}: entry {next}: {why}; ./schedule says at which place")
-            }
-        })
+    /// Where and why it was refused. The calls that are open at its end are
+    /// left out: the state shows them.
+    pub fn refused(&self) -> Option<&str> {
+        let line = self.message.lines().next();
+        line.filter(|_| self.is_refused)
     }
 }

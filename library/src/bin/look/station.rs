@@ -60,11 +60,8 @@ pub enum Place {
 }
 
 impl Station {
-    /// Of sizes that a text run has taken.
-    pub fn set_up(n: usize, w: usize, initial: u64) -> Station {
-        let mut held = vec![0; held::length(n, w, 1)];
-        let done = held::set_up(&mut held, n, w, 1, &vec![initial; w]);
-        done.expect("a text run has taken these sizes");
+    /// The list that a text's first entries left.
+    pub fn of(held: Vec<u64>, n: usize, w: usize) -> Station {
         Station { held, n, w }
     }
 
