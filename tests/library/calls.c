@@ -11,6 +11,7 @@
 
 static uint8_t text[20000];
 static uint8_t lent[65536];
+static uint8_t words[BESKLAUN_MESSAGE_ROOM];
 static int wrong;
 
 static void expect(bool holds, const char *what)
@@ -143,6 +144,45 @@ static void reports(void)
     expect(said.run.number == 6 && stopped(said.stop, BESKLAUN_STOP_AT_ITEM, 21, 2, 0), "the refused item of a group");
     said = besklaun_trace_text_with_report(none, sizeof none - 1, lent, sizeof lent);
     expect(said.run.number == 4 && stopped(said.stop, BESKLAUN_STOP_AT_ITEM, 12, 2, 16), "a process above 15 is told as 16");
+}
+
+static bool tells(struct besklaun_explained_run said, const char *message)
+{
+    return said.whole && said.told == strlen(message) && memcmp(words, message, said.told) == 0
+           && words[said.told] == BEFORE;
+}
+
+/* The words are those of ./schedule, by docs/NOTATION.md and by hand. */
+static void messages(void)
+{
+    static const uint8_t right[] = "2 1 5\n0l 0!\n";
+    static const uint8_t idle[] = "2 1 5\n0l 0! 1l 2(1.) 0.\n";
+    static const uint8_t begun[] = "2 1 5\n1l\n";
+    static const char refused[] = "refused 6: entry 15, item 0. at 2:16: process 0 is idle\n"
+                                  "open: process 1, LL, line 3 of Figure 2, word 0 of 1, low half next, 2 own steps so far\n";
+    memset(words, BEFORE, sizeof words);
+    struct besklaun_explained_run said = besklaun_explain_text(right, sizeof right - 1, lent, sizeof lent, words, 0);
+    expect(ran(said.run, 0, 11, 16) && said.whole && said.told == 0, "an end with no open call says nothing");
+    said = besklaun_explain_text(begun, sizeof begun - 1, lent, sizeof lent, words, sizeof words);
+    expect(ran(said.run, 0, 1, 6) && tells(said, "open: process 1, LL, line 1 of Figure 2 next, 0 own steps so far\n"),
+           "an open call is told");
+    memset(words, BEFORE, sizeof words);
+    said = besklaun_explain_text(idle, sizeof idle - 1, lent, sizeof lent, words, sizeof words);
+    expect(said.run.number == 6 && said.run.entries == 14 && tells(said, refused), "a refusal and an open call");
+    expect(stopped(said.stop, BESKLAUN_STOP_AT_ITEM, 21, 2, 0), "and where it stopped");
+    memset(words, BEFORE, sizeof words);
+    said = besklaun_explain_trace(idle, sizeof idle - 1, lent, sizeof lent, words, sizeof refused - 1);
+    expect(said.run.number == 6 && tells(said, refused), "the same of a trace, in room for just that");
+    memset(words, BEFORE, sizeof words);
+    said = besklaun_explain_text(idle, sizeof idle - 1, lent, sizeof lent, words, 9);
+    expect(said.run.number == 6 && !said.whole && said.told == 9 && memcmp(words, "refused 6", 9) == 0
+               && words[9] == BEFORE,
+           "nine bytes of it");
+    said = besklaun_explain_text(idle, sizeof idle - 1, lent, sizeof lent, NULL, 0);
+    expect(said.run.number == 6 && !said.whole && said.told == 0, "and no room for any");
+    memset(words, BEFORE, sizeof words);
+    said = besklaun_explain_text(right, sizeof right - 1, lent, 743, words, sizeof words);
+    expect(ran(said.run, 14, 0, 0) && tells(said, "refused 14: there is too little room to write to\n"), "no listing");
 }
 
 /* The first two calls of examples/first-steps.txt on Moir's bench: 2W + 1 steps and 6W + 2 (examples/moir). */
@@ -335,6 +375,11 @@ static int run_given(const char *style)
 {
     size_t count = fread(text, 1, sizeof text, stdin);
     struct besklaun_text_run run;
+    if (strcmp(style, "explain") == 0) {
+        struct besklaun_explained_run said = besklaun_explain_text(text, count, lent, sizeof lent, words, sizeof words);
+        fwrite(words, 1, said.told, stdout);
+        return said.whole ? said.run.number : 99;
+    }
     if (strcmp(style, "run") == 0) {
         run = besklaun_run_text(text, count, lent, sizeof lent);
     } else {
@@ -434,6 +479,33 @@ static void held_lists(void)
     expect(held_refused(besklaun_held_step(held, HELD, 1, 0, 0, NULL, 0), 9), "a flag of 2 at its own place is 9");
     held[BESKLAUN_HELD_HELP(0, 1)] = copy[BESKLAUN_HELD_HELP(0, 1)];
     expect(memcmp(copy, held, sizeof copy) == 0, "a refusal leaves every number");
+}
+
+/* The state after 13 entries of README's first schedule, by docs/TRACE.md. */
+static void held_texts(void)
+{
+    static const uint8_t steps[] = "2 1 5\n0l 0! 0s7 0! 1l 1! 0v 0!\n";
+    static const uint8_t wrong_text[] = "2 1 5\n0l 0! 0q\n";
+    uint64_t copy[HELD];
+    for (size_t k = 0; k < HELD; k++) {
+        held[k] = UINT64_MAX - k;
+    }
+    memcpy(copy, held, sizeof copy);
+    struct besklaun_held_run said = besklaun_held_text(held, HELD, wrong_text, sizeof wrong_text - 1, 5);
+    expect(said.number == 10 && said.entries == 0 && stopped(said.stop, BESKLAUN_STOP_AT_FAULT, 13, 0, 0), "a wrong text");
+    said = besklaun_held_text(held, HELD - 2, steps, sizeof steps - 1, 5);
+    expect(said.number == 3 && said.entries == 0 && stopped(said.stop, BESKLAUN_STOP_NO_ITEM, 0, 2, 0), "too short a list");
+    expect(besklaun_held_text(NULL, 0, NULL, 0, 0).number == 10, "no text");
+    expect(memcmp(copy, held, sizeof copy) == 0, "a refusal before the set-up leaves every number");
+    said = besklaun_held_text(held, HELD, steps, sizeof steps - 1, 13);
+    expect(said.number == 12 && said.entries == 13 && stopped(said.stop, BESKLAUN_STOP_AT_ITEM, 16, 2, 0), "13 entries");
+    expect(held[BESKLAUN_HELD_CALL(0)] == 14 && held[BESKLAUN_HELD_RECORD(0) + 2] == 1, "line 14 is next, X is linked");
+    expect(held[BESKLAUN_HELD_BANK(0, 0) + 1] == 1 && held[HELD - 1] == copy[HELD - 1], "Bank[0] is linked");
+    said = besklaun_held_text(held, HELD, steps, sizeof steps - 1, 12);
+    expect(said.number == 12 && said.entries == 12 && held[BESKLAUN_HELD_CALL(0)] == 12, "12 entries");
+    said = besklaun_held_text(held, HELD, steps, sizeof steps - 1, SIZE_MAX);
+    expect(said.number == 0 && said.entries == 31 && stopped(said.stop, BESKLAUN_STOP_NO_ITEM, 0, 2, 0), "all entries");
+    expect(held[BESKLAUN_HELD_RECORD(0)] == 4 && held[BESKLAUN_HELD_RECORD(0) + 1] == 1, "X is (4, 1)");
 }
 
 static bool turned(struct besklaun_turned said, unsigned number, unsigned kind, bool passed, size_t left)
@@ -549,6 +621,7 @@ int main(int count, char **given)
     reasons();
     texts();
     reports();
+    messages();
     moir_texts();
     views();
     seasons();
@@ -556,6 +629,7 @@ int main(int count, char **given)
     board_files();
     board_runs();
     held_lists();
+    held_texts();
     turns();
     moir_lists();
     if (!wrong) {

@@ -33,11 +33,11 @@ fn every_line_stands_in_the_states() {
     let (mut states, mut accesses) = (0, [0; 7]);
     for index in 0..4_000 {
         let run = Run::of(&text(34, index, &limits));
-        let Some(first) = run.first_line() else {
+        let Some(sizes) = run.sizes() else {
             assert_eq!(run.entries, 0, "text {index}");
             continue;
         };
-        let mut station = first.station();
+        let mut station = run.state(sizes, 0);
         for entry in 1..=run.entries.min(MOST) {
             let before = Shared::of(&station);
             let line = run.line(entry).unwrap().to_string();
@@ -62,6 +62,10 @@ fn every_line_stands_in_the_states() {
                 }
             }
             states += 1;
+            if entry % 61 == 0 {
+                let alone = run.state(sizes, entry);
+                assert!(Shared::of(&alone) == after, "{told}");
+            }
             if entry % 7 == 0 {
                 each_once(&station, &told);
             }

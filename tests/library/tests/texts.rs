@@ -209,7 +209,11 @@ fn stops(text: &[u8], run: TextRun, stop: Stop) {
         assert_eq!(end.number, 0, "{shown}");
         let with = &text[..item.place + length];
         let (again, _) = separately::run_text(with, &LISTING, &mut vec![0; ROOM], None);
-        assert_eq!((again.number, again.entries), (run.number(), run.entries as u64), "{shown}");
+        assert_eq!(
+            (again.number, again.entries),
+            (run.number(), run.entries as u64),
+            "{shown}"
+        );
     }
 }
 
