@@ -11,6 +11,7 @@ use Rattle.text_laws.proofs.FinishLaws.{until_answered, finish_bounded}
 use Rattle.text_laws.proofs.TraceTruth as Trace
 use Rattle.station_text_machine.proofs.Theorems.{record_0_alone, text_set_up}
 use Rattle.station_text_laws.proofs.Theorems.{entry_by_entry}
+use Rattle.held_text_model.proofs.FirstStateLaws.{every_first_state}
 use Rattle.marking.proofs.Theorems.{marks_mean_apart, trace_shows_line, marked_change_places}
 use Rattle.marking_laws.proofs.Theorems.{every_text_is_marked, marked_fits}
 use Rattle.verdicts.proofs.VerdictLaws.{verdict_says}
@@ -32,7 +33,7 @@ use Rattle.moir_text_model.proofs.TraceTruth as MoirTrace
 use Rattle.promises.specs.Promises.{Promise1, Promise2, Promise3, Promise4, NoOwnDoing}
 use Rattle.promises.specs.Promises.{SeveralRecords, OneItemAlone, ChangePlaces}
 use Rattle.promises.specs.TextRunPromises.{EveryTextIsRead, NumbersOneWay, DigitsByDivision, EveryTextIsPromised}
-use Rattle.promises.specs.TextRunPromises.{TextOnAStation, FinishEnds, EveryTraceLineIsTrue, MarksAreRight}
+use Rattle.promises.specs.TextRunPromises.{TextOnAStation, StateAfterEntries, FinishEnds, EveryTraceLineIsTrue, MarksAreRight}
 use Rattle.promises.specs.LogPromises.{YesExactlyWhen, Judge, Reason, Season, AnyOrder}
 use Rattle.promises.specs.LogPromises.{RightListingsTaken, ListingsAreTaken}
 use Rattle.promises.specs.InputPromises.{EverySchedule, BothUndo, Turns, Merge, BoardRun}
@@ -90,6 +91,9 @@ every_text_is_promised = TextRuns.every_text_is_promised
 
 pub text_on_a_station : TextOnAStation
 text_on_a_station = (entry_by_entry, text_set_up, record_0_alone)
+
+pub state_after_entries : StateAfterEntries
+state_after_entries = (every_first_state _, every_first_state _)
 
 pub finish_ends : FinishEnds
 finish_ends = (until_answered, finish_bounded)

@@ -19,7 +19,8 @@ use Rattle.text_model.specs.TextRun.{figure2, Ended, carry_all}
 use Rattle.text_laws.specs.Finishing.{UntilAnswered, FinishBounded}
 use Rattle.text_laws.specs.TrueLines.{Told, trace_begun}
 use Rattle.station_text_machine.specs.TextPromises.{Record0Alone, TextSetUp}
-use Rattle.station_text_laws.specs.EntryByEntry.{EntryByEntry}
+use Rattle.station_text_laws.specs.EntryByEntry.{EntryByEntry, station_machine}
+use Rattle.held_text_model.specs.FirstStates.{EveryFirstState}
 use Rattle.marking.specs.Marks.{MarksMeanApart, TraceShowsLine, MarkedChangePlaces}
 use Rattle.marking_laws.specs.MarkedRun.{EveryTextIsMarked, MarkedFits}
 
@@ -66,6 +67,11 @@ EveryTextIsPromised =
 -- ON A STATION: "Text and listing keep to one record" (CR 10), record 0. It is the station's own set-up and commands.
 abbrev pub TextOnAStation : Type 0
 TextOnAStation = EntryByEntry × TextSetUp × Record0Alone
+
+-- AFTER ITS FIRST ENTRIES: "An entry is one command", so the state after k of them is that after the first k commands of the
+-- run, for every k: of the station's run, and of the bench's.
+abbrev pub StateAfterEntries : Type 0
+StateAfterEntries = EveryFirstState station_machine × EveryFirstState figure2
 
 -- `!` (01): "steps until the call answers, at least one"; CR 11: "the step counts say it can't be met": it ends
 -- within the most own steps of its call.
