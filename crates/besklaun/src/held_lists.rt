@@ -3,7 +3,9 @@
 ghost use Rattle.held_model.specs.HeldCommand.{SetUpDone, order_of, Commanded, SteppedTo};
 ghost use Rattle.held_buffers.specs.Places.{HoldersTold};
 ghost use Rattle.held_turns.specs.TurnTold.{next_named, TurnDone};
+ghost use Rattle.held_boards.specs.FileDone.{FileDone};
 
+use board_commands::FileRun;
 use held_model::Told;
 use held_turns::HeldTurn;
 
@@ -61,4 +63,12 @@ pub fn besklaun_turn(
     ensures { TurnDone held.old process (next_named kind on) value.now left result held.new }
 {
     held_turns::turning::turn(held, process, kind, on, left, value)
+}
+
+// A board's trace file (02, CR 12) run on record 0 of it, whatever stands in it and in the file.
+// Wrong programs that this rules out: one that sets the station up first; one that counts a refused command as done.
+pub fn besklaun_held_run_board(held: &mut [u64], file: &[u8]) -> FileRun
+    ensures { FileDone held.old file.now result held.new }
+{
+    held_boards::running::run_file(held, file)
 }

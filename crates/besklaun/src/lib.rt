@@ -7,6 +7,7 @@
 pub mod board_files;
 pub mod held_lists;
 pub mod logs;
+pub mod marks;
 pub mod moir_lists;
 pub mod moir_texts;
 pub mod schedules;

@@ -45,8 +45,8 @@ shorter (suc k) (a ∷ l) = omega (arith, shorter k l)
 each_passes : {A : Type 0} (f : A → Bool) (d : A) (l : List A) (k : ℕ) → ((i : ℕ) → i < k → f (get_or l i d) ≡ true) → every f (take k l) ≡ true
 each_passes f d l k h =
     every_true f d (take k l) (λ j hj.
-        let z : j < k = omega (arith, hj, shorter k l) in
-        ap f (get_or-take k l j d z) ∙ h j z)
+    let z : j < k = omega (arith, hj, shorter k l) in
+    ap f (get_or-take k l j d z) ∙ h j z)
 
 process_passes : (q : Process) → ProcessFits Any q → process_tags_ok q ≡ true
 process_passes q h =
