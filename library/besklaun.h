@@ -181,6 +181,22 @@ struct besklaun_text_run besklaun_moir_run_text(const uint8_t *text, size_t text
 struct besklaun_text_run besklaun_moir_trace_text(const uint8_t *text, size_t text_count,
                                                   uint8_t *trace, size_t trace_count);
 
+/* The two with the report of their stop.
+ * Definition: MoirReported false text listing, besklaun/specs/MoirTexts. */
+struct besklaun_reported_run besklaun_moir_run_text_with_report(const uint8_t *text, size_t text_count,
+                                                                uint8_t *listing, size_t listing_count);
+
+/* Definition: MoirReported true text trace. */
+struct besklaun_reported_run besklaun_moir_trace_text_with_report(const uint8_t *text, size_t text_count,
+                                                                  uint8_t *trace, size_t trace_count);
+
+/* A trace of besklaun_trace_text with its marks (docs/TRACE.md): before each line two columns, `~ ` where its command could
+ * change places with that of the line before it, two spaces elsewhere. What does not fit into `marked` is not written;
+ * 3 * trace_count bytes are enough for every trace. It returns the length of the marked trace; 0 for more than 4,294,967,295
+ * bytes, which no trace has.
+ * Definition: mark_told trace marked, besklaun/specs/MarkedTraces and marking/specs/Marked. */
+size_t besklaun_mark_trace(const uint8_t *trace, size_t trace_count, uint8_t *marked, size_t marked_count);
+
 /* The view of a written value: the words of success k, of a record that begins with `value` and to which successes wrote
  * the values of `written`, w words each, in their order. Success 0 is the value with which it begins. */
 
@@ -403,6 +419,16 @@ struct besklaun_held_run {
 struct besklaun_held_run besklaun_held_text(uint64_t *held, size_t held_count, const uint8_t *text, size_t text_count,
                                             size_t entries);
 
+struct besklaun_file_run {
+    uint8_t number; /* 0, or the cause of the refusal that ended it */
+    size_t done;    /* the commands done; where it is 0 every number stays */
+};
+
+/* A board's trace file (docs/BOARDS.md) run on record 0 of the station: its records one by one, an SC's value in all w words,
+ * up to the first refusal. It makes no set-up. 25 and 26 come before the first command.
+ * Definition: FileDone, held_boards/specs/FileDone, by run_file of board_commands/specs/BoardRun. */
+struct besklaun_file_run besklaun_held_run_board(uint64_t *held, size_t held_count, const uint8_t *file, size_t file_count);
+
 /* Moir's bench (docs/NOTATION.md) that the caller holds as one list of numbers, as above. */
 
 /* Where each number stands; what a start place has, one after another. */
@@ -443,9 +469,9 @@ struct besklaun_moir_told {
 struct besklaun_moir_told besklaun_moir_command(uint64_t *held, size_t held_count, size_t process, uint8_t order,
                                                 const uint64_t *value, size_t value_count);
 
-/* The same, but row 9 is looked at only for what the command reads. On every list for which row 9 holds of nothing it is
- * that command.
- * Definition: SteppedTo, moir_held_model/specs/HeldCommand. */
+/* The same, but row 9 is looked at only for what the command reads. On every list that only a set-up and commands have
+ * written it is that command.
+ * Definition: SteppedTo, moir_held_model/specs/HeldCommand; proved so: step_is_command, moir_held_laws/proofs/Theorems. */
 struct besklaun_moir_told besklaun_moir_step(uint64_t *held, size_t held_count, size_t process, uint8_t order,
                                              const uint64_t *value, size_t value_count);
 

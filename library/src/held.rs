@@ -106,6 +106,12 @@ struct Run {
     stop: Stopped,
 }
 
+#[repr(C)]
+struct FileRan {
+    number: u8,
+    done: usize,
+}
+
 type Command = unsafe extern "C" fn(*mut u64, usize, usize, u8, usize, *const u64, usize) -> Told;
 
 extern "C" {
@@ -157,6 +163,13 @@ extern "C" {
         text_count: usize,
         entries: usize,
     ) -> Run;
+
+    fn besklaun_held_run_board(
+        held: *mut u64,
+        held_count: usize,
+        file: *const u8,
+        file_count: usize,
+    ) -> FileRan;
 
     fn besklaun_held_places(
         held: *const u64,
@@ -351,5 +364,28 @@ pub fn after_text(held: &mut [u64], text: &[u8], entries: usize) -> FirstEntries
         outcome: outcome(run.number),
         entries: run.entries,
         stop: run.stop.into(),
+    }
+}
+
+/// What a run of a board's trace file came to: whether it came to its end, and
+/// the commands done.
+#[derive(Clone, Copy, PartialEq, Eq, Debug)]
+pub struct FileRun {
+    pub outcome: Result<(), Refusal>,
+    pub done: usize,
+}
+
+/// A board's trace file (docs/BOARDS.md) run on record 0: its records one by
+/// one, an SC's value in all W words, up to the first refusal. It makes no
+/// set-up, and where no command was done the list is as it was.
+pub fn run_board(held: &mut [u64], file: &[u8]) -> FileRun {
+    // SAFETY: pointer and count are those of slices, and the borrow checker
+    // keeps the two apart
+    let ran = unsafe {
+        besklaun_held_run_board(held.as_mut_ptr(), held.len(), file.as_ptr(), file.len())
+    };
+    FileRun {
+        outcome: outcome(ran.number),
+        done: ran.done,
     }
 }

@@ -64,11 +64,8 @@ struct Fractions {
 extern "C" {
     fn besklaun_empty_sums(n: u64, w: u64) -> Season;
 
-    fn besklaun_add_listing(
-        season: *mut Season,
-        listing: *const u8,
-        listing_count: usize,
-    ) -> Added;
+    fn besklaun_add_listing(season: *mut Season, listing: *const u8, listing_count: usize)
+        -> Added;
 
     fn besklaun_fractions(season: *const Season) -> Fractions;
 }

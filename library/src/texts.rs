@@ -128,6 +128,8 @@ impl From<Ran> for TextRun {
 type Run = unsafe extern "C" fn(*const u8, usize, *mut u8, usize) -> Ran;
 type Explain = unsafe extern "C" fn(*const u8, usize, *mut u8, usize, *mut u8, usize) -> Said;
 
+type Report = unsafe extern "C" fn(*const u8, usize, *mut u8, usize) -> Reported;
+
 extern "C" {
     fn besklaun_run_text(
         text: *const u8,
@@ -188,6 +190,27 @@ extern "C" {
         trace: *mut u8,
         trace_count: usize,
     ) -> Ran;
+
+    fn besklaun_moir_run_text_with_report(
+        text: *const u8,
+        text_count: usize,
+        listing: *mut u8,
+        listing_count: usize,
+    ) -> Reported;
+
+    fn besklaun_moir_trace_text_with_report(
+        text: *const u8,
+        text_count: usize,
+        trace: *mut u8,
+        trace_count: usize,
+    ) -> Reported;
+
+    fn besklaun_mark_trace(
+        trace: *const u8,
+        trace_count: usize,
+        marked: *mut u8,
+        marked_count: usize,
+    ) -> usize;
 }
 
 fn ran(run: Run, text: &[u8], into: &mut [u8]) -> TextRun {
@@ -217,27 +240,49 @@ pub fn moir_trace_text(text: &[u8], trace: &mut [u8]) -> TextRun {
     ran(besklaun_moir_trace_text, text, trace)
 }
 
+fn reported(run: Report, text: &[u8], into: &mut [u8]) -> (TextRun, Stop) {
+    // SAFETY: as above
+    let Reported { run, stop } =
+        unsafe { run(text.as_ptr(), text.len(), into.as_mut_ptr(), into.len()) };
+    (run.into(), stop.into())
+}
+
 /// The run with its listing, and where it stopped.
 pub fn run_text_with_report(text: &[u8], listing: &mut [u8]) -> (TextRun, Stop) {
-    // SAFETY: as above
-    let Reported { run, stop } = unsafe {
-        besklaun_run_text_with_report(
-            text.as_ptr(),
-            text.len(),
-            listing.as_mut_ptr(),
-            listing.len(),
-        )
-    };
-    (run.into(), stop.into())
+    reported(besklaun_run_text_with_report, text, listing)
 }
 
 /// The run with its trace, and where it stopped.
 pub fn trace_text_with_report(text: &[u8], trace: &mut [u8]) -> (TextRun, Stop) {
-    // SAFETY: as above
-    let Reported { run, stop } = unsafe {
-        besklaun_trace_text_with_report(text.as_ptr(), text.len(), trace.as_mut_ptr(), trace.len())
-    };
-    (run.into(), stop.into())
+    reported(besklaun_trace_text_with_report, text, trace)
+}
+
+/// The run on Moir's bench with its listing, and where it stopped.
+pub fn moir_run_text_with_report(text: &[u8], listing: &mut [u8]) -> (TextRun, Stop) {
+    reported(besklaun_moir_run_text_with_report, text, listing)
+}
+
+/// The run on Moir's bench with its trace, and where it stopped.
+pub fn moir_trace_text_with_report(text: &[u8], trace: &mut [u8]) -> (TextRun, Stop) {
+    reported(besklaun_moir_trace_text_with_report, text, trace)
+}
+
+/// The marks of a trace of [`trace_text`] (docs/TRACE.md): before each line two
+/// columns, `~ ` where its command could change places with that of the line
+/// before it. What does not fit is not written; three times the bytes of the
+/// trace are enough. It returns the length of the marked trace; 0 for more than
+/// 4,294,967,295 bytes, which no trace has.
+pub fn mark_trace(trace: &[u8], marked: &mut [u8]) -> usize {
+    // SAFETY: pointer and count are those of slices, and the borrow checker
+    // keeps the two apart
+    unsafe {
+        besklaun_mark_trace(
+            trace.as_ptr(),
+            trace.len(),
+            marked.as_mut_ptr(),
+            marked.len(),
+        )
+    }
 }
 
 /// `BESKLAUN_MESSAGE_ROOM`: room enough for every message.

@@ -200,6 +200,30 @@ static void moir_texts(void)
     memset(lent, BEFORE, sizeof lent);
     expect(ran(besklaun_moir_run_text(NULL, 0, lent, 744), 10, 0, 13), "Moir: no text is 10");
     expect(memcmp(lent, "refused 10 0\n", 13) == 0 && stays(13), "Moir: the listing of no text");
+    struct besklaun_reported_run r = besklaun_moir_run_text_with_report(given, sizeof given - 1, lent, sizeof lent);
+    expect(ran(r.run, 0, 13, sizeof listing - 1) && r.stop.kind == BESKLAUN_STOP_NO_ITEM && r.stop.n == 2, "Moir: its end");
+    r = besklaun_moir_trace_text_with_report((const uint8_t *)"2 1 5\n0l 9l\n", 13, lent, sizeof lent);
+    expect(r.run.number == 4 && r.run.entries == 1 && r.stop.kind == BESKLAUN_STOP_AT_ITEM && r.stop.place == 9
+           && r.stop.process == 9, "Moir: stopped at 9l");
+}
+
+static void marks(void)
+{
+    static const uint8_t given[] = "2 1 5\n0l 1l 0. 1.\n";
+    static uint8_t trace[2000];
+    struct besklaun_text_run run = besklaun_trace_text(given, sizeof given - 1, trace, sizeof trace);
+    memset(lent, BEFORE, sizeof lent);
+    size_t count = besklaun_mark_trace(trace, run.written, lent, sizeof lent);
+    expect(run.entries == 4 && count == run.written + 2 * 5 && stays(count), "five lines have two columns more");
+    expect(memcmp(lent, "  1 0 ", 6) == 0, "the first line has no mark");
+    expect(memcmp(lent + count - 8, "  end 4\n", 8) == 0, "nor has the last");
+    size_t tildes = 0;
+    for (size_t k = 0; k < count; k++)
+        tildes += lent[k] == '~';
+    expect(tildes == 3, "three commands could change places with those before");
+    memset(lent, BEFORE, sizeof lent);
+    expect(besklaun_mark_trace(trace, run.written, lent, 3) == count && stays(3), "room of three bytes");
+    expect(besklaun_mark_trace(NULL, 0, NULL, 0) == 0, "the marks of no trace");
 }
 
 static bool part(struct besklaun_part said, unsigned number, bool written, size_t start, size_t count)
@@ -535,6 +559,24 @@ static void turns(void)
     expect(memcmp(copy, held, sizeof copy) == 0, "a refused turn leaves every number");
 }
 
+static bool file_ran(struct besklaun_file_run said, unsigned number, size_t done)
+{
+    return said.number == number && said.done == done;
+}
+
+static void held_files(void)
+{
+    uint64_t copy[HELD];
+    expect(besklaun_held_set_up(held, HELD, 2, 1, 1, value, 1) == 0, "a set-up for files");
+    memcpy(copy, held, sizeof copy);
+    expect(file_ran(besklaun_held_run_board(held, HELD, NULL, 0), 25, 0), "no bytes on a list are 25");
+    expect(file_ran(besklaun_held_run_board(NULL, 0, first, sizeof first), 1, 0), "a file on no list is 1");
+    expect(file_ran(besklaun_held_run_board(held, HELD, no_records, 12), 0, 0), "no records on a list");
+    expect(memcmp(copy, held, sizeof copy) == 0, "where no command is done every number stays");
+    expect(file_ran(besklaun_held_run_board(held, HELD, first, sizeof first), 5, 1), "an SC during an LL on a list is 5");
+    expect(held[BESKLAUN_HELD_CALL(0)] == 1, "its LL is open");
+}
+
 #define MOIR (BESKLAUN_MOIR_COUNT(2, 1) + 1)
 
 static uint64_t moir[MOIR];
@@ -623,6 +665,7 @@ int main(int count, char **given)
     reports();
     messages();
     moir_texts();
+    marks();
     views();
     seasons();
     schedules();
@@ -631,6 +674,7 @@ int main(int count, char **given)
     held_lists();
     held_texts();
     turns();
+    held_files();
     moir_lists();
     if (!wrong) {
         puts("as expected");

@@ -1,9 +1,10 @@
--- The definitions of the library in small cases, by computation: verdicts and reasons in C's terms, and turns in bytes that
--- just suffice.
+-- The definitions of the library in small cases, by computation: verdicts and reasons in C's terms, turns in bytes that
+-- just suffice, views, and the marks of a trace.
 use mathlib.Core.Path.{◌≡◌, refl}
 use mathlib.Core.List.{[], ◌∷◌}
 use mathlib.Core.Bool.{true, false}
 use lib.ListN.{replicate}
+use Rattle.listing.specs.Quoted.{quoted}
 use Rattle.verdicts.specs.declared.Verdict.TheVariants.{Refused, Yes, No}
 use Rattle.llsc.specs.declared.refusals.Refusal.TheVariants.{NoSuchProcess}
 use Rattle.verdicts.specs.declared.Fault.TheVariants.{Overlap}
@@ -14,6 +15,12 @@ use Rattle.llsc.specs.declared.refusals.Refusal.{Refusal}
 use Rattle.enumeration.specs.declared.Schedule.{Schedule}
 use Rattle.besklaun.specs.Judgements.{judgement_of, reasoned_of}
 use Rattle.besklaun.specs.TurnBytes.{schedule_into}
+use Rattle.model.specs.View.{view_number, view_part}
+use Rattle.besklaun.specs.Views.{view_told}
+use Rattle.besklaun.specs.MarkedTraces.{mark_told}
+use Rattle.answers.specs.Readers.{digits_after, number_in, spaced_number, expected}
+use Rattle.marking.specs.Reading.{line_in}
+use Rattle.marking.specs.Marked.{marked_from}
 
 -- a refused log has its number and no yes; yes and no have none
 record Verdicts : Type 0 where
@@ -45,3 +52,22 @@ record Turns : Type 0 where
 turns : Turns
 unfolding found
 turns = record { byte_behind = refl; exact_room = refl; too_few = refl }
+
+-- success 0 is the value, success 2 the second of the list, and there is no success 3
+record Views : Type 0 where
+  value : view_told 2 (1 ∷ 2 ∷ []) (3 ∷ 4 ∷ 5 ∷ 6 ∷ []) 0 ≡ record { number = 0; written = false; start = 0; count = 2 }
+  second : view_told 2 (1 ∷ 2 ∷ []) (3 ∷ 4 ∷ 5 ∷ 6 ∷ []) 2 ≡ record { number = 0; written = true; start = 2; count = 2 }
+  third : view_told 2 (1 ∷ 2 ∷ []) (3 ∷ 4 ∷ 5 ∷ 6 ∷ []) 3 ≡ record { number = 15; written = false; start = 0; count = 0 }
+
+views : Views
+unfolding view_number view_part
+views = record { value = refl; second = refl; third = refl }
+
+-- the marks of two starts, in room that just suffices, and in room of four bytes
+record Marks : Type 0 where
+  whole : mark_told (quoted "1 0 start L\n2 1 start V\n") (replicate 28 9) ≡ (28, quoted "  1 0 start L\n~ 2 1 start V\n")
+  part : mark_told (quoted "1 0 start L\n2 1 start V\n") (replicate 4 9) ≡ (28, quoted "  1 ")
+
+marks : Marks
+unfolding marked_from line_in number_in spaced_number expected digits_after
+marks = record { whole = refl; part = refl }

@@ -1,5 +1,6 @@
 pub mod BoardRuns
 pub mod Judgements
+pub mod MarkedTraces
 pub mod MoirTexts
 pub mod OwnBench
 pub mod Seasons

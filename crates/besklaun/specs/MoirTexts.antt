@@ -6,9 +6,15 @@ use Rattle.text_runs.specs.TextRun.{run_with}
 use Rattle.text_runs.specs.declared.returned.TextRun.{TextRun}
 use Rattle.moir_text_model.specs.TextRun.{figure6}
 use Rattle.moir_text_machine.specs.TextRan.{at_start}
+use Rattle.besklaun.specs.declared.texts.ReportedRun.{ReportedRun}
 use Rattle.besklaun.specs.OwnBench.{seen}
+use Rattle.besklaun.specs.TextReports.{ReportedBy}
 
 -- a text run into these bytes, of its listing or, where `traced`, of its trace; what the caller sees of it is what it sees
 -- of the first bench's
 abbrev pub moir_text_run : Bool → List ℕ → List ℕ → TextRun × List ℕ
 moir_text_run traced text bytes = seen (run_with figure6 reader traced at_start text bytes)
+
+-- the same with its stop
+abbrev pub MoirReported : Bool → List ℕ → List ℕ → ReportedRun → List ℕ → Type 0
+MoirReported traced text bytes r after = ReportedBy figure6 at_start (moir_text_run traced text bytes) traced text bytes r after

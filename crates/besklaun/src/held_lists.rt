@@ -4,8 +4,10 @@ ghost use Rattle.held_model.specs.HeldCommand.{SetUpDone, order_of, Commanded, S
 ghost use Rattle.held_buffers.specs.Places.{HoldersTold};
 ghost use Rattle.held_turns.specs.TurnTold.{next_named, TurnDone};
 ghost use Rattle.besklaun.specs.HeldTexts.{StateTold};
+ghost use Rattle.held_boards.specs.FileDone.{FileDone};
 
 use crate::texts::TextStop;
+use board_commands::FileRun;
 use held_model::Told;
 use held_texts::states;
 use held_turns::HeldTurn;
@@ -90,4 +92,12 @@ pub fn besklaun_held_text(held: &mut [u64], text: &[u8], entries: usize) -> Held
         entries: out.entries,
         stop: TextStop::from(out.report),
     }
+}
+
+// A board's trace file (02, CR 12) run on record 0 of it, whatever stands in it and in the file.
+// Wrong programs that this rules out: one that sets the station up first; one that counts a refused command as done.
+pub fn besklaun_held_run_board(held: &mut [u64], file: &[u8]) -> FileRun
+    ensures { FileDone held.old file.now result held.new }
+{
+    held_boards::running::run_file(held, file)
 }

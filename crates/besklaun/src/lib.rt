@@ -8,6 +8,7 @@ pub mod board_files;
 pub mod explained;
 pub mod held_lists;
 pub mod logs;
+pub mod marks;
 pub mod moir_lists;
 pub mod moir_texts;
 pub mod schedules;

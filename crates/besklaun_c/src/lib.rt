@@ -9,6 +9,7 @@ ghost use Rattle.boards.specs.Merging.{merge_files};
 ghost use Rattle.held_model.specs.HeldCommand.{SetUpDone, order_of, Commanded, SteppedTo};
 ghost use Rattle.held_buffers.specs.Places.{HoldersTold};
 ghost use Rattle.held_turns.specs.TurnTold.{next_named, TurnDone};
+ghost use Rattle.held_boards.specs.FileDone.{FileDone};
 ghost use Rattle.held_model.specs.Told.{order_named};
 ghost use Rattle.moir_held_model.specs.HeldCommand.{SetUpDone as MoirSetUpDone, Commanded as MoirCommanded, SteppedTo as MoirSteppedTo};
 ghost use Rattle.verdicts.specs.Verdicts.{judged};
@@ -18,7 +19,8 @@ ghost use Rattle.besklaun.specs.BoardRuns.{board_run};
 ghost use Rattle.besklaun.specs.Explained.{Explained};
 ghost use Rattle.besklaun.specs.HeldTexts.{StateTold};
 ghost use Rattle.besklaun.specs.Judgements.{judgement_of, reasoned_of};
-ghost use Rattle.besklaun.specs.MoirTexts.{moir_text_run};
+ghost use Rattle.besklaun.specs.MarkedTraces.{mark_told};
+ghost use Rattle.besklaun.specs.MoirTexts.{moir_text_run, MoirReported};
 ghost use Rattle.besklaun.specs.OwnBench.{text_run};
 ghost use Rattle.besklaun.specs.Seasons.{adding, fractions_of};
 ghost use Rattle.besklaun.specs.TextReports.{Reported};
@@ -37,9 +39,10 @@ use besklaun::seasons::{Added, Fractions};
 use besklaun::texts::{ReportedRun, TextRun};
 use besklaun::views::View;
 use besklaun::{
-    board_files, explained, held_lists, logs, moir_lists, moir_texts, schedules, seasons, texts,
+    board_files, explained, held_lists, logs, marks, moir_lists, moir_texts, schedules, seasons, texts,
     versions, views,
 };
+use board_commands::FileRun;
 use boards::Merged;
 use held_model::Told;
 use held_turns::HeldTurn;
@@ -140,6 +143,29 @@ pub extern "C" fn besklaun_moir_trace_text(text: &[u8], trace: &mut [u8]) -> Tex
     ensures { (result, trace.new) ≡ moir_text_run true text.now trace.old }
 {
     moir_texts::besklaun_moir_trace_text(text, trace)
+}
+
+#[unsafe(no_mangle)]
+pub extern "C" fn besklaun_moir_run_text_with_report(text: &[u8], listing: &mut [u8]) -> ReportedRun
+    ensures { MoirReported false text.now listing.old result listing.new }
+{
+    moir_texts::besklaun_moir_run_text_with_report(text, listing)
+}
+
+#[unsafe(no_mangle)]
+pub extern "C" fn besklaun_moir_trace_text_with_report(text: &[u8], trace: &mut [u8]) -> ReportedRun
+    ensures { MoirReported true text.now trace.old result trace.new }
+{
+    moir_texts::besklaun_moir_trace_text_with_report(text, trace)
+}
+
+// The marks of a trace (02, CR 13).
+
+#[unsafe(no_mangle)]
+pub extern "C" fn besklaun_mark_trace(trace: &[u8], marked: &mut [u8]) -> usize
+    ensures { (result, marked.new) ≡ mark_told trace.now marked.old }
+{
+    marks::besklaun_mark_trace(trace, marked)
 }
 
 // The view of a written value.
@@ -291,6 +317,13 @@ pub extern "C" fn besklaun_held_text(held: &mut [u64], text: &[u8], entries: usi
     ensures { StateTold held.old text.now entries result held.new }
 {
     held_lists::besklaun_held_text(held, text, entries)
+}
+
+#[unsafe(no_mangle)]
+pub extern "C" fn besklaun_held_run_board(held: &mut [u64], file: &[u8]) -> FileRun
+    ensures { FileDone held.old file.now result held.new }
+{
+    held_lists::besklaun_held_run_board(held, file)
 }
 
 // Moir's bench that a caller holds as one list of numbers.

@@ -45,16 +45,16 @@ refused_in (Ok out) = 0
 refused_in (Err k) = 1
 
 -- the first two rows
-first_two : Bool → ℕ
+pub first_two : Bool → ℕ
 first_two true = 1
 first_two false = 2
 
-some_row_lem : (t : Bool) → first_two t ≡ 0 → ⊥
+pub some_row_lem : (t : Bool) → first_two t ≡ 0 → ⊥
 unfolding first_two
 some_row_lem true e = omega (arith, e)
 some_row_lem false e = omega (arith, e)
 
-row_2_holds : (t u : Bool) (rest : ℕ) → u ≡ true → first_two t ≡ cond t 1 (cond u 2 rest)
+pub row_2_holds : (t u : Bool) (rest : ℕ) → u ≡ true → first_two t ≡ cond t 1 (cond u 2 rest)
 unfolding first_two
 row_2_holds true u rest e = refl
 row_2_holds false u rest e = ap (λ (x : Bool). cond x 2 rest) (sym e)

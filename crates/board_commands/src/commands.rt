@@ -15,7 +15,7 @@ use text_runs::lists::repeated;
 
 // CR 12: "order (1: 0 step, 1 LL, 2 SC, 3 VL)".
 // Kept: neither `u8` nor `Order` is this crate's, so there is no `From` of one for the other.
-fn order_of(byte: u8) -> Order
+pub fn order_of(byte: u8) -> Order
     ensures { result ≡ order_of byte }
 {
     match byte {

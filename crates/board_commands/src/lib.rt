@@ -10,6 +10,7 @@ use station_records::left::Left;
 
 // What a run returns: the number of the refusal that ended it, 0 for none, and the commands done.
 // Kept: 02 promises its users a number.
+#[repr(C)]
 #[derive(Clone, Copy)]
 pub struct FileRun {
     pub number: u8,

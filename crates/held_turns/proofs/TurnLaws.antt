@@ -1,19 +1,19 @@
 -- A turn over a held list is `turn_of` of the memory that it stands for.
-use mathlib.Core.Path.{◌≡◌, refl, sym, ap, ap₂, ◌∙◌}
+use mathlib.Core.Path.{◌≡◌, refl, sym, ap, ap₂, subst, ◌∙◌}
 use mathlib.Core.List.{List}
 use mathlib.Core.Bool.{Bool, true, false, cond, not, ◌||◌}
 use Prim.Native.Nat.{ℕ, zero, suc, ◌-◌, ◌<◌, ◌≤◌}
 use native.Mathlib.Omega.{arith}
 use lib.Dec.{eqb, leb}
 use lib.ListN.{length, replicate, length-drop}
-use borrow.Author.Tests.{eq-eqb, ne_eqb, le-ltb}
+use borrow.Author.Tests.{eq-eqb, ne_eqb, le-ltb, lt-ltb}
 use Rattle.std.proofs.lemmas.List.{length-replicate}
 use Rattle.llsc.specs.Rows.{row1, row2}
 use Rattle.laws.proofs.Updates.{contra}
 use Rattle.station.specs.declared.StationProcess.{StationProcess}
 use Rattle.station.specs.Station.{StationMemory}
 use Rattle.station.specs.Projection.{at_rest}
-use Rattle.station.specs.StationRefusals.{row23, row3of, station_in_range}
+use Rattle.station.specs.StationRefusals.{StationOrder, row23, row3of, record_for, station_in_range}
 use Rattle.station.specs.StationCommand.{station_refusal}
 use Rattle.station_rows.specs.StationCommandRows.{station_lent_number}
 use Rattle.turns_model.specs.declared.NextCall.{NextCall}
@@ -23,7 +23,7 @@ use Rattle.held_model.specs.declared.Told.{Told}
 use Rattle.held_model.specs.Layout.{call_place, words_place}
 use Rattle.held_model.specs.Memory.{number_at, process_in, memory_of}
 use Rattle.held_model.specs.Told.{told_with}
-use Rattle.held_model.specs.HeldCommand.{Commanded}
+use Rattle.held_model.specs.HeldCommand.{MarksAfter, Commanded}
 use Rattle.held_model.proofs.TabLaws.{tab_length}
 use Rattle.held_model.proofs.MemoryLaws.{process_there}
 use Rattle.held_rows.specs.ListRows.{lent_number}
@@ -97,10 +97,14 @@ module _ (l : List ℕ) where
     abbrev Done : HeldTurn → List ℕ → Type 0
     Done t l' = TurnDone l p next v left t l'
 
-    done : {t : HeldTurn} {l' : List ℕ} (a : AfterTurn) → turn s p calls ≡ a → t ≡ tells a → memory_of l' ≡ a.memory → ((turn_refusal s p call ≡ 0 → ⊥) → l' ≡ l)
+    abbrev Marks : HeldTurn → List ℕ → Type 0
+    Marks t l' = turn_refusal s p call ≡ 0 → t.passed ≡ false → MarksAfter l l' p (record_for s (order_given s p call)).0
+
+    done : {t : HeldTurn} {l' : List ℕ} (a : AfterTurn) → turn s p calls ≡ a → t ≡ tells a → memory_of l' ≡ a.memory → Marks t l' → ((turn_refusal s p call ≡ 0 → ⊥) → l' ≡ l)
         → (t.passed ≡ true → l' ≡ l) → Done t l'
     unfolding turn_of
-    done a e x y z u = record {
+    done a e x y k z u = record {
+      marks = k;
       answer = x ∙ ap tells (sym e);
       memory = y ∙ ap (λ (b : AfterTurn). b.memory) (sym e);
       refused = z;
@@ -114,16 +118,26 @@ module _ (l : List ℕ) where
     mk t b k = record { told = t; passed = b; left = k }
 
     -- a turn of another process
+    refused_other : 1 < p → turn_refusal s p call ≡ 22
+    refused_other h = ap (λ (t : Bool). cond t 22 (cond (eqb (lent_refusal s) 0) (station_refusal s (order_given s p call)) (lent_refusal s))) (lt-ltb 1 p h)
+
     pub other_done : {x : Told} → 1 < p → x ≡ told_with 22 0 false 0 → Done (mk x false left) l
     other_done {x} h e =
-        done (turn_refused 22 s calls) (another_turn s p calls h) (ap₂ (λ (t : Told) (k : ℕ). mk t false k) e (sym left_is)) refl (λ z. refl) (λ z. refl)
+        done (turn_refused 22 s calls) (another_turn s p calls h) (ap₂ (λ (t : Told) (k : ℕ). mk t false k) e (sym left_is)) refl
+        (λ z. absurd (let y : ⊥ = omega (arith, z, refused_other h) in y)) (λ z. refl) (λ z. refl)
 
     module _ (low : p ≤ 1) where
+      refused_lent : (lent_refusal s ≡ 0 → ⊥) → turn_refusal s p call ≡ lent_refusal s
+      refused_lent n =
+          ap (λ (t : Bool). cond t 22 (cond (eqb (lent_refusal s) 0) (station_refusal s (order_given s p call)) (lent_refusal s))) (le-ltb 1 p low)
+          ∙ ap (λ (t : Bool). cond t (station_refusal s (order_given s p call)) (lent_refusal s)) (ne_eqb (lent_refusal s) 0 n)
+
       pub lent_done : {x : Told} (k : ℕ) → k ≡ memory_number l → (k ≡ 0 → ⊥) → x ≡ told_with k 0 false 0 → Done (mk x false left) l
       lent_done {x} k e some h =
           let is : k ≡ lent_refusal s = e ∙ memory_is in
           done (turn_refused (lent_refusal s) s calls) (refused_turn_is s p calls low (λ z. some (is ∙ z)))
-          (ap₂ (λ (t : Told) (j : ℕ). mk t false j) (h ∙ ap (λ (j : ℕ). told_with j 0 false 0) is) (sym left_is)) refl (λ z. refl) (λ z. refl)
+          (ap₂ (λ (t : Told) (j : ℕ). mk t false j) (h ∙ ap (λ (j : ℕ). told_with j 0 false 0) is) (sym left_is)) refl
+          (λ z. absurd (some (is ∙ sym (refused_lent (λ y. some (is ∙ y))) ∙ z))) (λ z. refl) (λ z. refl)
 
       module _ (ok : memory_number l ≡ 0) where
         none : lent_refusal s ≡ 0
@@ -135,15 +149,21 @@ module _ (l : List ℕ) where
             ∙ ap (λ (t : Bool). cond t (station_refusal s (order_given s p call)) (lent_refusal s)) (eq-eqb (lent_refusal s) 0 none)
             ∙ ap (λ (t : Bool). station_refusal s (cond t (start_by p call) (step_by p))) e
 
+        marks_by : {l' : List ℕ} (b : Bool) → counts_as_idle s p ≡ b
+            → (station_refusal s (cond b (start_by p call) (step_by p)) ≡ 0 → MarksAfter l l' p (record_for s (cond b (start_by p call) (step_by p))).0)
+            → turn_refusal s p call ≡ 0 → MarksAfter l l' p (record_for s (order_given s p call)).0
+        marks_by {l'} b e h z =
+            subst (λ (c : StationOrder). MarksAfter l l' p (record_for s c).0) (sym (ap (λ (t : Bool). cond t (start_by p call) (step_by p)) e)) (h (sym (refusal_by b e) ∙ z))
+
         pub step_turn : {x : Told} {l' : List ℕ} → counts_as_idle s p ≡ false → Commanded l (step_by p) x l' → Done (mk x false left) l'
         step_turn {x} {l'} e d =
             done (turn_commands s (step_by p) calls) (busy_turn s p calls low none e) (ap₂ (λ (t : Told) (k : ℕ). mk t false k) d.answer (sym left_is)) d.memory
-            (λ z. d.refused (λ y. z (refusal_by false e ∙ y))) (λ z. absurd (contra z refl))
+            (λ z u. marks_by false e d.marks z) (λ z. d.refused (λ y. z (refusal_by false e ∙ y))) (λ z. absurd (contra z refl))
 
         pub pass_turn : {x : Told} → counts_as_idle s p ≡ true → left ≡ 0 → x ≡ told_with 0 0 false 0 → Done (mk x true 0) l
         pass_turn {x} e z h =
-            done (turn_passed s) (idle_turn_is s p calls low none e ∙ ap (λ (k : ℕ). idle_turn s p (replicate k call)) z) (ap (λ (t : Told). mk t true 0) h) refl (λ y. refl)
-            (λ y. refl)
+            done (turn_passed s) (idle_turn_is s p calls low none e ∙ ap (λ (k : ℕ). idle_turn s p (replicate k call)) z) (ap (λ (t : Told). mk t true 0) h) refl (λ y u. absurd (contra refl u))
+            (λ y. refl) (λ y. refl)
 
         pub start_turn : {x : Told} {l' : List ℕ} → counts_as_idle s p ≡ true → (left ≡ 0 → ⊥) → Commanded l (start_by p call) x l' → Done (mk x false (left - 1)) l'
         start_turn {x} {l'} e z d =
@@ -151,4 +171,4 @@ module _ (l : List ℕ) where
             done (turn_commands s (start_by p call) (replicate (left - 1) call))
             (idle_turn_is s p calls low none e ∙ ap (λ (k : ℕ). idle_turn s p (replicate k call)) more)
             (ap₂ (λ (t : Told) (k : ℕ). mk t false k) d.answer (sym (length-replicate (left - 1) call))) d.memory
-            (λ y. d.refused (λ u. y (refusal_by true e ∙ u))) (λ y. absurd (contra y refl))
+            (λ y u. marks_by true e d.marks y) (λ y. d.refused (λ u. y (refusal_by true e ∙ u))) (λ y. absurd (contra y refl))

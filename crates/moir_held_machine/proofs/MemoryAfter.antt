@@ -17,7 +17,8 @@ use Rattle.moir_model.specs.declared.Process.{Process}
 use Rattle.moir_model.specs.declared.Moved.{Moved}
 use Rattle.moir_model.specs.Records.{no_process}
 use Rattle.moir_model.specs.Machine.{Memory}
-use Rattle.moir_held_model.specs.Layout.{header_place, tag_place, process_place, words_place}
+use Rattle.moir_held_model.specs.Layout.{header_place, tag_place, process_place, mark_place, words_place}
+use Rattle.moir_held_model.specs.HeldCommand.{MarksAfter}
 use Rattle.moir_held_model.specs.Memory.{header_from, process_from, tag_from, memory_of}
 use Rattle.moir_held_model.proofs.MemoryLaws.{process_same}
 use Rattle.held_machine.proofs.WrittenLaws.{Off, truth_back}
@@ -32,6 +33,10 @@ pub parts : {n n' w w' : ℕ} {h h' : Header} {ts ts' : List ℕ} {ps ps' : List
 parts {n} {n'} {w} {w'} {h} {h'} {ts} {ts'} {ps} {ps'} {ws} {ws'} a b c d e f =
     ap₂ (λ (y z : ℕ). mk y z h ts ps ws) a b ∙ ap₂ (λ (y : Header) (z : List ℕ). mk n' w' y z ps ws) c d
     ∙ ap₂ (λ (y : List Process) (z : List ℕ). mk n' w' h' ts' y z) e f
+
+low : (t : Bool) → cond t 1 0 ≤ 1
+low true = omega arith
+low false = omega arith
 
 -- l is the list before the command, m that with the words after it
 module _ (l m : List ℕ) (p k : ℕ) (s : Moved) (k_in : k < 64) (p_in : p < 16) (long : words_place ≤ length m) (stay : Same l m 0 words_place) where
@@ -122,3 +127,9 @@ module _ (l m : List ℕ) (p k : ℕ) (s : Moved) (k_in : k < 64) (p_in : p < 16
   memory_after =
       parts (others 0 (omega arith) (λ x y. omega (arith, x)) (λ x y. omega (arith, x)) (λ x y. omega (arith, x)))
       (others 1 (omega arith) (λ x y. omega (arith, x)) (λ x y. omega (arith, x)) (λ x y. omega (arith, x))) header_written tags_after records_after words_after
+
+  pub marks_after : MarksAfter l l₃ p
+  marks_after = record {
+    own = let z : number_at l₃ (mark_place p) ≡ cond s.process.answered 1 0 = process_at 3 (omega arith) (omega arith) in omega (arith, z, low s.process.answered);
+    others = λ q b n. others (mark_place q) (omega (arith, b)) (λ u v. omega (arith, u, v, n, b, p_in)) (λ u v. omega (arith, u, v, k_in)) (λ u v. omega (arith, u, v));
+  }

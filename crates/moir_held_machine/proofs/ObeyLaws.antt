@@ -19,6 +19,7 @@ use Rattle.moir_steps.specs.Ranges.{Obeyable}
 use Rattle.moir_machine.proofs.RowLaws.{InRange}
 use Rattle.moir_held_model.specs.Layout.{header_place, words_place}
 use Rattle.moir_held_model.specs.Memory.{header_from, process_from, tag_from, memory_of}
+use Rattle.moir_held_model.specs.HeldCommand.{MarksAfter}
 use Rattle.moir_held_model.proofs.MemoryLaws.{record_there, tag_there}
 use Rattle.moir_held_rows.specs.Reads.{HeaderFits, ProcessFits}
 use Rattle.moir_held_rows.specs.ListRows.{Admits}
@@ -26,7 +27,7 @@ use Rattle.moir_held_rows.proofs.ListLaws.{whole_ranges}
 use Rattle.moir_held_rows.proofs.RangeFits.{tag_fits, header_fits, process_fits}
 use Rattle.moir_held_machine.specs.Writes.{with_tag, near_bench, put_near, near_from, written, OnWords}
 use Rattle.moir_held_machine.proofs.NearBench.{near_obey}
-use Rattle.moir_held_machine.proofs.MemoryAfter.{memory_after}
+use Rattle.moir_held_machine.proofs.MemoryAfter.{memory_after, marks_after}
 
 module _ (l : List ℕ) (p : ℕ) (o : Order) (v : List ℕ) (a : Admits l p o v) where
   abbrev n : ℕ
@@ -102,3 +103,6 @@ module _ (l : List ℕ) (p : ℕ) (o : Order) (v : List ℕ) (a : Admits l p o v
         ∙ ap back (on.done ∙ ap (λ (z : Bench). obey o me v z q ws) near_is)
         ∙ ap (put_back (memory_of l) me) (sym (near_obey me b q ws k_in o v))
         ∙ ap (λ (z : Process). put_back (memory_of l) me (obey o me v b z ws)) (sym (record_there l p p_in))
+
+    pub obey_marks : MarksAfter l (written m p k s) p
+    obey_marks = marks_after l m p k s k_in p_in (omega (arith, on.length_stays, a.list.long)) stay

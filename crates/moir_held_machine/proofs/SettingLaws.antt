@@ -21,9 +21,9 @@ use Rattle.moir_model.specs.Refusals.{set_up_rows_of}
 use Rattle.moir_model.specs.SetUp.{at_set_up, words_at_set_up, set_up, set_up_refusal}
 use Rattle.moir_machine.specs.SetUpByValue.{set_up_number, set_up_number_lem}
 use Rattle.moir_machine.proofs.SetUpLaws.{set_up_fits}
-use Rattle.moir_held_model.specs.Layout.{header_place, tag_place, process_place, words_place}
+use Rattle.moir_held_model.specs.Layout.{header_place, tag_place, process_place, mark_place, words_place}
 use Rattle.moir_held_model.specs.Memory.{process_from, tag_from, memory_of}
-use Rattle.moir_held_model.specs.HeldCommand.{SetUpDone}
+use Rattle.moir_held_model.specs.HeldCommand.{MarksSet, SetUpDone}
 use Rattle.moir_held_model.proofs.MemoryLaws.{process_same, sixteen}
 use Rattle.moir_held_machine.specs.Setting.{head_set, WordsSet, Room}
 use Rattle.held_machine.proofs.WrittenLaws.{Off}
@@ -149,6 +149,15 @@ module _ (l : List ℕ) (n w : ℕ) (n_in : n ≤ 16) (w_in : w ≤ 64) (long : 
         ∙ process_same l l₃ i (λ k x y. off₁ k (λ u v. omega (arith, v, x, b)) (λ u v. omega (arith, v, x, w_in)) (λ u v. omega (arith, v, x)))))
         (set.set ∙ ap (λ (z : List ℕ). words_at_set_up z n w value) head_drop)
 
+    pub marks_set : MarksSet l n l'
+    marks_set p b = by (ltb p n) refl
+      where
+        by : (t : Bool) → ltb p n ≡ t → number_at l' (mark_place p) ≡ cond t 0 (number_at l (mark_place p))
+        by true e = same (mark_place p) (omega (arith, b)) ∙ own_at p 3 (ltb-true p n e) (omega arith) (omega arith)
+        by false e =
+            let z : n ≤ p = ltb-false p n e in
+            same (mark_place p) (omega (arith, b)) ∙ off₁ (mark_place p) (λ u v. omega (arith, v, z)) (λ u v. omega (arith, v, w_in)) (λ u v. omega (arith, v))
+
 module _ (l : List ℕ) (n w : ℕ) (value : List ℕ) where
   abbrev number : ℕ
   number = set_up_number n w 16 (length l - words_place) (length value)
@@ -180,15 +189,17 @@ module _ (l : List ℕ) (n w : ℕ) (value : List ℕ) where
       let is : k ≡ set_up_refusal m n w value = e ∙ number_is in
       record {
         done = ap (λ (z : ℕ). (z, m)) is ∙ ap answer (sym (ne_eqb (set_up_refusal m n w value) 0 (λ z. h (is ∙ z))));
+        marks = λ z. absurd (h z);
         refused = λ z. refl;
       }
 
-  pub set_up_done : (l' : List ℕ) → number ≡ 0 → memory_of l' ≡ at_set_up m n w value → SetUpDone l n w value 0 l'
+  pub set_up_done : (l' : List ℕ) → number ≡ 0 → memory_of l' ≡ at_set_up m n w value → MarksSet l n l' → SetUpDone l n w value 0 l'
   unfolding set_up
-  set_up_done l' e h =
+  set_up_done l' e h marks =
       let none : set_up_refusal m n w value ≡ 0 = sym number_is ∙ e in
       record {
         done = ap (λ (x : Memory). (0, x)) h ∙ ap (λ (k : ℕ). (k, at_set_up m n w value)) (sym none)
             ∙ ap answer (sym (eq-eqb (set_up_refusal m n w value) 0 none));
+        marks = λ z. marks;
         refused = λ z. absurd (z refl);
       }

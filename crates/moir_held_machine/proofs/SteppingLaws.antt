@@ -15,7 +15,7 @@ use Rattle.moir_held_model.specs.declared.Told.{Told}
 use Rattle.moir_held_model.specs.Memory.{memory_of}
 use Rattle.moir_held_model.specs.Told.{told_with, told}
 use Rattle.moir_held_model.specs.Ranges.{held_refusal, held_command, near_refusal, near_command}
-use Rattle.moir_held_model.specs.HeldCommand.{DoneBy, Commanded, SteppedTo}
+use Rattle.moir_held_model.specs.HeldCommand.{MarksAfter, DoneBy, Commanded, SteppedTo}
 use Rattle.moir_held_model.proofs.MemoryLaws.{memory_shaped}
 use Rattle.moir_held_model.proofs.RangeLaws.{held_refusal_is, held_command_is}
 use Rattle.moir_held_rows.specs.ListRows.{memory_number}
@@ -28,6 +28,7 @@ pub done_as : {r r' : Memory → ℕ → Order → List ℕ → ℕ} {f f' : Mem
 done_as {l = l} {p = p} e g d = record {
   answer = d.answer ∙ ap (λ (x : Reply × Memory). told (number_at l 0) (number_at l 1) p x.0) g;
   memory = d.memory ∙ ap (λ (x : Reply × Memory). x.1) g;
+  marks = λ z. d.marks (e ∙ z);
   refused = λ n. d.refused (λ z. n (sym e ∙ z));
 }
 
@@ -56,10 +57,11 @@ module _ (m : Memory) (p : ℕ) (o : Order) (v : List ℕ) where
 module _ {l : List ℕ} {p : ℕ} {o : Order} {v : List ℕ} {t : Told} {l' : List ℕ} where
   -- a refusal that leaves every number
   refused_by : {r : Memory → ℕ → Order → List ℕ → ℕ} {f : Memory → ℕ → Order → List ℕ → Reply × Memory} (k : ℕ) → f (memory_of l) p o v ≡ (Refused k, memory_of l)
-      → t ≡ told_with k 0 false 0 0 → l' ≡ l → DoneBy r f l p o v t l'
-  refused_by k r a b = record {
+      → (r (memory_of l) p o v ≡ 0 → ⊥) → t ≡ told_with k 0 false 0 0 → l' ≡ l → DoneBy r f l p o v t l'
+  refused_by k r n a b = record {
     answer = a ∙ ap (λ (x : Reply × Memory). told (number_at l 0) (number_at l 1) p x.0) (sym r);
     memory = ap memory_of b ∙ ap (λ (x : Reply × Memory). x.1) (sym r);
+    marks = λ z. absurd (n z);
     refused = λ z. b;
   }
 
@@ -73,20 +75,23 @@ module _ {l : List ℕ} {p : ℕ} {o : Order} {v : List ℕ} {t : Told} {l' : Li
   is_commanded d = record { held = d; command = λ h. done_as (held_refusal_is (memory_of l) p o v h) (held_command_is (memory_of l) p o v h) d }
 
   pub step_refused : (k : ℕ) → k ≡ near_refusal (memory_of l) p o v → (k ≡ 0 → ⊥) → t ≡ told_with k 0 false 0 0 → l' ≡ l → SteppedTo l p o v t l'
-  step_refused k e n a b = is_stepped (refused_by k (near_refuses (memory_of l) p o v k e n) a b)
+  step_refused k e n a b = is_stepped (refused_by k (near_refuses (memory_of l) p o v k e n) (λ z. n (e ∙ z)) a b)
 
   pub step_done : (reply : Reply) → near_refusal (memory_of l) p o v ≡ 0 → (reply, memory_of l') ≡ obeyed (memory_of l) (record { 0 = p }) o v
-      → t ≡ told (number_at l 0) (number_at l 1) p reply → SteppedTo l p o v t l'
-  step_done reply e d a =
+      → t ≡ told (number_at l 0) (number_at l 1) p reply → MarksAfter l l' p → SteppedTo l p o v t l'
+  step_done reply e d a marks =
       let r : (reply, memory_of l') ≡ near_command (memory_of l) p o v = d ∙ sym (near_obeys (memory_of l) p o v e) in
       is_stepped (record {
         answer = a ∙ ap (λ (x : Reply × Memory). told (number_at l 0) (number_at l 1) p x.0) r;
         memory = ap (λ (x : Reply × Memory). x.1) r;
+        marks = λ z. marks;
         refused = λ n. absurd (n e);
       })
 
   pub command_refused : (k : ℕ) → k ≡ memory_number l → (k ≡ 0 → ⊥) → t ≡ told_with k 0 false 0 0 → l' ≡ l → Commanded l p o v t l'
-  command_refused k e n a b = is_commanded (refused_by k (held_refuses (memory_of l) p o v k (memory_refuses l p o v k e n) n) a b)
+  command_refused k e n a b =
+      let z = memory_refuses l p o v k e n in
+      is_commanded (refused_by k (held_refuses (memory_of l) p o v k z n) (λ x. n (z ∙ x)) a b)
 
   pub command_passed : memory_number l ≡ 0 → SteppedTo l p o v t l' → Commanded l p o v t l'
   command_passed e d =

@@ -2,6 +2,7 @@
 ghost use Rattle.std.specs.Prelude.{◌≡◌, ◌<◌, ◌≤◌, length, drop};
 ghost use Rattle.moir_model.specs.Command.{obeyed};
 ghost use Rattle.moir_steps.specs.Ranges.{Obeyable};
+ghost use Rattle.moir_held_model.specs.HeldCommand.{MarksAfter};
 ghost use Rattle.moir_held_model.specs.Memory.{header_from, tag_from, memory_of};
 ghost use Rattle.moir_held_rows.specs.Reads.{HeaderFits};
 ghost use Rattle.moir_held_rows.specs.ListRows.{Admits};
@@ -47,7 +48,8 @@ fn on_words(
 
 pub fn obey(held: &mut [u64], p: usize, order: Order, value: &[u64]) -> Reply
     requires { Admits held.old p order value.now }
-    ensures { (result, memory_of held.new) ≡ obeyed (memory_of held.old) (record { 0 = p }) order value.now }
+    ensures done { (result, memory_of held.new) ≡ obeyed (memory_of held.old) (record { 0 = p }) order value.now }
+    ensures marks { MarksAfter held.old held.new p }
 {
     let me = ProcessNumber(p as u8);
     let process = reads::process_at(held, me);

@@ -3,7 +3,7 @@ ghost use Rattle.std.specs.Prelude.{◌≡◌, ◌-◌, ◌≤◌, length};
 ghost use Rattle.moir_model.specs.SetUp.{at_set_up};
 ghost use Rattle.moir_machine.specs.SetUpByValue.{Accepted};
 ghost use Rattle.moir_held_model.specs.Memory.{memory_of};
-ghost use Rattle.moir_held_model.specs.HeldCommand.{SetUpDone};
+ghost use Rattle.moir_held_model.specs.HeldCommand.{MarksSet, SetUpDone};
 ghost use Rattle.moir_held_machine.specs.Setting.{head_set, WordsSet, Room};
 
 use llsc::ProcessNumber;
@@ -34,7 +34,8 @@ fn write_words(held: &mut [u64], at: usize, n: usize, w: usize, value: &[u64])
 // One that no row refuses.
 fn prepare(held: &mut [u64], n: usize, w: usize, value: &[u64])
     requires { Room held.old n w (length value.now) }
-    ensures { memory_of held.new ≡ at_set_up (memory_of held.old) n w value.now }
+    ensures memory { memory_of held.new ≡ at_set_up (memory_of held.old) n w value.now }
+    ensures marks { MarksSet held.old n held.new }
 {
     write_head(held, n, w);
     write_words(held, layout::WORDS, n, w, value);

@@ -1,5 +1,5 @@
 // What a command left, written back.
-ghost use Rattle.std.specs.Prelude.{◌≡◌, ◌<◌, ◌≤◌, length};
+ghost use Rattle.std.specs.Prelude.{◌≡◌, ◌<◌, ◌≤◌, cond, length};
 ghost use Rattle.moir_held_machine.specs.Writes.{header_numbers, process_numbers, written};
 
 use llsc::ProcessNumber;
@@ -13,6 +13,13 @@ fn header_numbers(h: Header) -> [u64; 2]
     [h.tag as u64, h.pid.0 as u64]
 }
 
+// 1 where a WLL was answered.
+fn mark(answered: bool) -> u64
+    ensures { result ≡ cond answered 1 0 }
+{
+    if answered { 1 } else { 0 }
+}
+
 fn process_numbers(q: Process) -> [u64; 17]
     ensures { result ≡ process_numbers q }
 {
@@ -20,7 +27,7 @@ fn process_numbers(q: Process) -> [u64; 17]
         q.line as u64,
         q.word as u64,
         q.count as u64,
-        if q.answered { 1 } else { 0 },
+        mark(q.answered),
         q.keep as u64,
         q.x.tag as u64,
         q.x.pid.0 as u64,

@@ -1,2 +1,3 @@
 pub mod MemoryLaws
 pub mod RangeLaws
+pub mod Examples

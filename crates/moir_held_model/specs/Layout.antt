@@ -14,6 +14,10 @@ tag_place k = 4 + k
 abbrev pub process_place : ℕ → ℕ
 process_place p = 68 + 17 * p
 
+-- where the mark of an answered WLL of process p stands
+abbrev pub mark_place : ℕ → ℕ
+mark_place p = process_place p + 3
+
 abbrev pub words_place : ℕ
 words_place = 340
 

@@ -49,7 +49,8 @@ use Rattle.moir_access.specs.declared.Access.{Access}
 use Rattle.moir_access.specs.TraceParts.{access_text}
 use Rattle.moir_text_model.specs.TextRun.{figure6, Progress, line_of, answers}
 use Rattle.moir_text_model.proofs.AcceptedRows.{unrefused}
-use Rattle.moir_text_model.proofs.SmallWords.{Small, SmallValue, Plain, accepted, wll, named, sc, vl, leaves, small_command}
+use Rattle.moir_text_model.proofs.NumbersLeft.{Plain, accepted, wll, named, sc, vl}
+use Rattle.moir_text_model.proofs.SmallWords.{Small, SmallValue, leaves, small_command}
 use Rattle.moir_text_model.proofs.LineLengths.{value_small, lines_fit}
 use Rattle.moir_text_machine.specs.RunState.{Sound, Free}
 use Rattle.moir_text_machine.specs.Turned.{words_brought, Listable, answer_line, access_seen, shown_line}

@@ -1,5 +1,6 @@
 pub mod TextRuns
 pub mod AcceptedRows
+pub mod NumbersLeft
 pub mod SmallWords
 pub mod LineLengths
 pub mod TableLengths

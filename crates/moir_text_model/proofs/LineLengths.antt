@@ -39,7 +39,8 @@ use Rattle.text_runs.specs.TextRun.{most_entries, room_needed, process_of, order
 use Rattle.text_runs.specs.TextRun as T
 use Rattle.moir_text_model.specs.TextRun.{Progress, figure6, letter_n, named_line, line_of, answers, access_now}
 use Rattle.moir_text_model.proofs.AcceptedRows.{InOrder, unrefused, cleared, in_order}
-use Rattle.moir_text_model.proofs.SmallWords.{Small, SmallValue, small_value, small_none, Plain, accepted, wll, named, sc, vl, leaves, small_command}
+use Rattle.moir_text_model.proofs.NumbersLeft.{Plain, accepted, wll, named, sc, vl}
+use Rattle.moir_text_model.proofs.SmallWords.{Small, SmallValue, small_value, small_none, leaves, small_command}
 
 -- a WLL's answer that names a process
 named_length : (p count q : ℕ) → p < 16 → count ≤ 519 → q ≤ largest → length (named_line p count q) ≤ 20

@@ -8,6 +8,7 @@ mod held_list;
 use besklaun::held::{self, Order, Reply};
 use besklaun::Refusal;
 use held_list::{line_of_figure_2, seen};
+use witness::boards::{pair, run_file};
 use witness::machine::{Answer, Bench, Lent, Order as Ordered, Reply as Answered, Sizes};
 use witness::rng::Rng;
 use witness::station::{limit_lists, list, memory, Command, List};
@@ -63,6 +64,70 @@ fn held_as(list: &List, index: u64) {
         }
     }
     stays(&held, &untouched);
+}
+
+/// A board's files on a station as a list of commands left it: number,
+/// commands done and all memory.
+#[test]
+fn board_files() {
+    let mut seen_numbers = [0; 29];
+    for index in 0..600 {
+        let pair = pair(42, index);
+        let Ok(mut bench) = pair.list.set_up.carried_out() else {
+            continue;
+        };
+        let Sizes { n, w, r } = pair.list.set_up.sizes;
+        let [n, w, r] = [n, w, r].map(|size| size as usize);
+        let mut held = vec![BEFORE; held::length(n, w, r) + 2];
+        held::set_up(&mut held, n, w, r, &pair.list.set_up.value).unwrap();
+        for (k, command) in pair.list.commands.iter().enumerate() {
+            let _ = bench.command_on(command.process, command.record, &command.order);
+            let _ = given(&mut held, command, k % 2 == 0);
+        }
+        for file in [&pair.first, &pair.second] {
+            let before = held.clone();
+            let said = run_file(&mut bench, file);
+            let ran = held::run_board(&mut held, file);
+            let number = ran.outcome.err().map_or(0, Refusal::number);
+            assert_eq!(
+                (number, ran.done as u64),
+                (said.number, said.done),
+                "pair {index}"
+            );
+            assert_eq!(seen(&held), memory(&bench), "pair {index}");
+            if ran.done == 0 {
+                assert_eq!(held, before, "pair {index}");
+            }
+            seen_numbers[number as usize] += 1;
+        }
+    }
+    for number in [0, 4, 5, 6, 7, 25, 26] {
+        assert!(seen_numbers[number] > 0, "{seen_numbers:?}");
+    }
+}
+
+/// On a list of any numbers: 25 and 26 first, then what its first command is
+/// refused with.
+#[test]
+fn board_files_on_any_numbers() {
+    let file = |order: u8| {
+        let record = [0, 0, 0, 0, 7, 0, 0, 0, 0, order, 0, 0];
+        let trailer = [0, 0, 0, 0, 1, 0, 0, 0, 0x54, 0x52, 0x41, 0x4c];
+        [record, trailer].concat()
+    };
+    let any: Vec<u64> = (0..400).map(|k| BEFORE ^ k).collect();
+    for held in [vec![], any] {
+        let mut list = held.clone();
+        for (file, refusal) in [
+            (vec![], Refusal::BadTrailer),
+            (file(4), Refusal::BadRecord),
+            (file(2), Refusal::NOutOfRange),
+        ] {
+            let ran = held::run_board(&mut list, &file);
+            assert_eq!((ran.outcome, ran.done), (Err(refusal), 0));
+            assert_eq!(list, held);
+        }
+    }
 }
 
 /// The numbers of a list with so many words.

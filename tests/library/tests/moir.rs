@@ -4,9 +4,10 @@
 
 use std::thread;
 
-use besklaun::{moir_run_text, moir_trace_text, Refusal, TextRun};
+use besklaun::{moir_run_text, moir_run_text_with_report, moir_trace_text};
+use besklaun::{moir_trace_text_with_report, Refusal, Sizes, Stop, TextRun};
 use witness::moir::{limit_texts, listing_of, text, trace_of};
-use witness::schedule::{LISTING, TRACE};
+use witness::schedule::{self as separately, LISTING, TRACE};
 
 /// What stands in the bytes lent before a run.
 const BEFORE: u8 = 0xa5;
@@ -40,6 +41,70 @@ fn as_the_separately_written_program() {
             writes(moir_trace_text, &text, TRACE.lent, &trace_of(&text));
         }
     }
+}
+
+/// Where it stopped: at the fault that the separately written reader finds;
+/// or at an item before which the text comes to its end, and with which it
+/// is refused alike.
+#[test]
+fn stops_where_it_is_refused() {
+    let limits = limit_texts();
+    let mut items = 0;
+    for index in 0..1000 {
+        let text = text(41, index, &limits);
+        let shown = text.escape_ascii();
+        let mut lent = vec![BEFORE; LISTING.lent];
+        let (run, stop) = moir_run_text_with_report(&text, &mut lent);
+        assert_eq!(run, moir_run_text(&text, &mut lent), "{shown}");
+        let mut trace = vec![BEFORE; TRACE.lent];
+        let (traced, at) = moir_trace_text_with_report(&text, &mut trace);
+        if run.outcome != Err(Refusal::NoRoom) && traced.outcome != Err(Refusal::NoRoom) {
+            assert_eq!((traced.outcome, at), (run.outcome, stop), "{shown}");
+        }
+        items += usize::from(stops(&text, run, stop));
+    }
+    assert!(items > 100, "{items}");
+}
+
+/// Whether it stopped at an item.
+fn stops(text: &[u8], run: TextRun, stop: Stop) -> bool {
+    let shown = text.escape_ascii();
+    if text.len() > separately::TEXT_LIMIT {
+        assert_eq!(stop, Stop::NotRead, "{shown}");
+        return false;
+    }
+    let read = match separately::parse(text) {
+        Err(fault) => {
+            assert_eq!(stop, Stop::AtFault(fault.place), "{shown}");
+            return false;
+        }
+        Ok(read) => read,
+    };
+    let Sizes { n, w } = match stop {
+        Stop::AtNoItem(sizes) | Stop::AtItem(sizes, _) => sizes,
+        _ => panic!("{stop:?}: {shown}"),
+    };
+    assert_eq!((n, w), (read.n, read.w), "{shown}");
+    let Stop::AtItem(_, item) = stop else {
+        assert!(run.number() < 4, "{shown}");
+        return false;
+    };
+    let (before, rest) = text.split_at(item.place);
+    // behind a group that is open the text before the item is no text
+    if separately::parse(before).is_ok() {
+        let space = |byte: &u8| b" \n".contains(byte);
+        let length = rest.iter().position(space).unwrap_or(rest.len());
+        assert!(last_line(before).starts_with("end "), "{shown}");
+        let with = last_line(&text[..item.place + length]);
+        let told = format!("refused {} {}", run.number(), run.entries);
+        assert_eq!(with, told, "{shown}");
+    }
+    true
+}
+
+fn last_line(text: &[u8]) -> String {
+    let listing = String::from_utf8(listing_of(text).0).unwrap();
+    listing.lines().last().unwrap().to_owned()
 }
 
 /// "A refusal 14 at the start writes nothing."

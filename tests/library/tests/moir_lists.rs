@@ -55,12 +55,7 @@ fn order(rng: &mut Rng, w: usize) -> Ordered {
     }
 }
 
-fn given(
-    held: &mut [u64],
-    process: usize,
-    order: &Ordered,
-    near: bool,
-) -> Result<Reply, Refusal> {
+fn given(held: &mut [u64], process: usize, order: &Ordered, near: bool) -> Result<Reply, Refusal> {
     let order = match order {
         Ordered::Step => Order::Step,
         Ordered::Load => Order::Wll,
@@ -153,11 +148,20 @@ fn numbers_out_of_range() {
         let stepped = moir::step(&mut list, 1, Order::Step);
         assert_eq!(stepped == refused, read, "{place}");
     }
-    for place in [moir::tag_place(2), moir::process_place(3), own + 3, own + 14] {
+    for place in [
+        moir::tag_place(2),
+        moir::process_place(3),
+        own + 3,
+        own + 14,
+    ] {
         let mut list = held.clone();
         list[place] = u64::MAX;
         let accepted = Ok(Reply::Accepted);
-        assert_eq!(moir::command(&mut list, 1, Order::Step), accepted, "{place}");
+        assert_eq!(
+            moir::command(&mut list, 1, Order::Step),
+            accepted,
+            "{place}"
+        );
     }
 }
 

@@ -6,8 +6,9 @@ use std::fs;
 use std::path::{Path, PathBuf};
 use std::thread;
 
-use besklaun::{run_text, run_text_with_report, trace_text, trace_text_with_report};
+use besklaun::{mark_trace, run_text, run_text_with_report, trace_text, trace_text_with_report};
 use besklaun::{Refusal, Sizes, Stop, TextRun};
+use witness::commuting::marked;
 use witness::rng::Rng;
 use witness::schedule::{self as separately, Form, LISTING, TRACE};
 use witness::texts::{limit_texts, text};
@@ -215,6 +216,34 @@ fn stops(text: &[u8], run: TextRun, stop: Stop) {
             "{shown}"
         );
     }
+}
+
+/// The marks of traces, into rooms that suffice and into others.
+#[test]
+fn marks_of_traces() {
+    let limits = limit_texts();
+    let rng = &mut Rng::stream(40, 0);
+    let mut marks = 0;
+    for index in 0..600 {
+        let text = text(40, index, &limits);
+        let mut trace = vec![0; 10 * ROOM];
+        let ran = trace_text(&text, &mut trace);
+        trace.truncate(ran.written);
+        let shown = String::from_utf8(trace.clone()).unwrap();
+        let expected = marked(&shown).unwrap().into_bytes();
+        marks += expected.iter().filter(|byte| **byte == b'~').count();
+        assert!(expected.len() <= 3 * trace.len());
+        for room in [expected.len() + 9, rng.below(expected.len() + 1)] {
+            let mut lent = vec![BEFORE; room];
+            assert_eq!(mark_trace(&trace, &mut lent), expected.len());
+            let fits = room.min(expected.len());
+            assert!(lent[..fits] == expected[..fits]);
+            assert!(lent[fits..].iter().all(|byte| *byte == BEFORE));
+        }
+    }
+    assert!(marks > 10_000, "{marks}");
+    assert_eq!(mark_trace(&[], &mut []), 0);
+    assert_eq!(mark_trace(b"\n\n", &mut []), 6);
 }
 
 /// The stack that besklaun.h names, in several threads at once.

@@ -1,28 +1,42 @@
 //! Nanoseconds of a step and of a command on a station that the caller holds,
 //! beside an entry inside a text run, on the same commands in the same run;
 //! the least of sixty turns. Status 1 where a step takes more than 1.5 times
-//! an entry, or a command more than 6 times.
+//! an entry, or a command more than 6 times. Then the same for Moir's bench,
+//! with no bound.
+
+mod moir;
 
 use std::process::ExitCode;
 use std::time::Instant;
 
 use besklaun::held::{self, Order, Reply};
+use besklaun::Refusal;
 use witness::commands::bench_text;
 
 const TURNS: usize = 60;
 const MOST: usize = 60_000;
+const SIZES: [(usize, usize); 5] = [(2, 1), (2, 8), (4, 8), (16, 1), (16, 64)];
 const WORDS: [u64; 64] = [7; 64];
 
-type Call = fn(&mut [u64], usize, Order<'_>) -> Result<Reply, u8>;
+type Call = fn(&mut [u64], usize, Order<'_>) -> Result<Reply, Refusal>;
 
 fn main() -> ExitCode {
-    println!("| N | W | Entry of a text run, ns | Step, ns | Ratio | Command, ns | Ratio |");
-    println!("|---|---|---|---|---|---|---|");
     let mut fast = true;
-    for (n, w) in [(2, 1), (2, 8), (4, 8), (16, 1), (16, 64)] {
+    head();
+    for (n, w) in SIZES {
         fast &= row(n, w);
     }
+    println!("\nMoir's bench:\n");
+    head();
+    for (n, w) in SIZES {
+        moir::row(n, w);
+    }
     ExitCode::from(u8::from(!fast))
+}
+
+fn head() {
+    println!("| N | W | Entry of a text run, ns | Step, ns | Ratio | Command, ns | Ratio |");
+    println!("|---|---|---|---|---|---|---|");
 }
 
 /// One line; whether it is fast enough.

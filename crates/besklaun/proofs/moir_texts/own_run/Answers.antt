@@ -11,4 +11,9 @@ abbrev shown : Seen → TextRun × List ℕ
 shown s = (record { number = s.number; entries = s.entries; written = s.written }, s.listing)
 
 pub returns : goal.returns
-returns c = rw c.from.ensures (ap shown c.run_text-out.ensures.same)
+returns c = record {
+  run = rw c.from-run.ensures (ap shown c.run_text-out.ensures.same);
+  report = c.run_text-out.result.report;
+  told = c.from-stop.ensures;
+  stops = c.run_text-out.ensures.stops;
+}

@@ -12,7 +12,7 @@ prepare-requires c =
 pub returns-in-Ok : goal.returns-in-Ok
 returns-in-Ok c =
     let a = c.args in
-    set_up_done a.held.now a.n a.w a.value.now c.prepare.new.held (sym (rw c.lent-lent.ensures at c.in-Ok.ensures)) c.prepare.ensures
+    set_up_done a.held.now a.n a.w a.value.now c.prepare.new.held (sym (rw c.lent-lent.ensures at c.in-Ok.ensures)) c.prepare.ensures.memory c.prepare.ensures.marks
 
 pub returns-in-Err : goal.returns-in-Err
 returns-in-Err c =

@@ -23,4 +23,4 @@ told-requires c =
 
 pub returns : goal.returns
 returns c =
-    step_done c.obey-reply.result c.requires c.obey-reply.ensures (rw (c.size_at-n.ensures, c.size_at-w.ensures) at c.told.ensures)
+    step_done c.obey-reply.result c.requires c.obey-reply.ensures.done (rw (c.size_at-n.ensures, c.size_at-w.ensures) at c.told.ensures) c.obey-reply.ensures.marks

@@ -1,0 +1,2 @@
+pub mod TagsFit
+pub mod Theorems

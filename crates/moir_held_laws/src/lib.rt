@@ -1,0 +1,3 @@
+// Laws of held lists of Moir's bench that a set-up and commands reached; no code.
+
+#![tactic(auto)]
