@@ -1,5 +1,5 @@
--- The definitions of the library in small cases, by computation: verdicts and reasons in C's terms, and turns in bytes that
--- just suffice.
+-- The definitions of the library in small cases, by computation: verdicts, reasons and stops in C's terms, and turns in bytes
+-- that just suffice.
 use mathlib.Core.Path.{◌≡◌, refl}
 use mathlib.Core.List.{[], ◌∷◌}
 use mathlib.Core.Bool.{true, false}
@@ -13,6 +13,9 @@ use Rattle.std.specs.Prelude.{Result, Ok}
 use Rattle.llsc.specs.declared.refusals.Refusal.{Refusal}
 use Rattle.enumeration.specs.declared.Schedule.{Schedule}
 use Rattle.besklaun.specs.Judgements.{judgement_of, reasoned_of}
+use Rattle.positions.specs.declared.StopReport.TheVariants.{NotRead, AtFault, AtNoItem, AtItem}
+use Rattle.text_runs.specs.StopPlaces.{sizes}
+use Rattle.besklaun.specs.TextReports.{stop_of}
 use Rattle.besklaun.specs.TurnBytes.{schedule_into}
 
 -- a refused log has its number and no yes; yes and no have none
@@ -45,3 +48,13 @@ record Turns : Type 0 where
 turns : Turns
 unfolding found
 turns = record { byte_behind = refl; exact_room = refl; too_few = refl }
+
+-- a stop of each kind, with what is known there
+record Stops : Type 0 where
+  not_read : stop_of NotRead ≡ record { kind = 0; place = 0; n = 0; w = 0; process = 0 }
+  at_fault : stop_of (AtFault 9) ≡ record { kind = 1; place = 9; n = 0; w = 0; process = 0 }
+  no_item : stop_of (AtNoItem (sizes 3 5)) ≡ record { kind = 2; place = 0; n = 3; w = 5; process = 0 }
+  at_item : stop_of (AtItem (sizes 3 5) (record { place = 9; process = 7 })) ≡ record { kind = 3; place = 9; n = 3; w = 5; process = 7 }
+
+stops : Stops
+stops = record { not_read = refl; at_fault = refl; no_item = refl; at_item = refl }
