@@ -1,5 +1,5 @@
--- The definitions of the library in small cases, by computation: verdicts and reasons in C's terms, turns in bytes that
--- just suffice, views, and the marks of a trace.
+-- The definitions of the library in small cases, by computation: verdicts, reasons and stops in C's terms, turns in bytes
+-- that just suffice, views, and the marks of a trace.
 use mathlib.Core.Path.{◌≡◌, refl}
 use mathlib.Core.List.{[], ◌∷◌}
 use mathlib.Core.Bool.{true, false}
@@ -14,6 +14,9 @@ use Rattle.std.specs.Prelude.{Result, Ok}
 use Rattle.llsc.specs.declared.refusals.Refusal.{Refusal}
 use Rattle.enumeration.specs.declared.Schedule.{Schedule}
 use Rattle.besklaun.specs.Judgements.{judgement_of, reasoned_of}
+use Rattle.positions.specs.declared.StopReport.TheVariants.{NotRead, AtFault, AtNoItem, AtItem}
+use Rattle.text_runs.specs.StopPlaces.{sizes}
+use Rattle.besklaun.specs.TextReports.{stop_of}
 use Rattle.besklaun.specs.TurnBytes.{schedule_into}
 use Rattle.model.specs.View.{view_number, view_part}
 use Rattle.besklaun.specs.Views.{view_told}
@@ -71,3 +74,13 @@ record Marks : Type 0 where
 marks : Marks
 unfolding marked_from line_in number_in spaced_number expected digits_after
 marks = record { whole = refl; part = refl }
+
+-- a stop of each kind, with what is known there
+record Stops : Type 0 where
+  not_read : stop_of NotRead ≡ record { kind = 0; place = 0; n = 0; w = 0; process = 0 }
+  at_fault : stop_of (AtFault 9) ≡ record { kind = 1; place = 9; n = 0; w = 0; process = 0 }
+  no_item : stop_of (AtNoItem (sizes 3 5)) ≡ record { kind = 2; place = 0; n = 3; w = 5; process = 0 }
+  at_item : stop_of (AtItem (sizes 3 5) (record { place = 9; process = 7 })) ≡ record { kind = 3; place = 9; n = 3; w = 5; process = 7 }
+
+stops : Stops
+stops = record { not_read = refl; at_fault = refl; no_item = refl; at_item = refl }
