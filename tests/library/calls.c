@@ -202,7 +202,7 @@ static void moir_texts(void)
     expect(memcmp(lent, "refused 10 0\n", 13) == 0 && stays(13), "Moir: the listing of no text");
     struct besklaun_reported_run r = besklaun_moir_run_text_with_report(given, sizeof given - 1, lent, sizeof lent);
     expect(ran(r.run, 0, 13, sizeof listing - 1) && r.stop.kind == BESKLAUN_STOP_NO_ITEM && r.stop.n == 2, "Moir: its end");
-    r = besklaun_moir_trace_text_with_report((const uint8_t *)"2 1 5\n0l 9l\n", 13, lent, sizeof lent);
+    r = besklaun_moir_trace_text_with_report((const uint8_t *)"2 1 5\n0l 9l\n", 12, lent, sizeof lent);
     expect(r.run.number == 4 && r.run.entries == 1 && r.stop.kind == BESKLAUN_STOP_AT_ITEM && r.stop.place == 9
            && r.stop.process == 9, "Moir: stopped at 9l");
 }

@@ -20,7 +20,7 @@ pub fn row(n: usize, w: usize) {
 /// A text of the same commands; it ends where its listing is full.
 fn entry_of_a_run(n: usize, w: usize) -> f64 {
     let calls: Vec<String> = (0..n).map(|p| format!("{p}l {p}! {p}s7 {p}!")).collect();
-    let text = format!("{n} {w} 5\n60000({})\n", calls.join(" "));
+    let text = format!("{n} {w} 5\n250({})\n", calls.join(" "));
     let mut listing = vec![0; 65_536];
     let mut entries = 0;
     let best = least(|| entries = moir_run_text(text.as_bytes(), &mut listing).entries);
