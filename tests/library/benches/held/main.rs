@@ -7,13 +7,14 @@ use std::process::ExitCode;
 use std::time::Instant;
 
 use besklaun::held::{self, Order, Reply};
+use besklaun::Refusal;
 use witness::commands::bench_text;
 
 const TURNS: usize = 60;
 const MOST: usize = 60_000;
 const WORDS: [u64; 64] = [7; 64];
 
-type Call = fn(&mut [u64], usize, Order<'_>) -> Result<Reply, u8>;
+type Call = fn(&mut [u64], usize, Order<'_>) -> Result<Reply, Refusal>;
 
 fn main() -> ExitCode {
     println!("| N | W | Entry of a text run, ns | Step, ns | Ratio | Command, ns | Ratio |");
