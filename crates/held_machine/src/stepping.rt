@@ -31,17 +31,22 @@ fn near(held: &mut [u64], p: usize, order: Order, named: usize, value: &[u64]) -
     }
 }
 
-// Kept: the same call in each arm, as each is compiled for its order: a step, which most commands are, then asks nothing
-// that is asked of a start.
+// A start: most commands are steps, so it is by itself.
+#[inline(never)]
+fn started(held: &mut [u64], p: usize, order: Order, named: usize, value: &[u64]) -> Told
+    ensures { SteppedTo held.old (record { process = p; order = order; called = named; value = value.now }) result held.new }
+{
+    near(held, p, order, named, value)
+}
+
+// A step is compiled for that order alone, and so asks nothing that is asked of a start.
 #[inline(always)]
 pub fn near_command(held: &mut [u64], p: usize, order: Order, named: usize, value: &[u64]) -> Told
     ensures { SteppedTo held.old (record { process = p; order = order; called = named; value = value.now }) result held.new }
 {
     match order {
         Order::Step => near(held, p, Order::Step, named, value),
-        Order::StartLl => near(held, p, Order::StartLl, named, value),
-        Order::StartSc => near(held, p, Order::StartSc, named, value),
-        Order::StartVl => near(held, p, Order::StartVl, named, value),
+        start => started(held, p, start, named, value),
     }
 }
 

@@ -140,11 +140,12 @@ module _ (l : List ℕ) (a : LentList l) where
         let c = and_true (called_ok r (process_in r l p)) _ e in
         let m : j < r = ltb-true j r (and_true (ltb j r) _ c.0).0 in
         let seen : (i : ℕ) → i < r → mybuf i && (x i && own (away l i p)) ≡ true = λ i h. every_number (λ i. process_ok n w (seen_from l i p)) r i c.1 h in
-        let here = own_here (away l j p) (and_not (not (eqb (number_at l k) 0)) (eqb j j) (eq-eqb j j refl)) (and_true (x j) _ (and_true (mybuf j) _ (seen j m)).1).1 in
-        (ap₂ ◌&&◌ (called_bound (eqb (number_at l k) 0) j r c.0) here,
-        λ i h.
-        let y = and_true (mybuf i) _ (seen i h) in
-        ap₂ ◌&&◌ y.0 (and_true (x i) _ y.1).0)
+        let here = own_here (away l j p) (and_not (not (eqb (number_at l k) 0)) (eqb j j) (eq-eqb j j refl)) (and_true (x j) _ (and_true (mybuf j) _ (seen j m)).1).1 in (
+          ap₂ ◌&&◌ (called_bound (eqb (number_at l k) 0) j r c.0) here,
+          λ i h.
+              let y = and_true (mybuf i) _ (seen i h) in
+              ap₂ ◌&&◌ y.0 (and_true (x i) _ y.1).0,
+        )
 
   -- record by record, and then call by call
   by_process : list_in_range l n w r ≡ every (bench_from_ok l n) (numbers 0 r) && every process_from_ok (numbers 0 n)
