@@ -18,6 +18,7 @@ use station_rows::sizes::Sizes;
 use taken::Taken;
 
 // X of record j, and the places whose numbers begin at `bank` and `help`.
+#[inline(always)]
 fn places_at(held: &[u64], j: RecordNumber, bank: usize, help: usize) -> Taken
     requires { PlacesThere held.now j.0 bank help }
     ensures { result ≡ taken_from held.now j.0 bank help }
@@ -29,6 +30,7 @@ fn places_at(held: &[u64], j: RecordNumber, bank: usize, help: usize) -> Taken
     )
 }
 
+#[inline(always)]
 pub fn obey(held: &mut [u64], p: usize, order: Order, named: usize, value: &[u64]) -> Reply
     requires { Admits held.old p order named value.now }
     ensures done { (result, memory_of held.new) ≡ embed (memory_of held.old) (record_about order named (process_at (memory_of held.old) p)) p

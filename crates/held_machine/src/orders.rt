@@ -16,6 +16,7 @@ use words::layouts::FirstRows;
 use words::word_runs;
 
 // The rows at which record j's words begin.
+#[inline(always)]
 pub fn rows_of(lent: Sizes, j: RecordNumber) -> FirstRows
     requires { j.0 < 8 }
     ensures { RowsOf lent.n lent.w lent.r j.0 result }
@@ -31,6 +32,7 @@ pub fn rows_of(lent: Sizes, j: RecordNumber) -> FirstRows
 }
 
 // The words of an SC's start into the offer area; no other order brings any.
+#[inline(always)]
 fn offer(rows: FirstRows, order: Order, p: ProcessNumber, value: &[u64], words: &mut [u64])
     requires { Offered rows order p value.now words.old }
     ensures { words.new ≡ offered_in (layout_from rows) order p rows.w value.now words.old }
@@ -41,6 +43,7 @@ fn offer(rows: FirstRows, order: Order, p: ProcessNumber, value: &[u64], words: 
 }
 
 // The order obeyed, where the words are lent alone.
+#[inline(always)]
 fn carried(
     rows: FirstRows,
     order: Order,
@@ -60,6 +63,7 @@ fn carried(
 }
 
 // The same on the words that a list holds from the place `at` on.
+#[inline(always)]
 pub fn carried_in(
     rows: FirstRows,
     order: Order,

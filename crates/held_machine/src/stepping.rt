@@ -22,12 +22,31 @@ pub fn obeyed(held: &mut [u64], p: usize, order: Order, named: usize, value: &[u
 }
 
 #[inline(always)]
-pub fn near_command(held: &mut [u64], p: usize, order: Order, named: usize, value: &[u64]) -> Told
+fn near(held: &mut [u64], p: usize, order: Order, named: usize, value: &[u64]) -> Told
     ensures { SteppedTo held.old (record { process = p; order = order; called = named; value = value.now }) result held.new }
 {
     match table::near_refusal(held, p, order, named, value) {
         Ok(()) => obeyed(held, p, order, named, value),
         Err(refusal) => replies::refused(refusal.number()),
+    }
+}
+
+// A start: most commands are steps, so it is by itself.
+#[inline(never)]
+fn started(held: &mut [u64], p: usize, order: Order, named: usize, value: &[u64]) -> Told
+    ensures { SteppedTo held.old (record { process = p; order = order; called = named; value = value.now }) result held.new }
+{
+    near(held, p, order, named, value)
+}
+
+// A step is compiled for that order alone, and so asks nothing that is asked of a start.
+#[inline(always)]
+pub fn near_command(held: &mut [u64], p: usize, order: Order, named: usize, value: &[u64]) -> Told
+    ensures { SteppedTo held.old (record { process = p; order = order; called = named; value = value.now }) result held.new }
+{
+    match order {
+        Order::Step => near(held, p, Order::Step, named, value),
+        start => started(held, p, start, named, value),
     }
 }
 
@@ -49,6 +68,7 @@ pub fn command(held: &mut [u64], process: usize, order: u8, on: usize, value: &[
 }
 
 // The same by a look at what the command reads alone: for a list that a set-up and commands left.
+#[inline(always)]
 pub fn step(held: &mut [u64], process: usize, order: u8, on: usize, value: &[u64]) -> Told
     ensures { SteppedTo held.old (order_of process order on value.now) result held.new }
 {

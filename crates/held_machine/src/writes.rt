@@ -66,6 +66,7 @@ fn call_numbers(j: RecordNumber, q: Process) -> [u64; 8]
 }
 
 // All that a step of process p on record j left. The numbers of its places of Bank and Help begin at `bank` and `help`.
+#[inline(always)]
 pub fn write_back(
     held: &mut [u64],
     j: RecordNumber,

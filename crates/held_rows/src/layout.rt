@@ -1,5 +1,5 @@
 // Where each number of a held list stands. A table is reached by its own kind of number.
-ghost use Rattle.std.specs.Prelude.{◌≡◌, ◌-◌, ◌≤◌};
+ghost use Rattle.std.specs.Prelude.{◌≡◌, ◌-◌, ◌≤◌, ◌<◌};
 ghost use Rattle.held_model.specs.Layout.{call_place, record_place, bank_place, help_place, holding_place, words_place};
 
 use llsc::ProcessNumber;
@@ -10,7 +10,15 @@ use station::RecordNumber;
 pub fn call_place(p: ProcessNumber) -> usize
     ensures { result ≡ call_place p.0 }
 {
-    3 + 8 * (p.0 as usize)
+    call_place_at(p.0 as usize)
+}
+
+// The same by a loop's own number.
+pub fn call_place_at(p: usize) -> usize
+    requires { p < 256 }
+    ensures { result ≡ call_place p }
+{
+    3 + 8 * p
 }
 
 // Record j, and its X first: buffer, sequence number, links.
@@ -24,21 +32,45 @@ pub fn record_place(j: RecordNumber) -> usize
 pub fn bank_place(j: RecordNumber, i: SequenceNumber) -> usize
     ensures { result ≡ bank_place j.0 i.0 }
 {
-    record_place(j) + 3 + 2 * (i.0 as usize)
+    bank_place_at(j, i.0 as usize)
+}
+
+// The same by a loop's own number.
+pub fn bank_place_at(j: RecordNumber, i: usize) -> usize
+    requires { i < 256 }
+    ensures { result ≡ bank_place j.0 i }
+{
+    record_place(j) + 3 + 2 * i
 }
 
 // Help[p] of record j: flag, buffer, links.
 pub fn help_place(j: RecordNumber, p: ProcessNumber) -> usize
     ensures { result ≡ help_place j.0 p.0 }
 {
-    record_place(j) + 67 + 3 * (p.0 as usize)
+    help_place_at(j, p.0 as usize)
+}
+
+// The same by a loop's own number.
+pub fn help_place_at(j: RecordNumber, p: usize) -> usize
+    requires { p < 256 }
+    ensures { result ≡ help_place j.0 p }
+{
+    record_place(j) + 67 + 3 * p
 }
 
 // What process p holds of record j: mybuf, x's buffer and sequence number, the mark of an answered LL.
 pub fn holding_place(j: RecordNumber, p: ProcessNumber) -> usize
     ensures { result ≡ holding_place j.0 p.0 }
 {
-    record_place(j) + 115 + 4 * (p.0 as usize)
+    holding_place_at(j, p.0 as usize)
+}
+
+// The same by a loop's own number.
+pub fn holding_place_at(j: RecordNumber, p: usize) -> usize
+    requires { p < 256 }
+    ensures { result ≡ holding_place j.0 p }
+{
+    record_place(j) + 115 + 4 * p
 }
 
 // The words of a list that is laid out for r records.

@@ -6,6 +6,7 @@ ghost use Rattle.model.specs.Refusals.{x_place_ok, bank_place_ok, help_place_ok,
 ghost use Rattle.held_model.specs.Layout.{words_place};
 ghost use Rattle.held_model.specs.Memory.{number_at, x_from, bank_from, help_from};
 ghost use Rattle.held_rows.specs.Reads.{line_number_ok, away, seen_from};
+ghost use Rattle.held_rows.specs.WholeRows.{holding_from_ok, call_from_ok};
 
 use crate::layout;
 use llsc::ProcessNumber;
@@ -35,6 +36,7 @@ pub fn links_ok(count: Processes, links: u64) -> bool
 }
 
 // X, whose numbers begin at k.
+#[inline(always)]
 pub fn x_ok(count: Processes, held: &[u64], k: usize) -> bool
     requires { k + 3 ≤ length held.now }
     ensures { result ≡ x_place_ok count.n (x_from held.now k) }
@@ -43,6 +45,7 @@ pub fn x_ok(count: Processes, held: &[u64], k: usize) -> bool
 }
 
 // A place of Bank.
+#[inline(always)]
 pub fn bank_ok(count: Processes, held: &[u64], k: usize) -> bool
     requires { k + 2 ≤ length held.now }
     ensures { result ≡ bank_place_ok count.n (bank_from held.now k) }
@@ -51,6 +54,7 @@ pub fn bank_ok(count: Processes, held: &[u64], k: usize) -> bool
 }
 
 // A place of Help: its flag is 0 or 1.
+#[inline(always)]
 pub fn help_ok(count: Processes, held: &[u64], k: usize) -> bool
     requires { k + 3 ≤ length held.now }
     ensures { result ≡ help_place_ok count.n (help_from held.now k) }
@@ -77,7 +81,34 @@ fn count_ok(width: Width, line: u64, count: u64) -> bool
     count <= most as u64
 }
 
+// What a process holds of a record, whose numbers begin at k.
+#[inline(always)]
+pub fn holding_ok(count: Processes, held: &[u64], k: usize) -> bool
+    requires { k + 3 ≤ length held.now }
+    ensures { result ≡ holding_from_ok held.now count.n k }
+{
+    buffer_ok(count, held[k]) && buffer_ok(count, held[k + 1]) && sequence_ok(count, held[k + 2])
+}
+
+// The open call of a process, whose numbers begin at k, as the process itself has it.
+pub fn call_ok(count: Processes, width: Width, r: usize, held: &[u64], k: usize) -> bool
+    requires { k + 8 ≤ length held.now }
+    ensures { result ≡ call_from_ok held.now count.n width.w r k }
+{
+    let line = held[k];
+    let records = if line == 0 { 1 } else { r };
+    held[k + 3] < records as u64
+        && buffer_ok(count, held[k + 4])
+        && buffer_ok(count, held[k + 5])
+        && buffer_ok(count, held[k + 6])
+        && buffer_ok(count, held[k + 7])
+        && line_ok(line)
+        && held[k + 1] < sizes::halves(width) as u64
+        && count_ok(width, line, held[k + 2])
+}
+
 // Whether the open call of process p is on another record than j.
+#[inline(always)]
 pub fn is_away(held: &[u64], j: RecordNumber, p: ProcessNumber) -> bool
     requires { (p.0 < 16) × (131 ≤ length held.now) }
     ensures { result ≡ away held.now j.0 p.0 }
@@ -87,6 +118,7 @@ pub fn is_away(held: &[u64], j: RecordNumber, p: ProcessNumber) -> bool
 }
 
 // Process p as record j's bench has it.
+#[inline(always)]
 pub fn process_ok(
     count: Processes,
     width: Width,
@@ -104,9 +136,7 @@ pub fn process_ok(
     } else {
         (held[call], held[call + 1], held[call + 2])
     };
-    buffer_ok(count, held[own])
-        && buffer_ok(count, held[own + 1])
-        && sequence_ok(count, held[own + 2])
+    holding_ok(count, held, own)
         && buffer_ok(count, held[call + 4])
         && buffer_ok(count, held[call + 5])
         && buffer_ok(count, held[call + 6])

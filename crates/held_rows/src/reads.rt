@@ -20,6 +20,7 @@ pub fn size_at(held: &[u64], k: usize) -> usize
 }
 
 // X, whose numbers begin at k.
+#[inline(always)]
 pub fn x_at(held: &[u64], k: usize) -> XPlace
     requires { (k + 3 ≤ length held.now) × XFits (x_from held.now k) }
     ensures { result ≡ x_from held.now k }
@@ -34,6 +35,7 @@ pub fn x_at(held: &[u64], k: usize) -> XPlace
 }
 
 // A place of Bank.
+#[inline(always)]
 pub fn bank_at(held: &[u64], k: usize) -> BankPlace
     requires { (k + 2 ≤ length held.now) × BankFits (bank_from held.now k) }
     ensures { result ≡ bank_from held.now k }
@@ -45,6 +47,7 @@ pub fn bank_at(held: &[u64], k: usize) -> BankPlace
 }
 
 // A place of Help.
+#[inline(always)]
 pub fn help_at(held: &[u64], k: usize) -> HelpPlace
     requires { (k + 3 ≤ length held.now) × HelpFits (help_from held.now k) }
     ensures { result ≡ help_from held.now k }
@@ -59,6 +62,7 @@ pub fn help_at(held: &[u64], k: usize) -> HelpPlace
 }
 
 // Process p as record j's bench has it.
+#[inline(always)]
 pub fn process_at(held: &[u64], j: RecordNumber, p: ProcessNumber) -> Process
     requires { (p.0 < 16) × ((words_place (j.0 + 1) ≤ length held.now) × ProcessFits (seen_from held.now j.0 p.0)) }
     ensures { result ≡ seen_from held.now j.0 p.0 }

@@ -20,6 +20,7 @@ use station::RecordNumber;
 use station_rows::sizes::Sizes;
 
 // Rows 1, 2, 23, 3. A list has numbers for sixteen processes.
+#[inline(always)]
 pub fn lent_refusal(held: &[u64]) -> Result<(), Refusal>
     ensures { number_told result ≡ lent_number held.now }
 {
@@ -35,6 +36,7 @@ pub fn lent_refusal(held: &[u64]) -> Result<(), Refusal>
 }
 
 // N, W and R.
+#[inline(always)]
 pub fn sizes(held: &[u64]) -> Sizes
     requires { LentList held.now }
     ensures n { result.n ≡ number_at held.now 0 }
@@ -42,13 +44,14 @@ pub fn sizes(held: &[u64]) -> Sizes
     ensures r { result.r ≡ number_at held.now 2 }
 {
     Sizes {
-        n: reads::size_at(held, 0),
-        w: reads::size_at(held, 1),
-        r: reads::size_at(held, 2),
+        n: held[0] as usize,
+        w: held[1] as usize,
+        r: held[2] as usize,
     }
 }
 
 // Whether process p has no open call.
+#[inline(always)]
 fn is_at_rest(held: &[u64], p: ProcessNumber) -> bool
     requires { (p.0 < 16) × (131 ≤ length held.now) }
     ensures { result ≡ at_rest (process_in (number_at held.now 2) held.now p.0) }
@@ -57,6 +60,7 @@ fn is_at_rest(held: &[u64], p: ProcessNumber) -> bool
 }
 
 // The open call's record is below R, and 0 when idle.
+#[inline(always)]
 pub fn called_ok(held: &[u64], r: usize, p: ProcessNumber) -> bool
     requires { (p.0 < 16) × (131 ≤ length held.now) }
     ensures { result ≡ called_ok r (process_in (number_at held.now 2) held.now p.0) }
@@ -66,6 +70,7 @@ pub fn called_ok(held: &[u64], r: usize, p: ProcessNumber) -> bool
 }
 
 // Row 24. Only a start names a record.
+#[inline(always)]
 fn no_such_record(order: Order, r: usize, named: usize) -> bool
     ensures { result ≡ (row24 order r named).holds }
 {
@@ -73,6 +78,7 @@ fn no_such_record(order: Order, r: usize, named: usize) -> bool
 }
 
 // The record that an order is about: a start's own, a step's that of the open call.
+#[inline(always)]
 pub fn record_about(held: &[u64], order: Order, named: usize, p: ProcessNumber) -> usize
     requires { (p.0 < 16) × (131 ≤ length held.now) }
     ensures { result ≡ (record_about order named (process_in (number_at held.now 2) held.now p.0)).0 }
@@ -85,6 +91,7 @@ pub fn record_about(held: &[u64], order: Order, named: usize, p: ProcessNumber) 
 }
 
 // Whether an LL of process p was answered, on record j.
+#[inline(always)]
 fn is_answered(held: &[u64], j: RecordNumber, p: ProcessNumber) -> bool
     requires { (p.0 < 16) × (words_place (j.0 + 1) ≤ length held.now) }
     ensures { result ≡ (held_from held.now p.0 j.0).answered }
@@ -93,6 +100,7 @@ fn is_answered(held: &[u64], j: RecordNumber, p: ProcessNumber) -> bool
 }
 
 // The places that an order to process p could touch, where record j's bench has it so.
+#[inline(always)]
 fn places_ok(held: &[u64], sizes: Sizes, j: RecordNumber, p: ProcessNumber, q: Process) -> bool
     requires { (words_place (j.0 + 1) ≤ length held.now) × Ready sizes.n sizes.w q p (drop (words_place sizes.r) held.now) }
     ensures { result ≡ places_from held.now sizes.n j.0 p.0 q }
@@ -106,6 +114,7 @@ fn places_ok(held: &[u64], sizes: Sizes, j: RecordNumber, p: ProcessNumber, q: P
 }
 
 // Row 9, of what an order to process p could touch of record j.
+#[inline(always)]
 #[tactic(auto, using(crate::proofs::ListLaws::list_ready, crate::proofs::FitLaws::process_fits))]
 fn touched_ok(held: &[u64], j: RecordNumber, p: ProcessNumber) -> bool
     requires { LentList held.now × ((j.0 < number_at held.now 2) × (p.0 < number_at held.now 0)) }
@@ -120,6 +129,7 @@ fn touched_ok(held: &[u64], j: RecordNumber, p: ProcessNumber) -> bool
 }
 
 // Rows 4, 9 of the open call, 24, 9 of what could be touched, 8, 5, 6, 7.
+#[inline(always)]
 #[tactic(auto, using(crate::proofs::ListLaws::about_below))]
 fn own_refusal(
     held: &[u64],
@@ -148,6 +158,7 @@ fn own_refusal(
 }
 
 // The first row that holds, by a look at what a command reads alone.
+#[inline(always)]
 #[tactic(auto, using(llsc::proofs::RefusalNumbers::number_some, crate::proofs::ListLaws::lent_list, crate::proofs::NearRowLaws::near_refused, crate::proofs::NearRowLaws::near_own))]
 pub fn near_refusal(
     held: &[u64],

@@ -9,6 +9,7 @@ use llsc::ProcessNumber;
 use model::{BankPlace, LineStep, Process};
 
 // Line 12: if LL(Bank[x.seq]) differs from x.buf, the buffer of the last success is still to be banked.
+#[inline(always)]
 pub fn do_line_12(p: ProcessNumber, bank: BankPlace, process: Process) -> LineStep<BankPlace>
     requires { Stepping p process }
     ensures { result ≡ do_line12 p bank process }
@@ -22,6 +23,7 @@ pub fn do_line_12(p: ProcessNumber, bank: BankPlace, process: Process) -> LineSt
 }
 
 // Line 13: SC(Bank[x.seq], x.buf).
+#[inline(always)]
 pub fn do_line_13(p: ProcessNumber, bank: BankPlace, process: Process) -> LineStep<BankPlace>
     requires { Stepping p process }
     ensures { result ≡ do_line13 p bank process }
@@ -31,6 +33,7 @@ pub fn do_line_13(p: ProcessNumber, bank: BankPlace, process: Process) -> LineSt
 }
 
 // Line 18: e = Bank[(x.seq + 1) mod 2N], a plain read: the buffer that a success frees.
+#[inline(always)]
 pub fn do_line_18(bank: BankPlace, process: Process) -> LineStep<BankPlace>
     requires { process.count < 4294967296 }
     ensures { result ≡ do_line18 bank process }

@@ -17,6 +17,7 @@ pub const ASKED: u8 = 1;
 pub const GIVEN: u8 = 0;
 
 // Line 1: Help[p] = (1, mybuf).
+#[inline(always)]
 pub fn do_line_1(help: HelpPlace, process: Process) -> LineStep<HelpPlace>
     requires { process.count < 4294967296 }
     ensures { result ≡ do_line1 help process }
@@ -36,6 +37,7 @@ fn linked(line: u8, p: ProcessNumber, help: HelpPlace, process: Process) -> Line
 
 // Line 4: if LL(Help[p]) = (0, b), help was given, and lines 5 to 7 follow.
 // Kept: beside lines 8 and 14, as each names its own flag, buffer and lines; what they share is `linked`.
+#[inline(always)]
 pub fn do_line_4(p: ProcessNumber, help: HelpPlace, process: Process) -> LineStep<HelpPlace>
     requires { Stepping p process }
     ensures { result ≡ do_line4 p help process }
@@ -48,6 +50,7 @@ pub fn do_line_4(p: ProcessNumber, help: HelpPlace, process: Process) -> LineSte
 }
 
 // Line 8: if LL(Help[p]) = (1, c), no help came, and line 9 takes the question back.
+#[inline(always)]
 pub fn do_line_8(p: ProcessNumber, help: HelpPlace, process: Process) -> LineStep<HelpPlace>
     requires { Stepping p process }
     ensures { result ≡ do_line8 p help process }
@@ -60,6 +63,7 @@ pub fn do_line_8(p: ProcessNumber, help: HelpPlace, process: Process) -> LineSte
 }
 
 // Line 9: SC(Help[p], (0, c)). No plain write: it would wipe out help that came after line 8.
+#[inline(always)]
 pub fn do_line_9(p: ProcessNumber, help: HelpPlace, process: Process) -> LineStep<HelpPlace>
     requires { Stepping p process }
     ensures { result ≡ do_line9 p help process }
@@ -70,6 +74,7 @@ pub fn do_line_9(p: ProcessNumber, help: HelpPlace, process: Process) -> LineSte
 }
 
 // Line 10: mybuf = Help[p].buf, whichever buffer the question came back with.
+#[inline(always)]
 pub fn do_line_10(help: HelpPlace, process: Process) -> LineStep<HelpPlace>
     requires { process.count < 4294967296 }
     ensures { result ≡ do_line10 help process }
@@ -82,6 +87,7 @@ pub fn do_line_10(help: HelpPlace, process: Process) -> LineStep<HelpPlace>
 }
 
 // Line 14: if LL(Help[x.seq mod N]) = (1, d), that process asks for help.
+#[inline(always)]
 pub fn do_line_14(p: ProcessNumber, help: HelpPlace, process: Process) -> LineStep<HelpPlace>
     requires { Stepping p process }
     ensures { result ≡ do_line14 p help process }
@@ -99,6 +105,7 @@ pub fn do_line_14(p: ProcessNumber, help: HelpPlace, process: Process) -> LineSt
 }
 
 // Lines 15 and 16: if SC(Help[x.seq mod N], (0, mybuf)) then mybuf = d, the buffer that is given in exchange.
+#[inline(always)]
 pub fn do_line_15(p: ProcessNumber, help: HelpPlace, process: Process) -> LineStep<HelpPlace>
     requires { Stepping p process }
     ensures { result ≡ do_line15 p help process }

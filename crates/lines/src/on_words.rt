@@ -8,6 +8,7 @@ use crate::records;
 use model::{Process, Reply, WordStep};
 
 // Lines 3, 6, 7's copy and 17: another line follows the last move.
+#[inline(always)]
 pub fn do_word(moves: usize, line: u8, process: Process) -> WordStep
     requires { Moving moves process }
     ensures { result ≡ do_word_then moves line process }
@@ -24,6 +25,7 @@ pub fn do_word(moves: usize, line: u8, process: Process) -> WordStep
 }
 
 // Line 11: the last move answers.
+#[inline(always)]
 pub fn do_line_11(moves: usize, process: Process) -> WordStep
     requires { Moving moves process }
     ensures { result ≡ do_line11 moves process }

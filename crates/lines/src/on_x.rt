@@ -12,6 +12,7 @@ use llsc::ProcessNumber;
 use model::{LineStep, Process, Reply, XContent, XPlace};
 
 // Lines 2 and 5: x = LL(X). Line 3 or 6 follows.
+#[inline(always)]
 pub fn do_line_2(line: u8, p: ProcessNumber, x: XPlace, process: Process) -> LineStep<XPlace>
     requires { Stepping p process }
     ensures { result ≡ do_line2_then line p x process }
@@ -37,6 +38,7 @@ fn valid(p: ProcessNumber, x: XPlace, process: Process, yes: u8, no: u8) -> Line
 }
 
 // Line 7: if not VL(X), the words read may be torn, and the handed-over ones are taken from BUF[b].
+#[inline(always)]
 pub fn do_line_7(p: ProcessNumber, x: XPlace, process: Process) -> LineStep<XPlace>
     requires { Stepping p process }
     ensures { result ≡ do_line7 p x process }
@@ -46,6 +48,7 @@ pub fn do_line_7(p: ProcessNumber, x: XPlace, process: Process) -> LineStep<XPla
 
 // The VL(X) of line 12: only a process whose link is good banks x.buf.
 // Kept: a function for each VL(X) within a call, as each is at a line of its own; what they share is `valid`.
+#[inline(always)]
 pub fn do_line_12_valid(p: ProcessNumber, x: XPlace, process: Process) -> LineStep<XPlace>
     requires { Stepping p process }
     ensures { result ≡ do_line12_valid p x process }
@@ -54,6 +57,7 @@ pub fn do_line_12_valid(p: ProcessNumber, x: XPlace, process: Process) -> LineSt
 }
 
 // The VL(X) of line 14: without it an old value would be handed over as a valid one.
+#[inline(always)]
 pub fn do_line_14_valid(p: ProcessNumber, x: XPlace, process: Process) -> LineStep<XPlace>
     requires { Stepping p process }
     ensures { result ≡ do_line14_valid p x process }
@@ -63,6 +67,7 @@ pub fn do_line_14_valid(p: ProcessNumber, x: XPlace, process: Process) -> LineSt
 
 // Lines 19 to 22: SC(X, (mybuf, (x.seq + 1) mod 2N)) and the answer; a success takes e, the buffer that it freed. n is
 // N.
+#[inline(always)]
 pub fn do_line_19(n: usize, p: ProcessNumber, x: XPlace, process: Process) -> LineStep<XPlace>
     requires { Stepping p process × Sized n }
     ensures { result ≡ do_line19 n p x process }
@@ -86,6 +91,7 @@ pub fn do_line_19(n: usize, p: ProcessNumber, x: XPlace, process: Process) -> Li
 }
 
 // Line 23: return VL(X).
+#[inline(always)]
 pub fn do_line_23(p: ProcessNumber, x: XPlace, process: Process) -> LineStep<XPlace>
     requires { Stepping p process }
     ensures { result ≡ do_line23 p x process }

@@ -16,6 +16,8 @@ use words::layouts::FirstRows;
 use words::word_runs;
 
 // LL begins at line 1, SC at line 12, with its words in the offer area already, VL at line 23.
+// Inlined wherever an order is obeyed: passed and returned by memory, a process and the places cost as much as the step.
+#[inline(always)]
 #[tactic(auto, unfolding(crate::specs::Steps::obey_on_in))]
 pub fn obey_taken_in(
     rows: FirstRows,

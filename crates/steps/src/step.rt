@@ -15,6 +15,7 @@ use taken::{Stepped, Taken, after_bank, after_help, after_word, after_x};
 use words::layouts::FirstRows;
 
 // An idle process, and a line that is none (row 9 refuses it), stay as they are.
+#[inline(always)]
 #[tactic(auto, unfolding(crate::specs::Steps::step_on_in), using(crate::proofs::LayoutLaws::reads, crate::proofs::LayoutLaws::writes_back, crate::proofs::LayoutLaws::writes_offer))]
 pub fn on_taken(
     rows: FirstRows,

@@ -16,6 +16,7 @@ use words::layouts::FirstRows;
 use words::word_places;
 
 // Lines 3, 6 and 7's copy: a half word of BUF[from] into the return area of p. `line` follows the last half.
+#[inline(always)]
 pub fn read_word(
     rows: FirstRows,
     p: ProcessNumber,
@@ -36,6 +37,7 @@ pub fn read_word(
 
 // Line 11: a half word of the return area into BUF[mybuf].
 // Kept: a function for each area that is read or written; what is alike is `copy_half` and `halves`.
+#[inline(always)]
 pub fn step_11(rows: FirstRows, p: ProcessNumber, process: Process, words: &mut [u64]) -> WordStep
     requires { Moves rows.w process (return_in (layout_from rows) rows.w p (word_of process.word)) (buffer_in (layout_from rows) rows.w process.mybuf (word_of process.word)) words.old }
     ensures { (result, words.new) ≡ written_word (layout_from rows) rows.w (return_in (layout_from rows) rows.w p (word_of process.word)) (do_line11 (halves rows.w) process) process words.old }
@@ -48,6 +50,7 @@ pub fn step_11(rows: FirstRows, p: ProcessNumber, process: Process, words: &mut 
 }
 
 // Line 17: a half word of the offer area into BUF[mybuf].
+#[inline(always)]
 pub fn step_17(rows: FirstRows, p: ProcessNumber, process: Process, words: &mut [u64]) -> WordStep
     requires { Moves rows.w process (offer_in (layout_from rows) rows.w p (word_of process.word)) (buffer_in (layout_from rows) rows.w process.mybuf (word_of process.word)) words.old }
     ensures { (result, words.new) ≡ written_word (layout_from rows) rows.w (offer_in (layout_from rows) rows.w p (word_of process.word)) (do_word (halves rows.w) line18 process) process words.old }

@@ -1,16 +1,17 @@
--- `held_rows::whole::processes_ok` meets its contract: `all` takes the numbers from 0 on.
+-- `held_rows::whole::calls_ok` meets its contract: `all` takes the numbers from 0 on.
 use mathlib.Core.Path.{refl, ◌∙◌}
 use native.Mathlib.Omega.{arith}
 use borrow.Author.Rules.{rules}
 use Rattle.std.proofs.lemmas.Iterator.{YieldsList-from_range}
 use Rattle.std.proofs.lemmas.Iterator.Search.{all_from_yields_List}
 use Rattle.station_rows.proofs.NumberLaws.{all_is_every}
-use Rattle.held_rows.specs.WholeRows.{process_from_ok}
-use Rattle.held_rows.proofs.whole.processes_ok.Goals as goal
+use Rattle.held_model.specs.Layout.{call_place}
+use Rattle.held_rows.specs.WholeRows.{call_from_ok}
+use Rattle.held_rows.proofs.whole.calls_ok.Goals as goal
 
 pub returns : goal.returns
 returns c =
     let a = c.args in
-    all_from_yields_List (process_from_ok a.held.now a.lent.n a.lent.w a.lent.r) _ _ _ c.all.ensures.ran
+    all_from_yields_List (λ p. call_from_ok a.held.now a.lent.n a.lent.w a.lent.r (call_place p)) _ _ _ c.all.ensures.ran
     (YieldsList-from_range 0 (a.lent.n) (a.lent.n) refl (omega arith)) (λ x b q k. search rules)
     ∙ all_is_every _ (a.lent.n)

@@ -1,9 +1,9 @@
--- `held_machine::stepping::near_command` meets its contract: the first row that holds refuses it, or it is obeyed.
+-- `held_machine::stepping::near` meets its contract: the first row that holds refuses it, or it is obeyed.
 use mathlib.Core.Path.{refl, sym}
 use Rattle.llsc.specs.Refusals.{refusal_number}
 use Rattle.llsc.proofs.RefusalNumbers.{number_some}
 use Rattle.held_machine.proofs.SteppingLaws.{step_refused}
-use Rattle.held_machine.proofs.stepping.near_command.Goals as goal
+use Rattle.held_machine.proofs.stepping.near.Goals as goal
 
 pub obeyed-requires : goal.obeyed-requires
 obeyed-requires c = sym c.in-Ok.ensures
