@@ -166,15 +166,15 @@ const App = (() => {
     const before = entry > 0 ? run.states.after(entry - 1) : null;
     const state = run.states.after(entry);
     const step = entry > 0 && !run.trace.start[entry] && !waits ? run.trace.step(entry) : null;
-    const said = waits ? `<b class="quiet">waits</b> after entry ${entry}, while the other bench goes on in this item` : Sentence.ofStep(run, entry, before);
-    $(`sentence-${bench}`).innerHTML = said;
+    $(`sentence-${bench}`).innerHTML = waits ? Sentence.ofWaiting(run, entry) : Sentence.ofStep(run, entry, before);
     showState(bench, run, state, waits ? null : before, step);
     showProcesses(bench, run, state, waits ? null : before, entry);
     return undefined;
   }
 
   function clear(bench) {
-    for (const part of ['state', 'processes', 'verdict']) $(`${part}-${bench}`).innerHTML = '';
+    for (const part of ['processes', 'verdict']) $(`${part}-${bench}`).innerHTML = '';
+    $(`state-${bench}`).innerHTML = Tables.NOTATION;
     $(`sentence-${bench}`).textContent = 'No state: the text is refused before its set-up.';
     $(`history-${bench}`).removeAttribute('style');
   }

@@ -22,7 +22,7 @@ class HistoryPane {
   // `model`: lanes, length, calls, name (of a place), said (the whole in words).
   show(model, fresh) {
     this.model = model;
-    this.lane = model.lanes > 8 ? 14 : model.lanes > 4 ? 18 : 24;
+    this.lane = model.lanes > 8 ? 16 : model.lanes > 4 ? 18 : 24;
     this.height = model.lanes * this.lane + 20;
     const name = (p) => `<div style="height:${this.lane}px;--hue:${hue(p)}">process ${p}</div>`;
     this.lanes.innerHTML = Array.from({ length: model.lanes }, (_, p) => name(p)).join('');
@@ -33,7 +33,7 @@ class HistoryPane {
 
   // A short history is shown whole, a long one so that its bars can be read.
   fit() {
-    this.scale = clamp(this.wholeScale(), 6, 26);
+    this.scale = clamp(this.wholeScale(), 6, 32);
   }
 
   wholeScale() {
@@ -92,7 +92,7 @@ class HistoryPane {
     const names = alone ? this.laneNames() : '';
     const size = `width="${wide + shift}" height="${this.height}"`;
     const attributes = alone ? 'xmlns="http://www.w3.org/2000/svg" font-family="sans-serif" font-size="11"' : '';
-    return `<svg ${attributes} ${size} role="img" aria-label="${esc(this.model.said)}">${PATTERNS}`
+    return `<svg ${attributes} class="${this.lane < 18 ? 'low' : ''}" ${size} role="img" aria-label="${esc(this.model.said)}">${PATTERNS}`
       + `<g transform="translate(${shift - left} 0)">${parts.join('')}</g>${names}</svg>`;
   }
 
@@ -115,6 +115,7 @@ class HistoryPane {
     const every = niceStep(64 / this.scale);
     const first = Math.max(0, Math.floor((left - PAD) / this.scale / every) * every);
     for (let k = first; k <= length && this.x(k) < left + wide; k += every) {
+      if (Math.abs(this.x(k) - this.x(this.at ?? 0)) < 28) continue; // the cursor's own number stands there
       out += `<text x="${this.x(k)}" y="${this.height - 5}" class="tick" text-anchor="middle">${k}</text>`;
     }
     return out;
@@ -137,29 +138,33 @@ class HistoryPane {
 
   bar(call, end, left, wide) {
     const [x, width] = [this.x(call.from - 0.35), Math.max(1.5, (end - call.from + 0.7) * this.scale)];
-    const [y, tall] = [call.p * this.lane + 2, this.lane - 6];
+    const [y, tall] = [call.p * this.lane + 2, this.lane - (this.lane < 18 ? 4 : 6)];
     const kind = ['', 'll', 'sc', 'vl'][call.kind] ?? 'other';
     const classes = `${kind}${call.to ? '' : ' open'}${call.failed ? ' failed' : ''}${call.fault ? ' fault' : ''}`;
     const round = call.kind === LL ? 3 : call.kind === VL ? 8 : 0;
     const box = `x="${x}" y="${y}" width="${width}" height="${tall}" rx="${round}"`;
     const over = call.failed ? `<rect ${box} fill="url(#failed)" stroke="none"/>` : '';
     // a label stays in sight as long as its bar does
-    const start = Math.max(x, left) + 5;
-    const label = this.label(call, Math.min(x + width, left + wide) - start);
-    const text = label ? `<text x="${start}" y="${y + tall * 0.76}">${esc(label)}</text>` : '';
+    const text = this.label(call, Math.max(x, left) + 5, Math.min(x + width, left + wide), y + tall * 0.78);
     return `<g class="call ${classes}" style="--hue:${hue(call.p)}"><title>${esc(call.title)}</title>`
       + `<rect ${box}/>${over}${text}${this.mark(call, y, tall)}</g>`;
   }
 
-  label(call, room) {
-    if (this.lane < 14) return '';
-    for (const label of [call.label, call.short]) if (label.length * 6.1 + 4 < room) return label;
+  // The longest label that has room: at the bar's beginning, or beside the mark, where that would stand in it.
+  label(call, start, end, y) {
+    const mark = call.moment ? this.x(call.moment) : -1;
+    for (const label of [call.label, call.short]) {
+      const wide = label.length * 6.2;
+      const crossed = mark > start - 5 && mark < start + wide + 3;
+      const at = crossed ? mark + 5 : start;
+      if (at + wide < end) return `<text x="${at}" y="${y}">${esc(label)}</text>`;
+    }
     return '';
   }
 
   mark(call, y, tall) {
     if (!call.moment) return '';
-    const [x, foot] = [this.x(call.moment), y + tall + 3.5];
+    const [x, foot] = [this.x(call.moment), y + tall + (this.lane < 18 ? 2 : 3.5)];
     const size = this.lane < 18 ? 3 : 4;
     const sign = call.fault ? `<text x="${x + 6}" y="${y + 9}" class="sign">✕</text>` : '';
     return `<line x1="${x}" x2="${x}" y1="${y}" y2="${foot - 5}" class="stem"/>`
@@ -203,13 +208,14 @@ function niceStep(least) {
 // What a history shows of a run. `rowOf` tells the place of an entry, `failed` is marked apart.
 function historyOfRun(run, length, rowOf) {
   const calls = run.calls.all.map((call) => {
-    const name = `${Words.KINDS[call.kind]}${call.kind === SC ? ` ${call.value}` : ''}`;
+    const kind = Words.kind(run.bench, call.kind);
+    const name = `${kind}${call.kind === SC ? ` ${call.value}` : ''}`;
     const answer = call.told ? Words.answer(call.told) : 'open';
     const steps = call.told ? `, ${Words.steps(call.told.steps)}` : '';
     return {
       p: call.p, kind: call.kind, from: rowOf(call.from), to: call.to && rowOf(call.to), moment: call.moment && rowOf(call.moment),
       failed: call.told && answer === 'false',
-      label: `${name} → ${answer}`, short: Words.KINDS[call.kind],
+      label: `${name} → ${answer}`, short: kind,
       title: `process ${call.p}: ${name}, entries ${call.from} to ${call.to || '…'}${steps}: ${answer}`
         + (call.moment ? `; takes effect at entry ${call.moment}` : ''),
     };

@@ -28,10 +28,10 @@ const Processes = (() => {
     ],
   };
 
-  function doing(state, p) {
+  function doing(bench, state, p) {
     const own = state.processes[p];
-    if (own.point) return `${Words.KINDS[state.kind(p)]}, ${Words.steps(own.steps)} so far`;
-    return own.marked ? 'idle' : 'idle, and no LL of it was answered yet';
+    if (own.point) return `${Words.kind(bench, state.kind(p))}, ${Words.steps(own.steps)} so far`;
+    return own.marked ? 'idle' : `idle, and no ${Words.kind(bench, LL)} of it was answered yet`;
   }
 
   // The row's process is the step's, the chosen one, or halted; `can` tells what would be accepted.
@@ -48,9 +48,9 @@ const Processes = (() => {
     const full = next ? `line ${next.line}, ${next.item}: ${next.does}` : '';
     const linked = bench === 'first' ? `<td class="c-linked">${esc(state.linked(p))}</td>` : '';
     return `<tr class="${classes}" data-p="${p}"><th scope="row">${head(p, now, chosen)}</th>`
-      + `<td class="c-call">${halted ? 'halted: ' : ''}${esc(doing(state, p))}</td>`
+      + `<td class="c-call">${halted ? 'halted: ' : ''}${esc(doing(bench, state, p))}</td>`
       + `<td class="c-next" title="${esc(full)}">${said}</td>${linked}${cells.join('')}`
-      + `<td class="c-do">${actions(p, state, halted, can)}</td></tr>`;
+      + `<td class="c-do">${actions(bench, p, state, halted, can)}</td></tr>`;
   }
 
   function head(p, now, chosen) {
@@ -60,13 +60,13 @@ const Processes = (() => {
   }
 
   // Only what would not be refused can be pressed.
-  function actions(p, state, halted, can) {
+  function actions(bench, p, state, halted, can) {
     const button = (what, label, said) => `<button data-do="${what}" data-p="${p}" title="${said} (process ${p})" `
       + `aria-label="${said}, process ${p}"${what !== 'halt' && (halted || !can(what)) ? ' disabled' : ''}>${label}</button>`;
     const busy = state.processes[p].point !== 0;
     const orders = busy
       ? button('step', 'step', 'one step') + button('run', 'run', 'run its call to its end')
-      : button('ll', 'LL', 'start an LL') + button('sc', 'SC', 'start an SC') + button('vl', 'VL', 'start a VL');
+      : button('ll', Words.kind(bench, LL), `start ${bench === 'moir' ? 'a WLL' : 'an LL'}`) + button('sc', 'SC', 'start an SC') + button('vl', 'VL', 'start a VL');
     const halt = halted ? button('halt', 'unhalt', 'let it take turns again') : button('halt', 'halt', 'halt it here');
     return `<span>${orders}</span>${halt}`;
   }
@@ -80,5 +80,5 @@ const Processes = (() => {
       + `<tbody>${rows.join('')}</tbody></table>`;
   }
 
-  return { table, doing };
+  return { table };
 })();

@@ -2,7 +2,7 @@
 // The step in one sentence, with the line of its figure in words; and the judge's verdict in another.
 
 const Sentence = (() => {
-  const STARTS = ['', 'starts an LL', 'starts an SC of', 'starts a VL'];
+  const STARTS = ['', '', 'starts an SC of', 'starts a VL'];
 
   // `before` is the state that the step found.
   function ofStep(run, entry, before) {
@@ -11,13 +11,21 @@ const Sentence = (() => {
     const p = trace.process[entry];
     const who = `<b>Entry ${Words.count(entry)}</b> <span class="who" style="--hue:${hue(p)}">process ${p}</span>`;
     const start = trace.start[entry];
+    if (start === LL) return `${who} starts ${run.bench === 'moir' ? 'a WLL' : 'an LL'}.`;
     if (start) return `${who} ${STARTS[start]}${start === SC ? ` ${trace.offered(entry)}` : ''}.`;
     const step = trace.step(entry);
     const point = before.processes[p].point;
     const figure = run.bench === 'moir' ? 'Figure 6' : 'Figure 2';
     const does = run.bench === 'moir' ? Words.FIGURE_6[trace.figureLine[entry]] : Words.FIGURE_2[point];
     return `${who} ${esc(does)}: <code>${esc(step.item)} ${esc(step.act)}</code> `
-      + `<span class="figure">line ${trace.figureLine[entry]} of ${figure}</span>${answer(step.answer, before.kind(p))}`;
+      + `<span class="figure">line ${trace.figureLine[entry]} of ${figure}</span>${answer(step.answer, Words.kind(run.bench, before.kind(p)))}`;
+  }
+
+  // Beside the other bench: it has done this item, or is stopped.
+  function ofWaiting(run, entry) {
+    const stopped = entry === run.entries && run.told.number;
+    if (stopped) return `<b>Stopped</b> after entry ${Words.count(entry)}: refused ${run.told.number}.`;
+    return `<b>Waits</b> after entry ${Words.count(entry)}, while the other bench goes on.`;
   }
 
   function setUp(run) {
@@ -29,7 +37,7 @@ const Sentence = (() => {
   function answer(told, kind) {
     if (!told) return '';
     const said = told.letter === 'N' ? `names process ${told.words[0]}` : `answers ${Words.answer(told)}`;
-    return ` <strong>Its ${Words.KINDS[kind]} ${esc(said)} after ${Words.steps(told.steps)}.</strong>`;
+    return ` <strong>Its ${kind} ${esc(said)} after ${Words.steps(told.steps)}.</strong>`;
   }
 
   const LEGEND = '<span class="legend"><span aria-hidden="true">▲</span> where a call takes effect</span>';
@@ -50,5 +58,5 @@ const Sentence = (() => {
     return `<b class="no">✕ no</b> The proved judge, in this page, on ${calls}${rest}: ${esc(why)}. ${LEGEND}`;
   }
 
-  return { ofStep, ofVerdict };
+  return { ofStep, ofWaiting, ofVerdict };
 })();

@@ -5,7 +5,7 @@
 const Tables = (() => {
   // A value, marked where it was another before the step.
   function value(now, before) {
-    if (before === undefined || String(now) === String(before)) return esc(now);
+    if (before === undefined || before === null || String(now) === String(before)) return esc(now);
     return `<span class="new" title="was ${esc(before)}"><span role="img" aria-label="changed:">◆</span>${esc(now)}</span>`;
   }
 
@@ -23,8 +23,8 @@ const Tables = (() => {
     return out;
   }
 
-  function cell(name, what, { touched, note, linked, wide }) {
-    const classes = `cell${touched ? ' touched' : ''}${wide ? ' wide' : ''}`;
+  function cell(name, what, { touched, note, linked, wide, kind = '' }) {
+    const classes = `cell ${kind}${touched ? ' touched' : ''}${wide ? ' wide' : ''}`;
     const said = touched ? ' aria-label="touched by this step"' : '';
     return `<div class="${classes}"${said}><small>${name}</small><b>${what}</b>`
       + `${note ? `<em>${note}</em>` : ''}<span class="links">${linked ?? ''}</span></div>`;
@@ -34,9 +34,10 @@ const Tables = (() => {
 
   function first(state, before, item) {
     const { n } = state;
+    const dense = n > 4 ? ' dense' : '';
     return `<h2>X, Bank and Help <small>with the processes that are linked</small></h2>`
-      + `<div class="cells shared">${xCell(state, before, item)}${helpCells(state, before, item)}</div>`
-      + `<div class="cells bank" style="--columns:${Math.min(2 * n, 16)}">${bankCells(state, before, item)}</div>`
+      + `<div class="cells shared${dense}">${xCell(state, before, item)}${helpCells(state, before, item)}</div>`
+      + `<div class="cells bank${dense}" style="--columns:${2 * n}">${bankCells(state, before, item)}</div>`
       + `<h2>Buffers <small>each at its one place</small></h2>`
       + `<div class="buffers">${state.buffers.map((_, b) => buffer(state, before, b, item)).join('')}</div>`;
   }
@@ -63,7 +64,7 @@ const Tables = (() => {
       const asks = help.asks ? 'asks for help' : '';
       const note = was && was.asks !== help.asks ? `<span class="new">◆${asks || 'asks no more'}</span>` : asks;
       const linked = links(help.links, was?.links, state.n);
-      return cell(name, `buffer ${value(help.buffer, was?.buffer)}`, { touched: item === name, note, linked });
+      return cell(name, `buffer ${value(help.buffer, was?.buffer)}`, { touched: item === name, note, linked, kind: 'help' });
     }).join('');
   }
 
@@ -88,8 +89,9 @@ const Tables = (() => {
       const touched = item?.startsWith(`A[${p}]`);
       return cell(`A[${p}]`, value(Words.row(words), was), { touched, wide: state.w > 2 });
     });
-    return `<h2>Header and segments</h2><div class="cells">${header}${segments(state, before, item)}</div>`
-      + `<h2>A <small>what each process announces</small></h2><div class="cells">${rows.join('')}</div>`;
+    const dense = state.n > 4 || state.w > 8 ? ' dense' : '';
+    return `<h2>Header and segments</h2><div class="cells${dense}">${header}${segments(state, before, item)}</div>`
+      + `<h2>A <small>what each process announces</small></h2><div class="cells${dense}">${rows.join('')}</div>`;
   }
 
   // Neighbouring segments that hold the same, and are not touched, are told together.
@@ -108,5 +110,15 @@ const Tables = (() => {
     return out;
   }
 
-  return { first, moir, value };
+  // Where there is no state: how a schedule is written (docs/NOTATION.md).
+  const NOTATION = `<h2>How a schedule is written</h2><table class="notation">
+    <tr><th scope="row"><code>2 1 5</code></th><td>the first line: N processes (1 to 16), W words (1 to 64), and the number in each word</td></tr>
+    <tr><th scope="row"><code>0l</code></th><td>process 0 starts an LL: it reads the record and links to it</td></tr>
+    <tr><th scope="row"><code>0s7</code></th><td>it starts an SC of 7: writes 7 to all words if its link still holds</td></tr>
+    <tr><th scope="row"><code>0v</code></th><td>it starts a VL: asks whether its link still holds</td></tr>
+    <tr><th scope="row"><code>0.</code></th><td>it makes one step of its open call: one access to memory</td></tr>
+    <tr><th scope="row"><code>0!</code></th><td>it makes steps until its call answers</td></tr>
+    <tr><th scope="row"><code>3(0. 1.)</code></th><td>a group, carried out three times; groups nest up to eight deep</td></tr></table>`;
+
+  return { first, moir, value, NOTATION };
 })();

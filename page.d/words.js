@@ -72,6 +72,9 @@ const Words = (() => {
     return said.join('  ');
   }
 
+  // Moir's LL is called WLL, since it may fail.
+  const kind = (bench, number) => (bench === 'moir' && number === 1 ? 'WLL' : KINDS[number]);
+
   const count = (number) => String(number).replace(/\B(?=(\d{3})+$)/g, ',');
 
   // An answer in a few words: an LL's words, the truth of an SC or VL, or the process that a WLL names.
@@ -81,5 +84,5 @@ const Words = (() => {
     return told.words[0] === '1' ? 'true' : 'false';
   }
 
-  return { KINDS, FIGURE_2, FIGURE_6, CAUSES, kindOf, kindOfSix, lineOf, lineOfSix, steps, row, count, answer };
+  return { KINDS, kind, FIGURE_2, FIGURE_6, CAUSES, kindOf, kindOfSix, lineOf, lineOfSix, steps, row, count, answer };
 })();
