@@ -72,16 +72,19 @@ async function situations(browser) {
     }
 }
 
-// every refused example: the words of ./schedule, where the file's name is taken off
+// every refused example: the words of ./trace, which are ./schedule's, but that a trace has more room; and where these
+// name a place, a mark in the text
 async function refusals(browser) {
     const examples = fs.readdirSync(`${root}/examples`).filter(name => /^refused-.*\.txt$/.test(name));
     if (examples.length < 5) fail('there are hardly refused examples');
     for (const name of examples) {
-        const told = spawnSync(`${root}/crates/schedule/out/schedule`, [], { input: fs.readFileSync(`${root}/examples/${name}`) });
+        const input = fs.readFileSync(`${root}/examples/${name}`);
+        const told = spawnSync(`${root}/crates/trace/out/trace`, [], { input, maxBuffer: 1 << 26 });
         const words = told.stderr.toString().split('\n').find(line => line.startsWith('refused '));
         await browser.load(page, `#x=${name.replace('.txt', '')}`, READY);
         expect(name, (await browser.value(textOf('#refusal'))).replace(/^✕ /, ''), words);
-        expect(`${name}: marked`, await browser.value('document.querySelectorAll("#marks .bad").length > 0'), true);
+        const placed = /line \d+, column| at \d+:\d+/.test(words);
+        expect(`${name}: marked`, await browser.value('document.querySelectorAll("#marks .bad").length > 0'), placed);
     }
 }
 
