@@ -5,6 +5,7 @@ use besklaun::held::Reply;
 use besklaun::trace_text;
 
 use super::commands::{Command, Order};
+use super::keys::Way;
 use super::run::{FirstLine, Run, LINE_ROOM, MOST_ENTRIES};
 use super::station::Station;
 
@@ -28,7 +29,10 @@ pub struct Play {
     entries: Vec<Entry>,
     /// The trace's line of each entry; none where their text is too long.
     lines: Vec<String>,
+    /// Of each entry, whether it answered a call, and the links on X that were
+    /// lost by it, as bits.
     answered: Vec<bool>,
+    lost: Vec<u64>,
     /// The states after 0, `APART`, twice `APART` and so on entries.
     kept: Vec<Station>,
     /// How many entries no longer fitted.
@@ -45,6 +49,7 @@ impl Play {
             entries: Vec::new(),
             lines: Vec::new(),
             answered: Vec::new(),
+            lost: Vec::new(),
             kept: vec![first.station()],
             passed: 0,
             halted: vec![false; first.n],
@@ -80,20 +85,29 @@ impl Play {
         station
     }
 
-    pub fn next_answer(&self, at: usize) -> Option<usize> {
-        (at + 1..=self.len()).find(|entry| self.answered[entry - 1])
+    /// The nearest entry that answers a call.
+    pub fn answer(&self, at: usize, way: Way) -> Option<usize> {
+        self.nearest(at, way, |entry| self.answered[entry - 1])
     }
 
-    pub fn last_answer(&self, at: usize) -> Option<usize> {
-        (1..at).rev().find(|entry| self.answered[entry - 1])
-    }
-
-    /// The next entry of process p that touches something.
-    pub fn next_access(&self, at: usize, p: usize) -> Option<usize> {
-        (at + 1..=self.len()).find(|entry| {
+    /// That in which process p touches something.
+    pub fn access(&self, at: usize, way: Way, p: usize) -> Option<usize> {
+        self.nearest(at, way, |entry| {
             let command = self.entries[entry - 1].command;
             command.process == p && command.order == Order::Step
         })
+    }
+
+    /// That by which process p loses its link on X.
+    pub fn loss(&self, at: usize, way: Way, p: usize) -> Option<usize> {
+        self.nearest(at, way, |entry| self.lost[entry - 1] >> p & 1 == 1)
+    }
+
+    fn nearest(&self, at: usize, way: Way, is_one: impl Fn(usize) -> bool) -> Option<usize> {
+        match way {
+            Way::On => (at + 1..=self.len()).find(|entry| is_one(*entry)),
+            Way::Back => (1..at).rev().find(|entry| is_one(*entry)),
+        }
     }
 
     /// Halts process p after so many entries, or lets it go on: those before
@@ -103,6 +117,7 @@ impl Play {
         self.halted[p] = !self.halted[p];
         self.entries.truncate(at);
         self.answered.truncate(at);
+        self.lost.truncate(at);
         self.kept.truncate(at / APART + 1);
         self.go_on();
         self.lines = self.traced();
@@ -119,11 +134,13 @@ impl Play {
             if self.halted[command.process] {
                 continue;
             }
+            let linked = station.x().links;
             let Ok(reply) = station.carry_out(command) else {
                 self.passed += 1;
                 continue;
             };
             self.answered.push(reply != Reply::Accepted);
+            self.lost.push(linked & !station.x().links);
             self.entries.push(Entry {
                 place: place + 1,
                 command,

@@ -21,20 +21,19 @@ const LEFT: usize = 48;
 const HEAD: usize = 5;
 const FOOT: usize = 1;
 
-const KEYS: &str =
-    "arrows step  Home End  a answer  up down process  p its access  x halt it  ? keys  q";
+const KEYS: &str = "arrows  n answer  c access  x link lost  h halt  ? keys  q end";
 
 /// What all keys do.
 pub const HELP: [&str; 16] = [
-    "right, l, space   one entry forward",
-    "left, h           one entry back",
-    "Home, g           the set-up",
-    "End, G            the last entry",
-    "a, A              the next answer, the one before",
-    "up, down, k, j    another process is chosen (>)",
-    "p                 the next access of the chosen process",
-    "x                 the chosen process is halted: it takes no more turns,",
-    "                  and its entries of the text are left out; or goes on",
+    "right, . space    one entry forward",
+    "left, backspace , one entry back",
+    "Home <, End >     the set-up, the last entry",
+    "n, N              the next answer, the one before",
+    "up, down, k, j    another process is chosen (>), a digit chooses by number",
+    "c, C              its next access, the one before",
+    "x, X              where it loses its link on X next, or did before",
+    "h                 it is halted: it takes no more turns, and its entries of",
+    "                  the text are left out from here on; or it goes on",
     "PgUp PgDn, u d    the rest of the state, where it has more lines",
     "q, Ctrl-C         the end",
     "",
