@@ -4,7 +4,7 @@ import fs from 'node:fs';
 import os from 'node:os';
 import path from 'node:path';
 
-const PATIENCE = 30000; // milliseconds for the browser to answer
+const PATIENCE = 60000; // milliseconds for the browser to answer
 
 // What a key sends beside its name: its code, its number, and the character that it writes.
 const NAMED = { ArrowRight: 39, ArrowLeft: 37, ArrowUp: 38, ArrowDown: 40, Home: 36, End: 35, PageUp: 33, PageDown: 34,

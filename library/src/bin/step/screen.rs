@@ -154,10 +154,10 @@ fn process_line(play: &Play, before: &Station, now: &Station, p: usize, chosen: 
     let doing = process::doing(now, p);
     let next = match next(now, p) {
         _ if play.halted[p] => "halted".to_string(),
-        Some(next) => format!("next line {}, {}", next.line, next.item),
+        Some(next) => format!("at line {}, {}", next.line, next.item),
         None => String::new(),
     };
-    format!("{pointer}{changed}process {p:<2} {doing:<42} {next}")
+    format!("{pointer}{changed}process {p:<2} {doing:<38} {next}")
 }
 
 fn call_of(station: &Station, p: usize) -> [u64; 3] {
