@@ -144,6 +144,7 @@ const App = (() => {
   // ---- at a row
 
   function show(at) {
+    say('');
     row = clamp(Math.round(at) || 0, 0, rows());
     $('slider').max = rows();
     $('slider').value = row;
