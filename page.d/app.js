@@ -174,8 +174,9 @@ const App = (() => {
   }
 
   function clear(bench) {
-    for (const part of ['processes', 'verdict']) $(`${part}-${bench}`).innerHTML = '';
-    $(`state-${bench}`).innerHTML = Tables.NOTATION;
+    framed($(`processes-${bench}`), '');
+    framed($(`state-${bench}`), Tables.NOTATION);
+    $(`verdict-${bench}`).innerHTML = '';
     $(`sentence-${bench}`).textContent = 'No state: the text is refused before its set-up.';
     $(`history-${bench}`).removeAttribute('style');
   }
@@ -187,8 +188,9 @@ const App = (() => {
 
   function showState(bench, run, state, before, step) {
     const item = step?.item;
-    const html = bench === 'moir' ? Tables.moir(state, before, item) : Tables.first(state, before, item?.replace(/^(BUF\[\d+\]).*/, '$1'));
-    $(`state-${bench}`).innerHTML = html;
+    const root = $(`state-${bench}`);
+    if (bench === 'moir') Tables.moir(root, state, before, item);
+    else Tables.first(root, state, before, item?.replace(/^(BUF\[\d+\]).*/, '$1'));
   }
 
   function showProcesses(bench, run, state, before, entry) {
@@ -198,7 +200,7 @@ const App = (() => {
       can: (what) => run.states.refusal(entry, p, orders[what]) === 0,
     });
     const root = $(`processes-${bench}`);
-    keepingFocus(root, () => { root.innerHTML = Processes.table(bench, state, before, of); });
+    keepingFocus(root, () => Processes.show(root, bench, state, before, of));
   }
 
   const isHalted = (p) => halts.has(p) && entryNow() >= halts.get(p);
