@@ -63,7 +63,7 @@ const App = (() => {
 
   function openLog({ name, model }) {
     const history = Logs.history(model);
-    const fault = history.calls.find((call) => call.fault);
+    const fault = history.calls.find((call) => call.fault && call.index === model.reply.call);
     leaves.turn({ name, note: '', example: '', halts: null, bytes: new Uint8Array(0), log: { model, history } }, row);
     load(fault ? fault.moment : 0, true);
   }

@@ -33,7 +33,7 @@ class HistoryPane {
 
   // A short history is shown whole, a long one so that its bars can be read.
   fit() {
-    this.scale = clamp(this.wholeScale(), 6, 32);
+    this.scale = clamp(this.wholeScale(), 6, this.model.tick ? 56 : 32);
   }
 
   wholeScale() {
@@ -109,11 +109,11 @@ class HistoryPane {
       const y = p * this.lane + this.lane / 2;
       out += `<line x1="${PAD}" x2="${end}" y1="${y}" y2="${y}" class="lane"/>`;
     }
-    const every = niceStep(64 / this.scale);
+    const every = niceStep((this.model.tick ? 90 : 64) / this.scale);
     const first = Math.max(0, Math.floor((left - PAD) / this.scale / every) * every);
     for (let k = first; k <= length && this.x(k) < left + wide; k += every) {
       if (Math.abs(this.x(k) - this.x(this.at ?? 0)) < 28) continue; // the cursor's own number stands there
-      out += `<text x="${this.x(k)}" y="${this.height - 5}" class="tick" text-anchor="middle">${k}</text>`;
+      out += `<text x="${this.x(k)}" y="${this.height - 5}" class="tick" text-anchor="middle">${this.model.tick ? this.model.tick(k) : k}</text>`;
     }
     return out;
   }
@@ -163,9 +163,8 @@ class HistoryPane {
     if (!call.moment) return '';
     const [x, foot] = [this.x(call.moment), y + tall + (this.lane < 18 ? 2 : 3.5)];
     const size = this.lane < 18 ? 3 : 4;
-    const sign = call.fault ? `<text x="${x + 6}" y="${y + 9}" class="sign">✕</text>` : '';
     return `<line x1="${x}" x2="${x}" y1="${y}" y2="${foot - 5}" class="stem"/>`
-      + `<path class="moment" d="M${x - size} ${foot}l${size} ${-2 * size}l${size} ${2 * size}z"/>${sign}`;
+      + `<path class="moment" d="M${x - size} ${foot}l${size} ${-2 * size}l${size} ${2 * size}z"/>`;
   }
 
   // From where on a process takes no more turns.
