@@ -69,7 +69,6 @@ const Actions = (() => {
     const whose = p === null ? '' : ` of process ${p}`;
     const name = what === 'loss' ? 'link lost' : JUMPS[what].words;
     if (!found.length) return say(`No ${name}${whose} ${way > 0 ? 'after' : 'before'} this entry.`);
-    say('');
     return App.show(way > 0 ? Math.min(...found) : Math.max(...found));
   }
 

@@ -63,7 +63,7 @@ const App = (() => {
 
   function openLog({ name, model }) {
     const history = Logs.history(model);
-    const fault = history.calls.find((call) => call.fault);
+    const fault = history.calls.find((call) => call.fault && call.index === model.reply.call);
     leaves.turn({ name, note: '', example: '', halts: null, bytes: new Uint8Array(0), log: { model, history } }, row);
     load(fault ? fault.moment : 0, true);
   }
@@ -144,6 +144,7 @@ const App = (() => {
   // ---- at a row
 
   function show(at) {
+    say('');
     row = clamp(Math.round(at) || 0, 0, rows());
     $('slider').max = rows();
     $('slider').value = row;
@@ -173,8 +174,9 @@ const App = (() => {
   }
 
   function clear(bench) {
-    for (const part of ['processes', 'verdict']) $(`${part}-${bench}`).innerHTML = '';
-    $(`state-${bench}`).innerHTML = Tables.NOTATION;
+    framed($(`processes-${bench}`), '');
+    framed($(`state-${bench}`), Tables.NOTATION);
+    $(`verdict-${bench}`).innerHTML = '';
     $(`sentence-${bench}`).textContent = 'No state: the text is refused before its set-up.';
     $(`history-${bench}`).removeAttribute('style');
   }
@@ -186,8 +188,9 @@ const App = (() => {
 
   function showState(bench, run, state, before, step) {
     const item = step?.item;
-    const html = bench === 'moir' ? Tables.moir(state, before, item) : Tables.first(state, before, item?.replace(/^(BUF\[\d+\]).*/, '$1'));
-    $(`state-${bench}`).innerHTML = html;
+    const root = $(`state-${bench}`);
+    if (bench === 'moir') Tables.moir(root, state, before, item);
+    else Tables.first(root, state, before, item?.replace(/^(BUF\[\d+\]).*/, '$1'));
   }
 
   function showProcesses(bench, run, state, before, entry) {
@@ -197,7 +200,7 @@ const App = (() => {
       can: (what) => run.states.refusal(entry, p, orders[what]) === 0,
     });
     const root = $(`processes-${bench}`);
-    keepingFocus(root, () => { root.innerHTML = Processes.table(bench, state, before, of); });
+    keepingFocus(root, () => Processes.show(root, bench, state, before, of));
   }
 
   const isHalted = (p) => halts.has(p) && entryNow() >= halts.get(p);

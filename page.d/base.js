@@ -16,3 +16,18 @@ const chip = (p) => `<span class="chip" style="--hue:${hue(p)}">${p}</span>`;
 function say(words) {
   $('said').textContent = words;
 }
+
+// Puts elements into their parent, each given as HTML: only those that are not as they were are made anew.
+function patch(root, parts) {
+  const was = root.shownParts ?? [];
+  if (was.length !== parts.length || root.children.length !== parts.length) root.innerHTML = parts.join('');
+  else parts.forEach((part, i) => { if (part !== was[i]) root.children[i].outerHTML = part; });
+  root.shownParts = parts;
+}
+
+// An element with nothing in it but what its parts will be; made once as long as `frame` stays.
+function framed(root, frame) {
+  if (root.shownFrame === frame) return;
+  root.innerHTML = frame;
+  root.shownFrame = frame;
+}

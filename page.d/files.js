@@ -19,7 +19,7 @@ const Files = (() => {
 
   function open(name, bytes) {
     if (Boards.isBoard(bytes)) askBoard(name, bytes);
-    else if (isLog(bytes)) openLog(name, bytes);
+    else if (/\.log$/i.test(name) || isLog(bytes)) openLog(name, bytes);
     else App.open({ bytes, name });
   }
 

@@ -33,7 +33,7 @@ class HistoryPane {
 
   // A short history is shown whole, a long one so that its bars can be read.
   fit() {
-    this.scale = clamp(this.wholeScale(), 6, 32);
+    this.scale = clamp(this.wholeScale(), 6, this.model.tick ? 56 : 32);
   }
 
   wholeScale() {
@@ -88,7 +88,7 @@ class HistoryPane {
   // The picture between two pixels of the whole; `alone` makes it a file of its own.
   svg(left, wide, alone) {
     const shift = alone ? 84 : 0;
-    const parts = [this.grid(left, wide), this.bars(left, wide), this.cursor()];
+    const parts = [this.grid(left, wide), this.bars(left, wide), this.halts(), this.cursor()];
     const names = alone ? this.laneNames() : '';
     const size = `width="${wide + shift}" height="${this.height}"`;
     const attributes = alone ? 'xmlns="http://www.w3.org/2000/svg" font-family="sans-serif" font-size="11"' : '';
@@ -107,16 +107,13 @@ class HistoryPane {
     let out = '';
     for (let p = 0; p < lanes; p++) {
       const y = p * this.lane + this.lane / 2;
-      const still = this.halted?.has(p) ? this.x(this.halted.get(p)) : end;
-      out += `<line x1="${PAD}" x2="${still}" y1="${y}" y2="${y}" class="lane"/>`;
-      if (still < end) out += `<line x1="${still}" x2="${end}" y1="${y}" y2="${y}" class="lane halted"/>`
-        + `<text x="${still + 4}" y="${y + 4}" class="tick">halted</text>`;
+      out += `<line x1="${PAD}" x2="${end}" y1="${y}" y2="${y}" class="lane"/>`;
     }
-    const every = niceStep(64 / this.scale);
+    const every = niceStep((this.model.tick ? 90 : 64) / this.scale);
     const first = Math.max(0, Math.floor((left - PAD) / this.scale / every) * every);
     for (let k = first; k <= length && this.x(k) < left + wide; k += every) {
       if (Math.abs(this.x(k) - this.x(this.at ?? 0)) < 28) continue; // the cursor's own number stands there
-      out += `<text x="${this.x(k)}" y="${this.height - 5}" class="tick" text-anchor="middle">${k}</text>`;
+      out += `<text x="${this.x(k)}" y="${this.height - 5}" class="tick" text-anchor="middle">${this.model.tick ? this.model.tick(k) : k}</text>`;
     }
     return out;
   }
@@ -166,9 +163,18 @@ class HistoryPane {
     if (!call.moment) return '';
     const [x, foot] = [this.x(call.moment), y + tall + (this.lane < 18 ? 2 : 3.5)];
     const size = this.lane < 18 ? 3 : 4;
-    const sign = call.fault ? `<text x="${x + 6}" y="${y + 9}" class="sign">✕</text>` : '';
     return `<line x1="${x}" x2="${x}" y1="${y}" y2="${foot - 5}" class="stem"/>`
-      + `<path class="moment" d="M${x - size} ${foot}l${size} ${-2 * size}l${size} ${2 * size}z"/>${sign}`;
+      + `<path class="moment" d="M${x - size} ${foot}l${size} ${-2 * size}l${size} ${2 * size}z"/>`;
+  }
+
+  // From where on a process takes no more turns.
+  halts() {
+    const end = this.x(this.model.length);
+    return [...(this.halted ?? [])].map(([p, place]) => {
+      const [x, y] = [this.x(place) + 1, p * this.lane + 1];
+      return `<g class="halted"><rect x="${x}" y="${y}" width="${Math.max(0, end - x)}" height="${this.lane - 2}"/>`
+        + `<text x="${x + 6}" y="${y + this.lane * 0.62}">halted</text></g>`;
+    }).join('');
   }
 
   cursor() {
@@ -195,7 +201,7 @@ const PATTERNS = '<defs><pattern id="failed" width="6" height="6" patternUnits="
 const HUES = ['#1c62a8', '#b4480f', '#22763f', '#7a3fa6', '#a02a44', '#00707a', '#6b5d00', '#55585e'];
 
 const PICTURE_STYLE = `:root{${HUES.map((c, p) => `--p${p}:${c}`).join(';')}}`
-  + '.lane{stroke:#ccc}.call rect{fill:#fff;stroke:var(--hue)}.call.sc>rect:first-of-type{fill:#eee;stroke-width:2}'
+  + '.halted rect{fill:url(#failed);opacity:.6}.lane{stroke:#ccc}.call rect{fill:#fff;stroke:var(--hue)}.call.sc>rect:first-of-type{fill:#eee;stroke-width:2}'
   + '.open rect{stroke-dasharray:4 3}.hatch{fill:#bbb}.moment{fill:#111}.stem{stroke:#111}.tick{fill:#555}'
   + '.cursor line{stroke:#111;stroke-width:2}.cursor rect{fill:#111}.cursor text{fill:#fff}text{fill:#111}';
 

@@ -102,7 +102,7 @@ const Keys = (() => {
 
   function help() {
     const named = (names) => (names.length === 10 ? ['0', '…', '9'] : names.filter((name) => !/^[A-Z]$/.test(name)));
-    const keys = (names) => named(names).map((name) => (name === '…' ? '…' : `<kbd>${esc(NAMES[name] ?? name.toUpperCase())}</kbd>`)).join(' ');
+    const keys = (names) => named(names).map((name) => (name === '…' ? '…' : `<kbd>${esc(NAMES[name] ?? (name.length === 1 ? name.toUpperCase() : name))}</kbd>`)).join(' ');
     const line = ([names, said]) => `<tr><th scope="row">${keys(names)}</th><td>${said}</td></tr>`;
     const groups = GROUPS.map(([name, lines]) => `<section><h3>${name}</h3><table>${lines.map(line).join('')}</table></section>`);
     $('keys').innerHTML = `<h2 id="keysHead">Keys</h2><div class="groups">${groups.join('')}</div>${WORDS}`

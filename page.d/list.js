@@ -34,10 +34,10 @@ class TraceList {
     if (!this.run) return;
     const first = Math.max(0, Math.floor(this.root.scrollTop / LINE_HEIGHT) - 3);
     const last = Math.min(this.rows, first + Math.ceil(this.root.clientHeight / LINE_HEIGHT) + 6);
-    let out = '';
-    for (let row = first + 1; row <= last; row++) out += this.line(row);
-    if (last === this.rows) out += this.ending();
-    this.room.innerHTML = out;
+    const lines = [];
+    for (let row = first + 1; row <= last; row++) lines.push(this.line(row));
+    if (last === this.rows) lines.push(this.ending());
+    patch(this.room, lines);
     const now = this.room.querySelector('.now');
     if (now) this.root.setAttribute('aria-activedescendant', now.id);
     else this.root.removeAttribute('aria-activedescendant');

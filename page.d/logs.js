@@ -76,7 +76,11 @@ const Logs = (() => {
     const lanes = calls.reduce((most, call) => Math.max(most, Math.min(15, Number(call[0]))), Math.min(15, Number(model.n) - 1)) + 1;
     const bars = calls.map((call, i) => bar(call, i, rank, fault, model));
     const shown = bars.filter((one) => one.p < 16 && one.to > one.from);
-    return { lanes: Math.max(1, lanes), length: all.length + 1, calls: shown, places: all, said: `history of a log of ${whole} calls` };
+    return {
+      lanes: Math.max(1, lanes), length: all.length + 1, calls: shown, places: all,
+      tick: (place) => (place >= 1 && place <= all.length ? String(all[place - 1]) : ''),
+      said: `history of a log of ${whole} calls`,
+    };
   }
 
   function bar(call, index, rank, fault, model) {
@@ -86,7 +90,8 @@ const Logs = (() => {
     const said = kind === 1n ? `→ ${words}` : kind === 2n ? `${words} → ${truthWord(truth)}` : `→ ${truthWord(truth)}`;
     return {
       p: Number(p), kind: Number(kind), from: rank.get(start), to: rank.get(answer), moment: rank.get(moment), index,
-      failed: kind !== 1n && truth === 0n, fault: fault.has(index), label: `${name} ${said}`, short: name,
+      failed: kind !== 1n && truth === 0n, fault: fault.has(index),
+      label: `${fault.has(index) ? '✕ ' : ''}${name} ${said}`, short: fault.has(index) ? `✕ ${name}` : name,
       title: `line ${model.lines[index]}: process ${p}: ${name} from ${start} to ${answer}, moment ${moment}: ${said}`,
     };
   }
@@ -115,9 +120,9 @@ const Logs = (() => {
   function tableRow(model, index, fault, chosen) {
     const [p, kind, start, answer, truth, moment, ...words] = callOf(model, index);
     const name = { 1: 'LL', 2: 'SC', 3: 'VL' }[kind] ?? `kind ${kind}`;
-    const cells = [model.lines[index], p < 16n ? chip(p) : esc(p), name, start, answer, kind === 1n ? '' : truthWord(truth), moment,
+    const cells = [model.lines[index], p < 16n ? chip(Number(p)) : esc(p), name, start, answer, kind === 1n ? '' : truthWord(truth), moment,
       kind === 3n ? '' : esc(Words.row(words.map(String)))];
-    const why = fault ? `<b class="no">✕ ${esc(model.reason)}</b>` : '';
+    const why = !fault ? '' : index === model.reply.call ? `<b class="no">✕ ${esc(model.reason)}</b>` : '<b class="no">✕ the other call</b>';
     return `<tr class="${fault ? 'fault' : ''}${chosen ? ' now' : ''}" data-call="${index}">`
       + `${cells.map((cell) => `<td>${cell}</td>`).join('')}<td>${why}</td></tr>`;
   }

@@ -60,7 +60,7 @@ const Main = (() => {
 
   function jumped(event) {
     const button = event.target.closest('[data-jump]');
-    if (button) Actions.jump(button.dataset.jump, Number(button.dataset.way));
+    if (button) Actions.jump(button.dataset.jump, event.shiftKey ? -1 : Number(button.dataset.way));
   }
 
   function ordered(event) {

@@ -71,14 +71,14 @@ const Processes = (() => {
     return `<span>${orders}</span>${halt}`;
   }
 
-  function table(bench, state, before, of) {
+  function show(root, bench, state, before, of) {
     const heads = COLUMNS[bench].map(([name, said]) => `<th scope="col" class="c-${name}" title="${said}">${name}</th>`);
     const linked = bench === 'first' ? '<th scope="col" class="c-linked" title="where its links hold">linked</th>' : '';
-    const rows = state.processes.map((_, p) => row(bench, state, before, p, of(p)));
-    return `<table class="processes ${bench}"><thead><tr><th scope="col" aria-label="process"></th><th scope="col" class="c-call">call</th>`
+    framed(root, `<table class="processes ${bench}"><thead><tr><th scope="col" aria-label="process"></th><th scope="col" class="c-call">call</th>`
       + `<th scope="col" class="c-next">next</th>${linked}${heads.join('')}<th scope="col" class="c-do">go on from here</th></tr></thead>`
-      + `<tbody>${rows.join('')}</tbody></table>`;
+      + `<tbody></tbody></table>`);
+    patch(root.firstChild.tBodies[0], state.processes.map((_, p) => row(bench, state, before, p, of(p))));
   }
 
-  return { table };
+  return { show };
 })();

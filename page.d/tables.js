@@ -32,14 +32,15 @@ const Tables = (() => {
 
   // ---- Figure 2
 
-  function first(state, before, item) {
-    const { n } = state;
-    const dense = n > 4 ? ' dense' : '';
-    return `<h2>X, Bank and Help <small>with the processes that are linked</small></h2>`
-      + `<div class="cells shared${dense}">${xCell(state, before, item)}${helpCells(state, before, item)}</div>`
-      + `<div class="cells bank${dense}" style="--columns:${2 * n}">${bankCells(state, before, item)}</div>`
-      + `<h2>Buffers <small>each at its one place</small></h2>`
-      + `<div class="buffers">${state.buffers.map((_, b) => buffer(state, before, b, item)).join('')}</div>`;
+  function first(root, state, before, item) {
+    const dense = state.n > 4 ? ' dense' : '';
+    framed(root, `<h2>X, Bank and Help <small>with the processes that are linked</small></h2>`
+      + `<div class="cells shared${dense}"></div><div class="cells bank${dense}" style="--columns:${2 * state.n}"></div>`
+      + `<h2>Buffers <small>each at its one place</small></h2><div class="buffers"></div>`);
+    const [, shared, bank, , buffers] = root.children;
+    patch(shared, [xCell(state, before, item), ...helpCells(state, before, item)]);
+    patch(bank, bankCells(state, before, item));
+    patch(buffers, state.buffers.map((_, b) => buffer(state, before, b, item)));
   }
 
   function xCell(state, before, item) {
@@ -54,7 +55,7 @@ const Tables = (() => {
       const name = `Bank[${i}]`;
       const linked = links(bank.links, was?.links, state.n);
       return cell(name, `buffer ${value(bank.buffer, was?.buffer)}`, { touched: item === name, linked });
-    }).join('');
+    });
   }
 
   function helpCells(state, before, item) {
@@ -65,7 +66,7 @@ const Tables = (() => {
       const note = was && was.asks !== help.asks ? `<span class="new">◆${asks || 'asks no more'}</span>` : asks;
       const linked = links(help.links, was?.links, state.n);
       return cell(name, `buffer ${value(help.buffer, was?.buffer)}`, { touched: item === name, note, linked, kind: 'help' });
-    }).join('');
+    });
   }
 
   function buffer(state, before, b, item) {
@@ -81,7 +82,7 @@ const Tables = (() => {
 
   // ---- Figure 6
 
-  function moir(state, before, item) {
+  function moir(root, state, before, item) {
     const pair = (now, was) => `tag ${value(now[0], was?.[0])}, process ${value(now[1], was?.[1])}`;
     const header = cell('hdr', pair(state.header, before?.header), { touched: item === 'hdr', wide: true });
     const rows = state.announced.map((words, p) => {
@@ -90,8 +91,10 @@ const Tables = (() => {
       return cell(`A[${p}]`, value(Words.row(words), was), { touched, wide: state.w > 2 });
     });
     const dense = state.n > 4 || state.w > 8 ? ' dense' : '';
-    return `<h2>Header and segments</h2><div class="cells${dense}">${header}${segments(state, before, item)}</div>`
-      + `<h2>A <small>what each process announces</small></h2><div class="cells${dense}">${rows.join('')}</div>`;
+    framed(root, `<h2>Header and segments</h2><div class="cells${dense}"></div>`
+      + `<h2>A <small>what each process announces</small></h2><div class="cells${dense}"></div>`);
+    patch(root.children[1], [header, ...segments(state, before, item)]);
+    patch(root.children[3], rows);
   }
 
   // Neighbouring segments that hold the same, and are not touched, are told together.
@@ -101,13 +104,13 @@ const Tables = (() => {
       const what = `tag ${value(segment.tag, was?.tag)}: ${value(segment.word, was?.word)}`;
       return { k, what, touched: item === `data[${k}]` };
     });
-    let out = '';
+    const cells = [];
     for (let from = 0, to; from < all.length; from = to) {
       const { what, touched } = all[from];
       for (to = from + 1; !touched && to < all.length && all[to].what === what && !all[to].touched; to++);
-      out += cell(to - from === 1 ? `data[${from}]` : `data[${from} to ${to - 1}]`, what, { touched });
+      cells.push(cell(to - from === 1 ? `data[${from}]` : `data[${from} to ${to - 1}]`, what, { touched }));
     }
-    return out;
+    return cells;
   }
 
   // Where there is no state: how a schedule is written (docs/NOTATION.md).
