@@ -8,6 +8,8 @@ const Library = (() => {
   const HELD_MOST = 5430; // BESKLAUN_HELD_COUNT(16, 64, 1)
   const MOIR_MOST = 3476; // BESKLAUN_MOIR_COUNT(16, 64)
   const LISTING_LEAST = 744;
+  const MESSAGE_ROOM = 4096;
+  const OUT_ROOM = 128; // the largest struct that is returned
 
   let wasm;
   let free = 0;
@@ -42,7 +44,8 @@ const Library = (() => {
     wasm = made.instance.exports;
     free = Number(wasm.__heap_base.value);
     free = (free + 15) & ~15;
-    at.out = lend(64);
+    at.out = lend(OUT_ROOM);
+    at.words = lend(MESSAGE_ROOM);
     at.value = lend(8 * 64);
     at.places = lend(8 * 48);
     at.first = lend(8 * HELD_MOST);
@@ -56,18 +59,22 @@ const Library = (() => {
 
   // ---- text runs
 
+  // A run with its trace; the first bench reports where it stopped, and, where the library has them, the words for it.
   function traced(bench, text) {
     const given = text.subarray(0, TEXT_ROOM);
     bytesAt(at.text, given.length).set(given);
-    const run = bench === 'moir' ? wasm.besklaun_moir_trace_text : wasm.besklaun_trace_text_with_report;
-    run(at.out, at.text, BigInt(given.length), at.trace, BigInt(TRACE_ROOM));
-    const told = viewAt(at.out, 64);
-    const written = sizeAt(told, 16);
+    const lent = [at.out, at.text, BigInt(given.length), at.trace, BigInt(TRACE_ROOM)];
+    const words = bench === 'first' && has('besklaun_explain_trace');
+    if (words) wasm.besklaun_explain_trace(...lent, at.words, BigInt(MESSAGE_ROOM));
+    else if (bench === 'first') wasm.besklaun_trace_text_with_report(...lent);
+    else wasm.besklaun_moir_trace_text(...lent);
+    const told = viewAt(at.out, OUT_ROOM);
     return {
       number: told.getUint8(0),
       entries: sizeAt(told, 8),
-      bytes: bytesAt(at.trace, written).slice(),
+      bytes: bytesAt(at.trace, sizeAt(told, 16)).slice(),
       stop: bench === 'moir' ? null : stopAt(told, 24),
+      words: words ? new TextDecoder().decode(bytesAt(at.words, sizeAt(told, 64))) : null,
     };
   }
 
@@ -175,5 +182,5 @@ const Library = (() => {
     });
   }
 
-  return { begin, has, traced, setUp, stepped, tried, held, hold, links, places, judged, boardRun };
+  return { begin, traced, setUp, stepped, tried, held, hold, links, places, judged, boardRun };
 })();

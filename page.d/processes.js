@@ -42,11 +42,11 @@ const Processes = (() => {
     const classes = `${now ? 'now' : ''}${chosen ? ' chosen' : ''}${halted ? ' halted' : ''}`;
     const cells = COLUMNS[bench].map(([name, , of]) => {
       const shown = value(of(own), was && of(was));
-      return `<td class="${name.length > 3 ? 'words' : 'num'} c-${name}" title="${esc(of(own))}">${shown}</td>`;
+      return `<td class="own ${name.length > 5 ? 'words' : 'num'} c-${name}" data-label="${name}" title="${esc(of(own))}">${shown}</td>`;
     });
     const said = next ? `<b>line ${next.line}</b>, <code>${next.item}</code>: ${esc(next.does)}` : '';
     const full = next ? `line ${next.line}, ${next.item}: ${next.does}` : '';
-    const linked = bench === 'first' ? `<td class="c-linked">${esc(state.linked(p))}</td>` : '';
+    const linked = bench === 'first' ? `<td class="own c-linked" data-label="linked">${esc(state.linked(p))}</td>` : '';
     return `<tr class="${classes}" data-p="${p}"><th scope="row">${head(p, now, chosen)}</th>`
       + `<td class="c-call">${halted ? 'halted: ' : ''}${esc(doing(bench, state, p))}</td>`
       + `<td class="c-next" title="${esc(full)}">${said}</td>${linked}${cells.join('')}`
@@ -72,8 +72,8 @@ const Processes = (() => {
   }
 
   function show(root, bench, state, before, of) {
-    const heads = COLUMNS[bench].map(([name, said]) => `<th scope="col" class="c-${name}" title="${said}">${name}</th>`);
-    const linked = bench === 'first' ? '<th scope="col" class="c-linked" title="where its links hold">linked</th>' : '';
+    const heads = COLUMNS[bench].map(([name, said]) => `<th scope="col" class="own c-${name}" title="${said}">${name}</th>`);
+    const linked = bench === 'first' ? '<th scope="col" class="own c-linked" title="where its links hold">linked</th>' : '';
     framed(root, `<table class="processes ${bench}"><thead><tr><th scope="col" aria-label="process"></th><th scope="col" class="c-call">call</th>`
       + `<th scope="col" class="c-next">next</th>${linked}${heads.join('')}<th scope="col" class="c-do">go on from here</th></tr></thead>`
       + `<tbody></tbody></table>`);

@@ -1,6 +1,7 @@
 'use strict';
 // Why a text is refused, in the words of ./schedule (crates/messages), from what the proved run reports of its stop: its
-// kind, its place and N and W. The words are chosen here as that crate chooses them.
+// kind, its place and N and W. The words are chosen here as that crate chooses them; where the library tells its own, which
+// it does of the first bench alone, those are shown (run.js).
 
 const Refusal = (() => {
   const [NOT_READ, AT_FAULT, NO_ITEM] = [0, 1, 2];

@@ -27,7 +27,9 @@ class Run {
 
   refused(bytes, stop) {
     const told = this.bench === 'moir' ? { ...this.told, stop: this.begun ? this.stopAtItem(stop) : stop } : this.told;
-    return Refusal.told(told, bytes, (p) => this.states.after(this.entries).busy(p));
+    const refusal = Refusal.told(told, bytes, (p) => this.states.after(this.entries).busy(p));
+    const words = told.words?.split('\n').find((line) => line.startsWith('refused '));
+    return { ...refusal, words: words ?? refusal.words };
   }
 
   // Where Moir's run stopped: at the item of the entry that comes next.

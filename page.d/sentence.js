@@ -24,8 +24,9 @@ const Sentence = (() => {
   // Beside the other bench: it has done this item, or is stopped.
   function ofWaiting(run, entry) {
     const stopped = entry === run.entries && run.told.number;
-    if (stopped) return `<b>Stopped</b> after entry ${Words.count(entry)}: refused ${run.told.number}.`;
-    return `<b>Waits</b> after entry ${Words.count(entry)}, while the other bench goes on.`;
+    const figure = run.bench === 'moir' ? 'Figure 6' : 'Figure 2';
+    if (stopped) return `<b>${figure} is stopped</b> after entry ${Words.count(entry)}: refused ${run.told.number}.`;
+    return `<b>${figure} waits</b> after entry ${Words.count(entry)}, while the other bench goes on.`;
   }
 
   function setUp(run) {
