@@ -83,8 +83,8 @@ async function refusals(browser) {
         const words = told.stderr.toString().split('\n').find(line => line.startsWith('refused '));
         await browser.load(page, `#x=${name.replace('.txt', '')}`, READY);
         expect(name, (await browser.value(textOf('#refusal'))).replace(/^✕ /, ''), words);
-        const placed = /line \d+, column| at \d+:\d+/.test(words);
-        expect(`${name}: marked`, await browser.value('document.querySelectorAll("#marks .bad").length > 0'), placed);
+        if (!/line \d+, column| at \d+:\d+/.test(words)) continue;
+        expect(`${name}: marked`, await browser.value('document.querySelectorAll("#marks .bad").length > 0'), true);
     }
 }
 
