@@ -5,8 +5,12 @@ const Verdict = (() => {
   const MOST_CALLS = 512;
   const PLACE = 1024; // ./log's places are 1,024 times the number of the entry
 
-  // The calls that a run's log has: those that are answered, and of Moir's an open SC whose CAS on the header succeeded.
-  const logged = (calls) => calls.all.filter((call) => call.to || call.moment);
+  // The calls that a run's log has, in ./log's order: those that are answered, and then, of Moir's, the open SCs whose CAS on
+  // the header succeeded.
+  function logged(calls) {
+    const open = calls.all.filter((call) => !call.to && call.moment);
+    return [...calls.answered, ...open.sort((one, other) => one.p - other.p)];
+  }
 
   function rowOf(call, w, word) {
     const truth = call.to ? (call.told.letter === 'S' || call.told.letter === 'V') && call.told.words[0] === '1' : true;
