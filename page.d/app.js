@@ -8,6 +8,8 @@ const App = (() => {
   const panes = {};
   let [view, row, chosen, pairs, halts] = ['first', 0, null, null, new Map()];
   let examples = {};
+  const [QUICK, PAUSE] = [80, 250]; // milliseconds
+  let [waiting, cost] = [0, 0]; // a text that is still to be run, and how long the last one took
 
   const leaf = () => leaves.now;
   const log = () => leaf().log ?? null;
@@ -41,7 +43,7 @@ const App = (() => {
       };
     }
     $('example').innerHTML = ['<option value="">your own</option>', ...Object.keys(examples).map((name) => `<option>${esc(name)}</option>`)].join('');
-    Editor.begin(edited);
+    Editor.begin(edited, settle);
     addEventListener('resize', () => leaf() && resized());
   }
 
@@ -72,13 +74,29 @@ const App = (() => {
     const changed = { ...leaf(), bytes, example: '', note: '', halts: null };
     if (fresh) leaves.turn(changed, row);
     else leaves.now = changed;
-    load(row, false);
+    clearTimeout(waiting);
+    waiting = cost < QUICK ? 0 : setTimeout(reload, PAUSE);
+    if (!waiting) reload();
   }
 
+  // A text that takes its time is run when she pauses, or leaves the field.
+  function reload() {
+    const begun = performance.now();
+    waiting = 0;
+    load(row, false);
+    cost = performance.now() - begun;
+  }
+
+  function settle() {
+    if (!waiting) return;
+    clearTimeout(waiting);
+    reload();
+  }
+
+  // `at` is a row, or tells it once the leaf is run.
   function turn(changed, at) {
     leaves.turn(changed, row);
-    load(typeof at === 'function' ? 0 : at, false);
-    if (typeof at === 'function') show(at());
+    load(at, false);
   }
 
   function undo(way) {
@@ -97,7 +115,7 @@ const App = (() => {
     document.title = `${leaf().name ? `${leaf().name} · ` : ''}Besklaun, a schedule step by step`;
     if (log()) loadLog(fresh);
     else loadSchedule(fresh);
-    show(at);
+    show(typeof at === 'function' ? at() : at);
   }
 
   function loadLog(fresh) {
@@ -257,8 +275,7 @@ const App = (() => {
     view = ['first', 'moir', 'both'].includes(next) ? next : 'first';
     $('view').value = view;
     if (!leaf()) return;
-    load(0, true);
-    show(rowOf(mainBench(), Math.min(entry, mainRun().entries)));
+    load(() => rowOf(mainBench(), Math.min(entry, mainRun().entries)), true);
   }
 
   // The process that a key is about: the chosen one, else this entry's.

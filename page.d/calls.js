@@ -5,7 +5,8 @@
 class Calls {
   constructor(bench, trace, n) {
     this.trace = trace;
-    this.all = [];
+    this.all = []; // in the order of their starts
+    this.answered = []; // in the order of their answers
     const open = new Array(n).fill(null);
     const moments = bench === 'moir' ? new MomentsOfSix(trace) : new MomentsOfTwo(trace);
     for (let entry = 1; entry <= trace.entries; entry++) {
@@ -14,7 +15,6 @@ class Calls {
       else this.stepped(entry, p, open, moments);
     }
     for (const call of this.all) if (!call.to) call.moment = moments.ofOpen(call);
-    this.answered = this.all.filter((call) => call.to);
   }
 
   started(entry, p) {
@@ -31,6 +31,7 @@ class Calls {
     call.to = entry;
     call.told = this.trace.step(entry).answer;
     call.moment = moments.of(call, entry);
+    this.answered.push(call);
     open[p] = null;
   }
 }

@@ -46,10 +46,11 @@ const Editor = (() => {
     follow();
   }
 
-  // `onText` is told the new bytes: at once for the marks, and when she pauses for a leaf of its own.
-  function begin(onText) {
+  // `onText` is told the new bytes, and whether they are a leaf of their own: she has paused before.
+  function begin(onText, onLeave) {
     let last = 0;
     $('text').addEventListener('scroll', follow);
+    $('text').addEventListener('blur', onLeave);
     $('text').addEventListener('input', () => {
       shown = $('text').value;
       const now = Date.now();

@@ -10,7 +10,7 @@ class HistoryPane {
   // `onPick` is told the place that was clicked.
   constructor(root, onPick) {
     this.root = root;
-    root.innerHTML = '<div class="lanes" aria-hidden="true"></div><div class="track"><div class="room"></div></div>';
+    root.innerHTML = '<div class="lanes" aria-hidden="true"></div><div class="track" tabindex="-1"><div class="room"></div></div>';
     [this.lanes, this.track] = root.children;
     this.room = this.track.firstChild;
     this.scale = 18;
@@ -189,7 +189,7 @@ class HistoryPane {
   picture() {
     const kept = this.scale;
     this.scale = Math.min(kept, (16000 - 2 * PAD) / Math.max(1, this.model.length));
-    const picture = this.svg(0, Math.ceil(this.x(this.model.length)) + PAD, true);
+    const picture = this.svg(0, Math.ceil(this.x(this.model.length)) + 3 * PAD, true);
     this.scale = kept;
     return picture.replace(/(<svg [^>]*>)/, `$1<style>${PICTURE_STYLE}</style><rect width="100%" height="100%" fill="#fff"/>`);
   }

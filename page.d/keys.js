@@ -69,7 +69,7 @@ const Keys = (() => {
   }
 
   function pressed(event) {
-    if (event.target.closest('dialog')) return;
+    if (event.target.closest?.('dialog')) return undefined;
     if ((event.ctrlKey || event.metaKey) && !event.altKey) return turned(event);
     if (event.altKey) return undefined;
     if (event.target === $('text') || event.target === $('at')) return inField(event);
@@ -96,7 +96,7 @@ const Keys = (() => {
 
   // A slider and a list have keys of their own.
   function ownKeys(target, key) {
-    if (target.matches('select')) return key.startsWith('Arrow') || key.length === 1 || ['Home', 'End', 'PageUp', 'PageDown', 'Escape'].includes(key);
+    if (target.matches?.('select')) return key.startsWith('Arrow') || key.length === 1 || ['Home', 'End', 'PageUp', 'PageDown', 'Escape'].includes(key);
     return target.id === 'slider' && (key === 'ArrowUp' || key === 'ArrowDown');
   }
 

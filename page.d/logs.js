@@ -47,10 +47,10 @@ const Logs = (() => {
     const each = 6 + width;
     const starts = places.slice(2 + width).filter((_, i) => i % each === 0);
     const lines = linesOf(bytes, starts);
-    const model = { n, w: width, value, log, lines };
+    const model = { n, w: width, saidW: w, value, log, lines };
     model.reply = Library.judged(n, w, value, log);
     model.calls = Math.ceil(log.length / each);
-    model.reason = model.reply.yes ? '' : Verdict.reason(model.reply, { ...model, w: width }, (i) => `line ${lines[i] ?? '?'}`);
+    model.reason = model.reply.yes ? '' : Verdict.reason(model.reply, model, (i) => `line ${lines[i] ?? '?'}`);
     return model;
   }
 

@@ -44,7 +44,10 @@ const Main = (() => {
     $('on').onclick = () => App.show(App.row + 1);
     $('last').onclick = () => App.show(App.rows());
     $('slider').oninput = () => App.show(Number($('slider').value));
-    $('at').onchange = () => App.show(Number($('at').value.replace(/\D/g, '')));
+    $('at').onchange = () => {
+      App.show(Number($('at').value.replace(/\D/g, '')));
+      $('at').value = App.row;
+    };
     $('at').onfocus = () => $('at').select();
     $('chosen').onchange = () => App.choose($('chosen').value === '' ? null : Number($('chosen').value));
     $('zoomIn').onclick = () => Actions.zoom(1.5);

@@ -5,8 +5,12 @@ const Verdict = (() => {
   const MOST_CALLS = 512;
   const PLACE = 1024; // ./log's places are 1,024 times the number of the entry
 
-  // The calls that a run's log has: those that are answered, and of Moir's an open SC whose CAS on the header succeeded.
-  const logged = (calls) => calls.all.filter((call) => call.to || call.moment);
+  // The calls that a run's log has, in ./log's order: those that are answered, and then, of Moir's, the open SCs whose CAS on
+  // the header succeeded.
+  function logged(calls) {
+    const open = calls.all.filter((call) => !call.to && call.moment);
+    return [...calls.answered, ...open.sort((one, other) => one.p - other.p)];
+  }
 
   function rowOf(call, w, word) {
     const truth = call.to ? (call.told.letter === 'S' || call.told.letter === 'V') && call.told.words[0] === '1' : true;
@@ -49,10 +53,10 @@ const Verdict = (() => {
   }
 
   // `where` names the place of a call, as `line 3` of a log that is read.
-  function reason(reply, { n, w, value, log }, where) {
+  function reason(reply, { n, w, saidW = w, value, log }, where) {
     const call = callAt(log, w, reply.number === 16 ? MOST_CALLS : reply.call, where);
     const other = callAt(log, w, reply.other, where);
-    if (reply.number) return refused(reply, call, log, w, n);
+    if (reply.number) return refused(reply, call, log, w, n, saidW);
     const said = {
       1: () => `${call.where}: ${call.name} has the kind ${call.kind}, not 1 (LL), 2 (SC) or 3 (VL)`,
       2: () => `${call.where} and ${other.where}: ${call.span} and ${other.span} overlap`,
@@ -72,10 +76,10 @@ const Verdict = (() => {
     return `${call.name} answered ${call.words}; Figure 1's object answers ${object}`;
   }
 
-  function refused(reply, call, log, w, n) {
+  function refused(reply, call, log, w, n, saidW) {
     const said = {
       1: () => `line 1: N is ${n}, not 1 to 16`,
-      2: () => `line 1: W is ${w}, not 1 to 64`,
+      2: () => `line 1: W is ${saidW}, not 1 to 64`,
       4: () => `${call.where}: process ${call.process} is not below N, ${n}`,
       8: () => cutOff(reply, call, log, w),
       16: () => `${call.where}: the 513th call; a log has at most 512`,
