@@ -122,7 +122,7 @@ class HistoryPane {
     const [from, to] = [(left - PAD) / this.scale - 1, (left + wide - PAD) / this.scale + 1];
     const drawn = new Array(this.model.lanes).fill(-1); // the last pixel that a lane has a bar on
     let out = '';
-    for (const call of this.model.calls) {
+    for (const call of this.near(from, to)) {
       const end = call.to || this.model.length + 0.5;
       if (end < from || call.from > to) continue;
       const pixel = Math.floor(this.x(end));
@@ -131,6 +131,16 @@ class HistoryPane {
       out += this.bar(call, end, left, wide);
     }
     return out;
+  }
+
+  // The calls that can be in sight: where they stand in the order of their starts, those that start no further before than the
+  // longest answered call lasts, and the open ones.
+  near(from, to) {
+    const { calls, longest } = this.model;
+    if (longest === undefined) return calls;
+    const first = startingAt(calls, from - longest);
+    const open = calls.slice(0, first).filter((call) => !call.to);
+    return [...open, ...calls.slice(first, startingAt(calls, to + 1))];
   }
 
   bar(call, end, left, wide) {
@@ -205,6 +215,17 @@ const PICTURE_STYLE = `:root{${HUES.map((c, p) => `--p${p}:${c}`).join(';')}}`
   + '.open rect{stroke-dasharray:4 3}.hatch{fill:#bbb}.moment{fill:#111}.stem{stroke:#111}.tick{fill:#555}'
   + '.cursor line{stroke:#111;stroke-width:2}.cursor rect{fill:#111}.cursor text{fill:#fff}text{fill:#111}';
 
+// The index of the first call that starts at a place or behind it.
+function startingAt(calls, place) {
+  let [low, high] = [0, calls.length];
+  while (low < high) {
+    const middle = (low + high) >> 1;
+    if (calls[middle].from < place) low = middle + 1;
+    else high = middle;
+  }
+  return low;
+}
+
 function niceStep(least) {
   const power = 10 ** Math.floor(Math.log10(Math.max(1, least)));
   for (const times of [1, 2, 5, 10]) if (times * power >= least) return times * power;
@@ -231,5 +252,6 @@ function historyOfRun(run, length, rowOf) {
     if (call) calls[run.calls.all.indexOf(call)].fault = true;
   });
   const said = `history of ${run.n} processes: ${run.calls.answered.length} answered calls in ${run.entries} entries`;
-  return { lanes: run.n, length, calls, said };
+  const longest = calls.reduce((most, call) => Math.max(most, call.to ? call.to - call.from : 0), 0);
+  return { lanes: run.n, length, calls, longest, said };
 }

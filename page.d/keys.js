@@ -78,8 +78,13 @@ const Keys = (() => {
     const work = all.get(event.key) ?? all.get(event.key.toLowerCase());
     if (!work) return undefined;
     event.preventDefault();
-    work(event.shiftKey && /^[A-Z]$/.test(event.key) ? -1 : 1, event.key);
+    work(backwards(event) ? -1 : 1, event.key);
     return undefined;
+  }
+
+  // Shift, or a capital that the lock of capitals did not make.
+  function backwards(event) {
+    return event.shiftKey || (/^[A-Z]$/.test(event.key) && !event.getModifierState('CapsLock'));
   }
 
   // Undo and redo as everywhere, in the text too.
