@@ -7,11 +7,15 @@ const ROUNDS = 5, STEPS = 60;
 const [trace, ...given] = process.argv.slice(2);
 
 // Notes when the page was first painted after it said that it is ready.
-const WATCH = `addEventListener('DOMContentLoaded', () => new MutationObserver(() => {
-    if (document.body.dataset.ready !== '1' || window.shownAt) return;
-    window.shownAt = -1;
-    requestAnimationFrame(() => setTimeout(() => { window.shownAt = performance.now(); }));
-}).observe(document.body, { attributes: true }))`;
+const WATCH = `addEventListener('DOMContentLoaded', () => {
+    const look = () => {
+        if (document.body.dataset.ready !== '1' || window.shownAt) return;
+        window.shownAt = -1;
+        requestAnimationFrame(() => setTimeout(() => { window.shownAt = performance.now(); }));
+    };
+    new MutationObserver(look).observe(document.body, { attributes: true });
+    look();
+})`;
 
 // milliseconds from a key to the next picture, so many times
 const STEPPED = (key, times) => `(async () => {
@@ -51,29 +55,51 @@ const most = list => Math.max(...list);
 const middle = list => [...list].sort((a, b) => a - b)[list.length >> 1];
 const ms = number => number.toFixed(1);
 
-const browser = await Browser.open();
-await browser.ask('Page.addScriptToEvaluateOnNewDocument', { source: WATCH });
-console.log('| Text | Entries | Native trace, ms | Shown, ms: least of five, most | A step to the next picture, ms: middle, most | Work of a step, most | A jump, most |');
-console.log('|---|---|---|---|---|---|---|');
-for (let k = 0; k < given.length; k += 2) {
-    const [name, file] = [given[k], given[k + 1]];
-    const shown = [];
+// milliseconds that the processor spent on the page's thread: what others do on the machine is not in it
+async function worked(browser) {
+    const { metrics } = await browser.ask('Performance.getMetrics');
+    return 1000 * metrics.find(it => it.name === 'TaskDuration').value;
+}
+
+// the row of a text
+async function row(browser, name, file) {
+    const [shown, loads] = [[], []];
     for (let round = 0; round < ROUNDS; round++) {
+        await browser.ask('Page.navigate', { url: 'about:blank' });
+        const before = await worked(browser);
         await browser.load(`${file}.html`, '', 'window.shownAt > 0');
         shown.push(await browser.value('window.shownAt'));
+        loads.push(await worked(browser) - before);
     }
     const entries = Number(await browser.value('document.querySelector("#slider").max'));
-    const steps = [];
+    const [steps, each] = [[], []];
     for (const [from, key] of [[0, 'ArrowRight'], [entries >> 1, 'ArrowRight'], [entries >> 1, 'ArrowLeft'], [entries, 'ArrowLeft']]) {
         await browser.value(AT(from));
+        const before = await worked(browser);
         steps.push(...await browser.value(STEPPED(key, STEPS)));
+        each.push((await worked(browser) - before) / STEPS);
     }
     const jumps = [];
     for (let jump = 1; jump <= 40; jump++) jumps.push(await browser.value(AT(Math.floor(entries * (jump * 0.618 % 1)))));
     const painted = steps.map(it => it[0]);
-    console.log(`| ${name} | ${entries} | ${ms(native(`${file}.txt`))} | ${ms(least(shown))}, ${ms(most(shown))} `
-        + `| ${ms(middle(painted))}, ${ms(most(painted))} | ${ms(most(steps.map(it => it[1])))} | ${ms(most(jumps))} |`);
+    console.log(`| ${name} | ${entries} | ${ms(native(`${file}.txt`))} | ${ms(least(shown))}, ${ms(most(shown))} | ${ms(least(loads))} `
+        + `| ${ms(middle(painted))}, ${ms(most(painted))} | ${ms(most(each))} | ${ms(middle(jumps))}, ${ms(most(jumps))} |`);
 }
-if (browser.errors.length) console.log(browser.errors.join('\n'));
+
+const browser = await Browser.open();
+let status = 0;
+try {
+    await browser.ask('Page.addScriptToEvaluateOnNewDocument', { source: WATCH });
+    await browser.ask('Performance.enable', { timeDomain: 'threadTicks' });
+    console.log('| Text | Entries | Native trace | Shown: least of five, most | Its processor time | A step to the next picture: middle, most | Its processor time, most of four means | A jump: middle, most |');
+    console.log('|---|---|---|---|---|---|---|---|');
+    for (let k = 0; k < given.length; k += 2) await row(browser, given[k], given[k + 1]);
+} catch (error) {
+    browser.errors.push(error.message);
+}
+if (browser.errors.length) {
+    console.log(browser.errors.join('\n'));
+    status = 1;
+}
 await browser.close();
-process.exit(browser.errors.length ? 1 : 0);
+process.exit(status);
