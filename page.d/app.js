@@ -156,7 +156,8 @@ const App = (() => {
     const html = lines.join('');
     if ($('refusal').innerHTML !== html) $('refusal').innerHTML = html;
     $('text').setAttribute('aria-invalid', told.length > 0);
-    $('note').textContent = leaf().note;
+    const cut = leaf().bytes.length > Editor.MOST ? `Shown are its first ${Words.count(Editor.MOST)} bytes of ${Words.count(leaf().bytes.length)}.` : '';
+    $('note').textContent = leaf().note || cut;
   }
 
   // ---- at a row

@@ -6,7 +6,9 @@ const Editor = (() => {
   let shown = ''; // the text as it stands in the field
 
   // A file's own bytes may hold what a field can't: line ends are shown as line feeds.
-  const decoded = (bytes) => new TextDecoder().decode(bytes).replace(/\r\n?/g, '\n');
+  // Of what is far too long for a text the beginning is enough.
+  const MOST = 20000;
+  const decoded = (bytes) => new TextDecoder().decode(bytes.subarray(0, MOST)).replace(/\r\n?/g, '\n');
 
   function set(bytes) {
     const text = decoded(bytes);
@@ -59,5 +61,5 @@ const Editor = (() => {
     });
   }
 
-  return { begin, set, mark, reveal };
+  return { begin, set, mark, reveal, MOST };
 })();
