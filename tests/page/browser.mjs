@@ -139,6 +139,13 @@ export class Browser {
         return this.ask('Input.insertText', { text });
     }
 
+    // a file, as if it were chosen in a file field
+    async choose(selector, file) {
+        const { root } = await this.ask('DOM.getDocument');
+        const { nodeId } = await this.ask('DOM.querySelector', { nodeId: root.nodeId, selector });
+        await this.ask('DOM.setFileInputFiles', { nodeId, files: [file] });
+    }
+
     async shot(file) {
         const { data } = await this.ask('Page.captureScreenshot', { format: 'png' });
         fs.writeFileSync(file, Buffer.from(data, 'base64'));

@@ -178,6 +178,24 @@ async function benches(browser) {
     expect("both benches, Moir's", / answers false after 1 own step\.$/.test(both[1]), true);
 }
 
+// a board's file is run, and a log is judged, with the reason at its call
+async function files(browser) {
+    await browser.load(page, '#x=first-steps', READY);
+    await browser.choose('#file', `${root}/examples/boards/merged.board`);
+    await comes(browser, 'it asks for N, W and K', 'document.querySelector("#board").open', true);
+    for (const [field, number] of [['N', 2], ['W', 1], ['K', 5]]) await browser.value(`document.querySelector("#board${field}").value = "${number}"`);
+    await browser.click('#boardYes');
+    const listing = fs.readFileSync(`${root}/examples/boards/merged.listing`, 'latin1');
+    const [, entries] = /\nend (\d+)\n$/.exec(listing);
+    await comes(browser, "a board's file", of, entries);
+    // by hand: an LL that answers 6 where the value is 5
+    const log = `${root}/target/page/wrong.log`;
+    fs.writeFileSync(log, '2 1\n5\n0 1 1024 11264 0 3072 6\n');
+    await browser.choose('#file', log);
+    const reason = "no: condition 5: line 3: process 0's LL answered 6; Figure 1's object answers 5, the value";
+    await comes(browser, 'a log', `document.body.textContent.includes(${JSON.stringify(reason)})`, true);
+}
+
 // what must be in sight of a large and of a usual station
 async function sizes(browser) {
     const bytes = encodeURIComponent('').concat('4_8_5~0l_9(0.)_1l_1!_1s7_1!_2l_5(2.)_0!');
@@ -190,7 +208,7 @@ async function sizes(browser) {
 const browser = await Browser.open();
 let status = 0;
 try {
-    for (const part of [situations, refusals, steps, keys, clicks, benches, sizes]) await part(browser);
+    for (const part of [situations, refusals, steps, keys, clicks, benches, files, sizes]) await part(browser);
     const foreign = browser.requests.filter(url => !url.startsWith(`file://${page}`) && !/^(data|blob):/.test(url));
     expect('errors on the console', browser.errors.join('\n'), '');
     expect('requests', foreign.join('\n'), '');
