@@ -3,18 +3,18 @@
 //! stands in the states around it, every other shared item stays, and the
 //! state before it names the line and the item as the access to come.
 
-#[path = "../../../library/src/bin/look/buffers.rs"]
+#[path = "../../../library/src/bin/states/buffers.rs"]
 #[allow(dead_code)]
 mod buffers;
-#[path = "../../../library/src/bin/look/commands.rs"]
+#[path = "../../../library/src/bin/states/commands.rs"]
 mod commands;
-#[path = "../../../library/src/bin/look/next.rs"]
+#[path = "../../../library/src/bin/states/next.rs"]
 #[allow(dead_code)]
 mod next;
-#[path = "../../../library/src/bin/look/run.rs"]
+#[path = "../../../library/src/bin/states/run.rs"]
 #[allow(dead_code)]
 mod run;
-#[path = "../../../library/src/bin/look/station.rs"]
+#[path = "../../../library/src/bin/states/station.rs"]
 #[allow(dead_code)]
 mod station;
 

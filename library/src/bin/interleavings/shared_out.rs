@@ -68,7 +68,7 @@ fn collected(
     counter: &Counter,
 ) -> Surveyed {
     let mut surveys = BTreeMap::new();
-    signals::watch();
+    signals::watch(&[signals::INT, signals::TERM]);
     loop {
         if signals::came() {
             counter.stopped.store(true, Ordering::Relaxed);

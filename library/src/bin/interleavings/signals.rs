@@ -1,11 +1,13 @@
-//! INT (Ctrl-C) and TERM end the work early; what was found so far is still
-//! told, and then the program ends by the signal.
+//! Signals that end the work early: what is left to do then is still done, and
+//! then the program ends by the signal.
 
 use std::sync::atomic::{AtomicI32, Ordering};
 
-/// As Linux numbers them.
-const INT: i32 = 2;
-const TERM: i32 = 15;
+/// As Linux numbers them: Ctrl-C, the end, the terminal gone.
+pub const INT: i32 = 2;
+pub const TERM: i32 = 15;
+#[allow(dead_code)]
+pub const HUP: i32 = 1;
 
 /// What `signal` takes and returns besides a handler.
 const DEFAULT: usize = 0;
@@ -29,10 +31,10 @@ fn set(number: i32, action: usize) -> usize {
     unsafe { signal(number, action) }
 }
 
-/// From now on the two are noted. One that is ignored, as in a script's
+/// From now on these are noted. One that is ignored, as in a script's
 /// background, stays so.
-pub fn watch() {
-    for number in [INT, TERM] {
+pub fn watch(numbers: &[i32]) {
+    for &number in numbers {
         if set(number, note as extern "C" fn(i32) as usize) == IGNORED {
             set(number, IGNORED);
         }

@@ -7,12 +7,19 @@
 #![forbid(unsafe_code)]
 
 mod arguments;
+#[path = "../states/buffers.rs"]
 mod buffers;
+#[path = "../states/commands.rs"]
 mod commands;
+#[path = "../states/next.rs"]
 mod next;
+#[path = "../states/process.rs"]
 mod process;
+#[path = "../states/run.rs"]
 mod run;
+#[path = "../states/shared.rs"]
 mod shared;
+#[path = "../states/station.rs"]
 mod station;
 mod table;
 

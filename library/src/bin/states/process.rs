@@ -28,7 +28,8 @@ pub fn write(out: &mut impl Write, station: &Station, p: usize) -> io::Result<()
     writeln!(out, "    offered   {}", words(station.offered(p)))
 }
 
-fn doing(station: &Station, p: usize) -> String {
+/// Its call and the steps of it, or that it is idle.
+pub fn doing(station: &Station, p: usize) -> String {
     let call = station.call(p);
     let steps = match call.steps {
         1 => "1 own step".to_string(),

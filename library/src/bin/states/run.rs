@@ -7,8 +7,8 @@ use super::commands::Command;
 use super::station::Station;
 
 /// The most entries of a run, and room for the line of each and the last one.
-const MOST_ENTRIES: usize = 60_000;
-const LINE_ROOM: usize = 872;
+pub const MOST_ENTRIES: usize = 60_000;
+pub const LINE_ROOM: usize = 872;
 
 pub struct Run {
     pub entries: usize,
@@ -62,13 +62,16 @@ impl Run {
         self.lines.get(entry.checked_sub(1)?).map(String::as_str)
     }
 
-    /// The command of this entry, which the run accepted, on the state before
-    /// it.
+    /// The command of this entry, which the run accepted.
+    pub fn command(&self, entry: usize) -> Result<Command, String> {
+        let line = self.line(entry).unwrap_or("");
+        Command::read(line).ok_or_else(|| format!("line '{line}' of the trace is none"))
+    }
+
+    /// That command, given to a station in the state before it.
     pub fn carry_out(&self, entry: usize, station: &mut Station) -> Result<(), String> {
         let line = self.line(entry).unwrap_or("");
-        let command =
-            Command::read(line).ok_or_else(|| format!("line '{line}' of the trace is none"))?;
-        match station.carry_out(command) {
+        match station.carry_out(self.command(entry)?) {
             Ok(_) => Ok(()),
             Err(cause) => Err(format!(
                 "the text run accepts '{line}', a step does not: {cause}"

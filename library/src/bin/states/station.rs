@@ -8,6 +8,7 @@ use super::commands::{Command, Order};
 /// A text has one record.
 const RECORD: usize = 0;
 
+#[derive(Clone, PartialEq, Eq)]
 pub struct Station {
     held: Vec<u64>,
     pub n: usize,
