@@ -71,12 +71,13 @@ fn say(words: &str) {
 
 /// Why the text is refused, where it is.
 fn called(path: &str) -> Result<Option<String>, String> {
-    let run = Run::of(&text(path)?);
-    let refused = run.refused();
-    let Some(first) = run.first_line() else {
+    let text = text(path)?;
+    let run = Run::of(&text);
+    let refused = run.refused().map(String::from);
+    let Some(sizes) = run.sizes() else {
         return Ok(refused);
     };
-    let play = Play::of(&run, first)?;
+    let play = Play::of(&run, sizes, &text)?;
     stepped(play, refused.clone())?;
     Ok(refused)
 }

@@ -2,11 +2,11 @@
 //! are left where processes were halted.
 
 use besklaun::held::Reply;
-use besklaun::trace_text;
+use besklaun::{trace_text, Sizes};
 
 use super::commands::{Command, Order};
 use super::keys::Way;
-use super::run::{FirstLine, Run, LINE_ROOM, MOST_ENTRIES};
+use super::run::{Run, LINE_ROOM, MOST_ENTRIES};
 use super::station::Station;
 
 /// So many entries lie between two states that are kept.
@@ -23,7 +23,8 @@ struct Entry {
 }
 
 pub struct Play {
-    first: FirstLine,
+    /// The text's first line, as it stands.
+    first_line: String,
     /// The text's own commands.
     all: Vec<Command>,
     entries: Vec<Entry>,
@@ -41,18 +42,19 @@ pub struct Play {
 }
 
 impl Play {
-    pub fn of(run: &Run, first: FirstLine) -> Result<Play, String> {
+    pub fn of(run: &Run, sizes: Sizes, text: &[u8]) -> Result<Play, String> {
+        let first = text.split(|byte| *byte == b'\n').next().unwrap_or(&[]);
         let commands: Result<Vec<_>, _> = (1..=run.entries).map(|e| run.command(e)).collect();
         let mut play = Play {
-            first,
+            first_line: String::from_utf8_lossy(first).into_owned(),
             all: commands?,
             entries: Vec::new(),
             lines: Vec::new(),
             answered: Vec::new(),
             lost: Vec::new(),
-            kept: vec![first.station()],
+            kept: vec![run.state(sizes, 0)],
             passed: 0,
-            halted: vec![false; first.n],
+            halted: vec![false; sizes.n as usize],
         };
         play.go_on();
         play.lines = play.traced();
@@ -167,8 +169,7 @@ impl Play {
     /// A schedule text of the entries; the same item again and again is a
     /// group.
     fn text(&self) -> String {
-        let FirstLine { n, w, initial } = self.first;
-        let mut text = format!("{n} {w} {initial}\n");
+        let mut text = format!("{}\n", self.first_line);
         let same = |a: &Entry, b: &Entry| a.command == b.command;
         for run in self.entries.chunk_by(same) {
             for part in run.chunks(255) {
