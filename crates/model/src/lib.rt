@@ -7,6 +7,7 @@ ghost use Rattle.model.specs.SetUp.{x_at_set_up, bank_at_set_up, help_at_set_up,
 ghost use Rattle.model.specs.Replies.{number_of};
 ghost use Rattle.model.specs.declared.Reply.TheVariants.{Accepted};
 
+pub mod points;
 pub mod sizes;
 
 // A buffer's number, below 3N.
