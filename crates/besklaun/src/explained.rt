@@ -59,7 +59,10 @@ fn explained(traced: bool, text: &[u8], into: &mut [u8], words: &mut [u8]) -> Ex
     let out = text_machine::text_run::run_by_value(held, 16, traced, &mut bench, text, into);
     let left = figure2::left(out.held.all);
     let ended = Ended {
-        run: out.holding(left),
+        outcome: out.outcome,
+        entries: out.entries,
+        report: out.report,
+        left,
         text,
     };
     let told = tell(ended, words);

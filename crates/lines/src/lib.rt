@@ -7,6 +7,7 @@ pub mod on_bank;
 pub mod on_help;
 pub mod on_words;
 pub mod on_x;
-pub mod points;
 pub mod records;
 pub mod sequence;
+
+pub use model::points;

@@ -5,7 +5,7 @@ ghost use Rattle.llsc.specs.CallKinds.{start_of, kind_text};
 use crate::Order;
 use std::fmt;
 
-#[derive(Clone, Copy, PartialEq, Eq)]
+#[derive(Clone, Copy)]
 pub enum CallKind {
     Ll,
     Sc,
@@ -25,14 +25,21 @@ impl From<CallKind> for Order {
     }
 }
 
+// Kept: apart from the one write, as each write is proved for any writer.
+fn name(kind: CallKind) -> &'static str
+    ensures { result.now ≡ kind_text kind }
+{
+    match kind {
+        CallKind::Ll => "LL",
+        CallKind::Sc => "SC",
+        CallKind::Vl => "VL",
+    }
+}
+
 impl fmt::Display for CallKind {
     ghost output = { λ kind. Some (kind_text kind) };
 
     fn fmt<W: fmt::Write>(&self, f: &mut fmt::Formatter<W>) -> fmt::Result {
-        match self {
-            CallKind::Ll => write!(f, "LL"),
-            CallKind::Sc => write!(f, "SC"),
-            CallKind::Vl => write!(f, "VL"),
-        }
+        f.write_str(name(*self))
     }
 }

@@ -25,7 +25,7 @@ impl ProcessNumber {
 }
 
 // What a command orders.
-#[derive(Clone, Copy, PartialEq, Eq)]
+#[derive(Clone, Copy)]
 pub enum Order {
     StartLl,
     StartSc,

@@ -66,7 +66,7 @@ pub fn number_of(outcome: Result<(), Refusal>) -> u8
 }
 
 // A number that no row of the table has.
-#[derive(Clone, Copy, PartialEq, Eq)]
+#[derive(Clone, Copy)]
 pub struct NoRefusal(pub u8);
 
 impl TryFrom<u8> for Refusal {

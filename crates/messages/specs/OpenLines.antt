@@ -19,13 +19,17 @@ abbrev pub figure_text : Figure → List ℕ
 figure_text Two = codes "Figure 2"
 figure_text Six = codes "Figure 6"
 
+-- which half of its word a place is
+abbrev pub half_text : ℕ → List ℕ
+half_text place = cond (eqb (place % 2) 0) (codes "low") (codes "high")
+
 -- the word at a word place, from 0 on as in a trace; two places make a word that moves in halves
 abbrev pub moved_text : Option Moves → ℕ → ℕ → List ℕ
 moved_text None place w = []
 moved_text (Some Whole) place w = codes ", word " ++ decimal place ++ codes " of " ++ decimal w
 moved_text (Some Halves) place w =
     codes ", word " ++ decimal (place / 2) ++ codes " of " ++ decimal w
-    ++ codes ", " ++ cond (eqb (place % 2) 0) (codes "low") (codes "high") ++ codes " half"
+    ++ codes ", " ++ half_text place ++ codes " half"
 
 abbrev pub word_text : Word → List ℕ
 word_text x = moved_text x.moves x.place x.w

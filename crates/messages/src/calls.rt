@@ -1,20 +1,20 @@
 // The open call of a process: its kind, the line that comes next, the word place where that line moves words, and the
 // own steps so far. The same words for every method.
 ghost use Rattle.std.specs.Prelude.{◌≡◌, Some};
-ghost use Rattle.messages.specs.OpenLines.{figure_text, word_text, steps_text, told_text};
+ghost use Rattle.messages.specs.OpenLines.{figure_text, half_text, word_text, steps_text, told_text};
 
 pub use llsc::CallKind as Kind;
 use std::fmt;
 
 // How a line moves words: a whole word to a step, or a half.
-#[derive(Clone, Copy, PartialEq, Eq)]
+#[derive(Clone, Copy)]
 pub enum Moves {
     Whole,
     Halves,
 }
 
 // Kept: `place` beside `moves`, not in it: the record has a place at each line; the words of a message alone choose.
-#[derive(Clone, Copy, PartialEq, Eq)]
+#[derive(Clone, Copy)]
 pub struct Call {
     pub kind: Kind,
     pub line: u8,
@@ -26,32 +26,31 @@ pub struct Call {
 }
 
 // The figure whose lines are told.
-#[derive(Clone, Copy, PartialEq, Eq)]
+#[derive(Clone, Copy)]
 pub enum Figure {
     Two,
     Six,
 }
 
-impl fmt::Display for Figure {
-    ghost output = { λ f. Some (figure_text f) };
-
-    fn fmt<W: fmt::Write>(&self, f: &mut fmt::Formatter<W>) -> fmt::Result {
-        match self {
-            Figure::Two => write!(f, "Figure 2"),
-            Figure::Six => write!(f, "Figure 6"),
-        }
+// As a message names it.
+fn figure_name(figure: Figure) -> &'static str
+    ensures { result.now ≡ figure_text figure }
+{
+    match figure {
+        Figure::Two => "Figure 2",
+        Figure::Six => "Figure 6",
     }
 }
 
 // The figure, and W.
-#[derive(Clone, Copy, PartialEq, Eq)]
+#[derive(Clone, Copy)]
 pub struct Method {
     pub figure: Figure,
     pub w: u64,
 }
 
 // A call as a message tells it.
-#[derive(Clone, Copy, PartialEq, Eq)]
+#[derive(Clone, Copy)]
 pub struct Told {
     pub call: Call,
     pub method: Method,
@@ -71,7 +70,10 @@ impl fmt::Display for Told {
         write!(
             f,
             "{}, line {} of {}{word} next, {} own {steps} so far",
-            call.kind, call.line, method.figure, call.count
+            call.kind,
+            call.line,
+            figure_name(method.figure),
+            call.count
         )
     }
 }
@@ -80,6 +82,12 @@ fn steps(count: usize) -> &'static str
     ensures { result.now ≡ steps_text count }
 {
     if count == 1 { "step" } else { "steps" }
+}
+
+fn half_name(place: usize) -> &'static str
+    ensures { result.now ≡ half_text place }
+{
+    if place % 2 == 0 { "low" } else { "high" }
 }
 
 // The word of a line that moves words, from 0 on as in a trace.
@@ -99,7 +107,7 @@ impl fmt::Display for Word {
             None => Ok(()),
             Some(Moves::Whole) => write!(f, ", word {place} of {w}"),
             Some(Moves::Halves) => {
-                let half = if place % 2 == 0 { "low" } else { "high" };
+                let half = half_name(place);
                 write!(f, ", word {} of {w}, {half} half", place / 2)
             }
         }

@@ -2,58 +2,72 @@
 ghost use Rattle.std.specs.Prelude.{◌≡◌};
 ghost use Rattle.messages.specs.Shown.{is_order_mark};
 
+use crate::pieces::{NONE, Piece};
 use llsc::refusals::Refusal;
 use positions::Seen;
 use saying::{Named, Place};
-use std::io;
-use std::io::Write;
 
 // The bytes with which some editors begin a text.
 const ORDER_MARK: [u8; 3] = [0xEF, 0xBB, 0xBF];
 
-// The fault at a place of the text, and where that is.
+// Why the text is refused at a place of it.
 // Kept: the place beside its text, as a run reports by a number where it stopped; the text is cut there here.
-pub(crate) fn at(
-    to: &mut impl Write,
-    refusal: Refusal,
-    text: &[u8],
-    place: usize,
-) -> io::Result<()> {
-    saying::position(to, Place::of(text, place))?;
-    if refusal == Refusal::TooDeep {
-        return write!(
-            to,
-            ": groups nest at most eight deep, and this ( would open a ninth"
-        );
-    }
-    let (before, rest) = text.split_at(saying::within(place, text));
-    broken(to, before, rest)
-}
-
-// The text breaks the notation between these bytes and the rest.
-fn broken(to: &mut impl Write, before: &[u8], rest: &[u8]) -> io::Result<()> {
-    if is_order_mark(rest) {
-        return write!(
-            to,
-            ": the text begins with a byte order mark; save it as plain text, without one"
-        );
-    }
-    let here = rest.first().copied();
-    write!(to, ": {}", expected(positions::look(before), here))?;
-    match here {
-        Some(here) => write!(to, "; here is {}", Named(here)),
-        None => {
-            write!(to, "; here the text ends")?;
-            unclosed(to, before)
+pub(crate) fn why(refusal: Refusal, text: &[u8], place: usize) -> [Piece<'static>; 6] {
+    match refusal {
+        Refusal::TooDeep => {
+            let text = b"groups nest at most eight deep, and this ( would open a ninth\n";
+            [Piece::Text(text), NONE, NONE, NONE, NONE, NONE]
+        }
+        _ => {
+            let (before, rest) = text.split_at(saying::within(place, text));
+            broken(before, rest)
         }
     }
 }
 
-// Where the group begins that is open at the text's end.
-fn unclosed(to: &mut impl Write, text: &[u8]) -> io::Result<()> {
+// The text breaks the notation between these bytes and the rest.
+fn broken(before: &[u8], rest: &[u8]) -> [Piece<'static>; 6] {
+    if is_order_mark(rest) {
+        let text = b"the text begins with a byte order mark; save it as plain text, without one\n";
+        return [Piece::Text(text), NONE, NONE, NONE, NONE, NONE];
+    }
+    let here = rest.first().copied();
+    let expected = Piece::Text(expected(positions::look(before), here).as_bytes());
+    match here {
+        Some(here) => [
+            expected,
+            Piece::Text(b"; here is "),
+            Piece::Byte(Named(here)),
+            Piece::Text(b"\n"),
+            NONE,
+            NONE,
+        ],
+        None => at_end(expected, before),
+    }
+}
+
+// At the text's end: where the group begins that is open there.
+fn at_end(expected: Piece<'static>, text: &[u8]) -> [Piece<'static>; 6] {
     match positions::unclosed(text) {
-        None => Ok(()),
-        Some(at) => write!(to, "; its ( is at {}", Place::of(text, at)),
+        None => [
+            expected,
+            Piece::Text(b"; here the text ends\n"),
+            NONE,
+            NONE,
+            NONE,
+            NONE,
+        ],
+        Some(at) => {
+            let place = Place::of(text, at);
+            [
+                expected,
+                Piece::Text(b"; here the text ends; its ( is at "),
+                Piece::Number(place.line as u64),
+                Piece::Text(b":"),
+                Piece::Number(place.column as u64),
+                Piece::Text(b"\n"),
+            ]
+        }
     }
 }
 
@@ -64,22 +78,36 @@ fn is_order_mark(rest: &[u8]) -> bool
 }
 
 // What is expected after what was seen. Nothing is here where the text ends.
-// Kept: the arms choose by patterns of both bytes and by guards, in their order, which no table of closures can show.
 fn expected(s: Seen, here: Option<u8>) -> &'static str {
-    match (s.last, here) {
-        (Some(b'0'..=b'9'), Some(b'0'..=b'9')) => stray_digit(s),
-        _ if s.feeds == 0 => in_first_line(s.spaces, s.last.is_some_and(|b| b.is_ascii_digit())),
+    let in_number = is_digit(s.last);
+    if in_number && is_digit(here) {
+        stray_digit(s)
+    } else if s.feeds == 0 {
+        in_first_line(s.spaces, in_number)
+    } else {
+        in_items(s, in_number, here)
+    }
+}
+
+fn is_digit(byte: Option<u8>) -> bool {
+    matches!(byte, Some(b'0'..=b'9'))
+}
+
+// Behind the first line.
+// Kept: the arms choose by patterns of the byte and by a guard, in their order, which no table of closures can show.
+fn in_items(s: Seen, in_number: bool, here: Option<u8>) -> &'static str {
+    match s.last {
+        Some(b's') => "after s comes a number",
+        Some(b'\n' | b' ' | b'(') => before_item(s.solid, here),
         // the number is the value of an `s`, or the first of its item
-        (Some(b'0'..=b'9'), _) if s.mark != Some(b's') => after_number(here),
-        (Some(b's'), _) => "after s comes a number",
-        (Some(b'\n' | b' ' | b'('), _) => before_item(s.solid, here),
+        _ if in_number && !matches!(s.mark, Some(b's')) => after_number(here),
         _ => after_item(here),
     }
 }
 
 // A digit after a digit is wrong only after a leading zero, or where it makes the number too large.
 fn stray_digit(s: Seen) -> &'static str {
-    if s.last == Some(b'0') && !s.earlier.is_some_and(|b| b.is_ascii_digit()) {
+    if matches!(s.last, Some(b'0')) && !is_digit(s.earlier) {
         "a number has no leading zero"
     } else {
         "a number is at most 4,294,967,295"

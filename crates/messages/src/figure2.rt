@@ -4,8 +4,7 @@ ghost use Rattle.messages.specs.OpenCalls.{kind_of, figure_line, moves_of, call_
 
 use crate::Left;
 use crate::calls::{Call, Figure, Kind, Moves};
-use lines::points;
-use model::Process;
+use model::{Process, points};
 
 // The calls of the processes with these records.
 // Kept: beside Moir's own, as the records are; what is alike is one `map`.

@@ -15,19 +15,26 @@ pub mod figure2;
 mod items;
 mod numbers;
 mod open_calls;
+mod pieces;
 mod refusals;
 mod shown;
 
 use crate::calls::{Call, Figure};
+use llsc::refusals::Refusal;
+use positions::StopReport;
 use std::io;
 use std::io::{ErrorKind, Write};
 use std::process::ExitCode;
-use text_runs::runs::Finished;
 
-// A run that has ended, with the calls that it leaves, and its text.
+// A run that has ended: why it was refused, if it was, the entries done, where it stopped, the calls that it leaves, and
+// its text.
+// Kept: no `Finished` of `text_runs`, so that no message waits for the proof of a run.
 #[derive(Clone, Copy)]
 pub struct Ended<'a> {
-    pub run: Finished<Left>,
+    pub outcome: Result<(), Refusal>,
+    pub entries: usize,
+    pub report: StopReport,
+    pub left: Left,
     pub text: &'a [u8],
 }
 
@@ -50,7 +57,12 @@ pub fn not_written<W: Write>(to: &mut W) -> io::Result<()>
 pub fn output(to: &mut impl Write, errors: &mut impl Write, made: Option<&[u8]>) -> io::Result<()>
     ensures { IfErr result (λ lost. error_kind lost ≡ ErrorKind.BrokenPipe) }
 {
-    match made.map(|bytes| to.write_all(bytes)) {
+    // Kept: a match: the closure of a `map` would be three functions more to prove.
+    let written = match made {
+        Some(bytes) => Some(to.write_all(bytes)),
+        None => None,
+    };
+    match written {
         Some(Ok(())) => Ok(()),
         Some(Err(lost)) if console::is_cut(&lost) => Err(lost),
         _ => {
@@ -62,13 +74,13 @@ pub fn output(to: &mut impl Write, errors: &mut impl Write, made: Option<&[u8]>)
 
 // The message of a run. Nothing where it was not refused and no call is open.
 pub fn explain<W: Write>(to: &mut W, ended: Ended) -> io::Result<()>
-    ensures { IfOk ended.entry.run.outcome (λ end. OnOk result (Appends (W.contents to.old) (W.contents to.new)
-        (still_open ended.entry.run.held ended.entry.run.report))) }
+    ensures { IfOk ended.entry.outcome (λ end. OnOk result (Appends (W.contents to.old) (W.contents to.new)
+        (still_open ended.entry.left ended.entry.report))) }
 {
-    if let Err(refusal) = ended.run.outcome {
+    if let Err(refusal) = ended.outcome {
         refusals::tell(to, refusal, ended)?;
     }
-    open_calls::still_open(to, ended.run.report, &ended.run.held)
+    open_calls::still_open(to, ended.report, &ended.left)
 }
 
 // The end of a program that ran a text: the run's output, its message, and the status.
@@ -80,6 +92,9 @@ pub fn conclude(
 ) -> ExitCode
     ensures { (exit_status result ≡ 0) ⊎ (exit_status result ≡ 141) }
 {
-    let told = output(to, errors, made).and_then(|()| explain(errors, ended));
+    let told = match output(to, errors, made) {
+        Ok(()) => explain(errors, ended),
+        lost => lost,
+    };
     console::status(told)
 }

@@ -2,19 +2,40 @@
 ghost use Rattle.std.specs.Prelude.{◌≡◌, ◌+◌, length};
 ghost use Rattle.listing.specs.Decimal.{decimal};
 
+use crate::pieces::{NONE, Piece};
 use listing::Writer;
 use llsc::refusals::Refusal;
 use positions::Sizes;
-use std::io;
-use std::io::Write;
+use saying::Place;
 
-pub(crate) fn out_of_range(to: &mut impl Write, refusal: Refusal, sizes: Sizes) -> io::Result<()> {
-    let Sizes { n, w } = sizes;
-    if refusal == Refusal::NOutOfRange {
-        return write!(to, "line 1, column 1: N is {n}; it is 1 to 16");
+// Where the number begins.
+pub(crate) fn place(refusal: Refusal, sizes: Sizes) -> Place {
+    let column = match refusal {
+        Refusal::NOutOfRange => 1,
+        _ => column_after(sizes.n),
+    };
+    Place { line: 1, column }
+}
+
+pub(crate) fn why(refusal: Refusal, sizes: Sizes) -> [Piece<'static>; 6] {
+    match refusal {
+        Refusal::NOutOfRange => [
+            Piece::Text(b"N is "),
+            Piece::Number(sizes.n),
+            Piece::Text(b"; it is 1 to 16\n"),
+            NONE,
+            NONE,
+            NONE,
+        ],
+        _ => [
+            Piece::Text(b"W is "),
+            Piece::Number(sizes.w),
+            Piece::Text(b"; it is 1 to 64\n"),
+            NONE,
+            NONE,
+            NONE,
+        ],
     }
-    let column = column_after(n);
-    write!(to, "line 1, column {column}: W is {w}; it is 1 to 64")
 }
 
 // The column after a number at the beginning of a text and one space. Numbers are written one way only.

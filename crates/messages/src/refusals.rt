@@ -1,29 +1,46 @@
-// The line of a refusal.
+// The line of a refusal: where the run was refused, and why.
+use crate::pieces::{self, NONE, Piece};
 use crate::{Ended, faults, items, numbers};
 use llsc::refusals::Refusal;
 use positions::StopReport;
+use saying::Place;
 use std::io;
 use std::io::Write;
 
-// Its first word tells a script that the run was refused.
 pub(crate) fn tell(to: &mut impl Write, refusal: Refusal, ended: Ended) -> io::Result<()> {
-    write!(to, "refused {}: ", refusal.number())?;
-    match ended.run.report {
-        StopReport::NotRead => write!(to, "{}", not_read(refusal)),
-        StopReport::AtFault(place) => faults::at(to, refusal, ended.text, place),
-        StopReport::AtNoItem(sizes) => numbers::out_of_range(to, refusal, sizes),
-        StopReport::AtItem(sizes, item) => {
-            items::entry(to, ended, item.place)?;
-            items::cause(to, refusal, item.process, sizes, &ended.run.held)
-        }
-    }?;
-    writeln!(to)
+    pieces::say(to, &place(refusal, ended))?;
+    pieces::say(to, &why(refusal, ended))
+}
+
+fn place(refusal: Refusal, ended: Ended<'_>) -> [Piece<'_>; 12] {
+    match ended.report {
+        StopReport::NotRead => pieces::begun(refusal),
+        StopReport::AtFault(place) => pieces::position(refusal, Place::of(ended.text, place)),
+        StopReport::AtNoItem(sizes) => pieces::position(refusal, numbers::place(refusal, sizes)),
+        StopReport::AtItem(_, item) => items::entry(refusal, ended, item.place),
+    }
+}
+
+fn why(refusal: Refusal, ended: Ended) -> [Piece<'static>; 6] {
+    match ended.report {
+        StopReport::NotRead => [
+            Piece::Text(not_read(refusal)),
+            NONE,
+            NONE,
+            NONE,
+            NONE,
+            NONE,
+        ],
+        StopReport::AtFault(place) => faults::why(refusal, ended.text, place),
+        StopReport::AtNoItem(sizes) => numbers::why(refusal, sizes),
+        StopReport::AtItem(sizes, item) => items::why(refusal, item.process, sizes, &ended.left),
+    }
 }
 
 // Why a text was not looked at. The programs lend room enough.
-fn not_read(refusal: Refusal) -> &'static str {
+fn not_read(refusal: Refusal) -> &'static [u8] {
     match refusal {
-        Refusal::NoRoom => "there is too little room to write to",
-        _ => "the text has more than 16,384 bytes",
+        Refusal::NoRoom => b"there is too little room to write to\n",
+        _ => b"the text has more than 16,384 bytes\n",
     }
 }

@@ -7,14 +7,17 @@ ghost use Rattle.model.specs.SetUp.{x_at_set_up, bank_at_set_up, help_at_set_up,
 ghost use Rattle.model.specs.Replies.{number_of};
 ghost use Rattle.model.specs.declared.Reply.TheVariants.{Accepted};
 
+pub mod points;
 pub mod sizes;
+
+use std::alloc::AllocError;
 
 // A buffer's number, below 3N.
 #[derive(Clone, Copy, Default, PartialEq, Eq)]
 pub struct BufferNumber(pub u8);
 
 // A sequence number, below 2N.
-#[derive(Clone, Copy, Default, PartialEq, Eq)]
+#[derive(Clone, Copy, Default)]
 pub struct SequenceNumber(pub u8);
 
 // What X holds: Figure 2's xtype.
@@ -32,10 +35,19 @@ pub struct HelpContent {
 }
 
 // A shared place, with its links: bit p of the number is the link of process p.
-#[derive(Clone, Copy, Default)]
+#[derive(Copy, Default)]
 pub struct Place<T> {
     pub content: T,
     pub links: u16,
+}
+
+// Kept: by hand, as a derived clone asks its fields one by one, with a way out at each.
+impl<T: Copy> Clone for Place<T> {
+    ghost is_clone = { λ x y. y ≡ x };
+
+    fn clone(&self) -> Result<Place<T>, AllocError> {
+        Ok(*self)
+    }
 }
 
 // X, a place of Bank and a place of Help.
@@ -84,11 +96,20 @@ pub enum Reply {
 }
 
 // What a line makes of the place that it touches and of its own process, with its reply.
-#[derive(Clone, Copy)]
+#[derive(Copy)]
 pub struct LineStep<P> {
     pub place: P,
     pub process: Process,
     pub reply: Reply,
+}
+
+// Kept: by hand, as that of a place.
+impl<P: Copy> Clone for LineStep<P> {
+    ghost is_clone = { λ x y. y ≡ x };
+
+    fn clone(&self) -> Result<LineStep<P>, AllocError> {
+        Ok(*self)
+    }
 }
 
 impl<P> LineStep<P> {

@@ -13,7 +13,10 @@ fn main(rt: HostRuntime) -> ExitCode {
     let out = moir_text_machine::texts::run_text(given, false, &mut list);
     let left = moir_messages::left(out.held);
     let ended = messages::Ended {
-        run: out.holding(left),
+        outcome: out.outcome,
+        entries: out.entries,
+        report: out.report,
+        left,
         text: given,
     };
     messages::conclude(

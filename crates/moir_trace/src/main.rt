@@ -15,7 +15,10 @@ fn main(rt: HostRuntime) -> Result<ExitCode, AllocError> {
     let out = moir_text_machine::texts::run_text(given, true, &mut list);
     let left = moir_messages::left(out.held);
     let ended = messages::Ended {
-        run: out.holding(left),
+        outcome: out.outcome,
+        entries: out.entries,
+        report: out.report,
+        left,
         text: given,
     };
     let status = messages::conclude(

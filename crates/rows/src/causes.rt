@@ -64,5 +64,5 @@ pub fn never_linked(order: Order, answered: bool) -> bool
 pub fn value_not_w_words(order: Order, w: usize, value: usize) -> bool
     ensures { result ≡ (row8 order w value).holds }
 {
-    order == Order::StartSc && value != w
+    matches!(order, Order::StartSc) && value != w
 }

@@ -26,6 +26,13 @@ place_text p = decimal p.line ++ codes ":" ++ decimal p.column
 abbrev pub position_text : Place → List ℕ
 position_text p = codes "line " ++ decimal p.line ++ codes ", column " ++ decimal p.column
 
+-- of a tab, a line feed, a carriage return and a space
+abbrev pub name_text : ℕ → List ℕ
+name_text b =
+    cond (eqb b 9) (codes "a tab")
+    (cond (eqb b 10) (codes "a line feed")
+    (cond (eqb b 13) (codes "a carriage return") (codes "a space")))
+
 -- a byte that has a shape is told as it stands, and another by its name or its number
 abbrev pub byte_name : ℕ → List ℕ
 byte_name b =

@@ -7,7 +7,7 @@ ghost use Rattle.std.specs.Prelude.{◌≡◌, ◌++◌, Some, OnOk, codes};
 ghost use Rattle.std.specs.Fmt.{decimal as Fmt·decimal};
 ghost use Rattle.std.specs.Io.KnownBytes.{Appends};
 ghost use Rattle.console.specs.Counts.{IsPrefixLen};
-ghost use Rattle.saying.specs.Told.{place_after, place_in, place_text, position_text, byte_name};
+ghost use Rattle.saying.specs.Told.{place_after, place_in, place_text, position_text, name_text, byte_name};
 ghost use Rattle.saying.specs.Within.{within_text};
 
 use positions::Seen;
@@ -15,7 +15,7 @@ use std::io::Write;
 use std::{fmt, io};
 
 // A place of a text by its line and its column, both from 1 on.
-#[derive(Clone, Copy, PartialEq, Eq)]
+#[derive(Clone, Copy)]
 pub struct Place {
     pub line: usize,
     pub column: usize,
@@ -50,18 +50,28 @@ impl fmt::Display for Place {
 }
 
 // A byte by its name, or by itself where it has a shape.
-#[derive(Clone, Copy, PartialEq, Eq)]
+#[derive(Clone, Copy)]
 pub struct Named(pub u8);
+
+// The name of a byte that has no shape, where it is one of these four.
+// Kept: apart from the one write, as each write is proved for any writer.
+fn name(byte: u8) -> &'static str
+    ensures { result.now ≡ name_text byte }
+{
+    match byte {
+        b'\t' => "a tab",
+        b'\n' => "a line feed",
+        b'\r' => "a carriage return",
+        _ => "a space",
+    }
+}
 
 impl fmt::Display for Named {
     ghost output = { λ b. Some (byte_name b.0) };
 
     fn fmt<W: fmt::Write>(&self, f: &mut fmt::Formatter<W>) -> fmt::Result {
         match self.0 {
-            b'\t' => write!(f, "a tab"),
-            b'\n' => write!(f, "a line feed"),
-            b'\r' => write!(f, "a carriage return"),
-            b' ' => write!(f, "a space"),
+            b'\t' | b'\n' | b'\r' | b' ' => f.write_str(name(self.0)),
             b'!'..=b'~' => write!(f, "{}", char::from(self.0)),
             _ => write!(f, "byte {}", self.0),
         }

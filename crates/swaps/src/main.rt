@@ -23,7 +23,10 @@ fn main(rt: HostRuntime) -> Result<ExitCode, AllocError> {
     let count = marking::output::mark_lines(trace, &mut marked);
     let left = messages::figure2::left(out.held.all);
     let ended = messages::Ended {
-        run: out.holding(left),
+        outcome: out.outcome,
+        entries: out.entries,
+        report: out.report,
+        left,
         text: given,
     };
     let status = messages::conclude(

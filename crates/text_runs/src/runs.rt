@@ -10,14 +10,24 @@ use crate::last_lines;
 use listing::Writer;
 use llsc::refusals::Refusal;
 use positions::StopReport;
+use std::alloc::AllocError;
 
 // A run in progress: what its bench holds, the entries done, and whether it writes a trace. Its lines go to a writer.
 // Kept: `traced` is what the user asked for, and no field hangs on it.
-#[derive(Clone, Copy)]
+#[derive(Copy)]
 pub struct Run<H> {
     pub held: H,
     pub entries: usize,
     pub traced: bool,
+}
+
+// Kept: by hand, here and below, as a derived clone asks its fields one by one, with a way out at each.
+impl<H: Copy> Clone for Run<H> {
+    ghost is_clone = { λ x y. y ≡ x };
+
+    fn clone(&self) -> Result<Run<H>, AllocError> {
+        Ok(*self)
+    }
 }
 
 impl<H: Copy> Run<H> {
@@ -35,22 +45,38 @@ impl<H: Copy> Run<H> {
 
 // The run after its list, its place in it, that of the entry that was refused, or the end; and why it was refused.
 // Kept: `at` beside `outcome`: it is a place at the end too, as `Over` says (`stop_index`).
-#[derive(Clone, Copy)]
+#[derive(Copy)]
 pub struct Carried<H> {
     pub run: Run<H>,
     pub at: usize,
     pub outcome: Result<(), Refusal>,
 }
 
+impl<H: Copy> Clone for Carried<H> {
+    ghost is_clone = { λ x y. y ≡ x };
+
+    fn clone(&self) -> Result<Carried<H>, AllocError> {
+        Ok(*self)
+    }
+}
+
 // What a text run leaves of what it held, and what it returns: why it was refused, if it was, the entries done, the bytes
 // written, and where it stopped.
-#[derive(Clone, Copy)]
+#[derive(Copy)]
 pub struct Finished<H> {
     pub held: H,
     pub outcome: Result<(), Refusal>,
     pub entries: usize,
     pub written: usize,
     pub report: StopReport,
+}
+
+impl<H: Copy> Clone for Finished<H> {
+    ghost is_clone = { λ x y. y ≡ x };
+
+    fn clone(&self) -> Result<Finished<H>, AllocError> {
+        Ok(*self)
+    }
 }
 
 impl<H: Copy> Finished<H> {

@@ -18,7 +18,10 @@ fn main(rt: HostRuntime) -> Result<ExitCode, AllocError> {
     let out = text_machine::text_run::run_by_value(held, 16, true, &mut words, given, &mut list);
     let left = messages::figure2::left(out.held.all);
     let ended = messages::Ended {
-        run: out.holding(left),
+        outcome: out.outcome,
+        entries: out.entries,
+        report: out.report,
+        left,
         text: given,
     };
     let status = messages::conclude(
