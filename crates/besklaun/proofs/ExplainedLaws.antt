@@ -26,7 +26,7 @@ use Rattle.text_entry.specs.declared.state.Held.{Held}
 use Rattle.text_entry.specs.RunState.{empty_held}
 use Rattle.text_runs.specs.declared.runs.Finished.{Finished}
 use Rattle.text_runs.specs.declared.returned.TextRun.{TextRun}
-use Rattle.text_runs.specs.Returned.{holding, told}
+use Rattle.text_runs.specs.Returned.{told}
 use Rattle.text_model.specs.TextRun as bench
 use Rattle.text_model.specs.TextRun.{run_with}
 use Rattle.text_machine.specs.Finished.{TextRan, memory_of}
@@ -61,7 +61,11 @@ module _ (t : Bool) (held : Held) (text bytes : List ℕ) (r : Finished Held) (w
         ap (λ (f : Figure). record { figure = f; calls = left.calls }) figure
         ∙ ap (λ (cs : List (Option Call)). record { figure = Two; calls = cs }) (calls ∙ ap (map call_of) records_are)
 
-    module _ {run : TextRun} {stop : TextStop} (is : run ≡ told r) (stop_is : stop ≡ stop_of r.report) (end : Ended) (same : end.run ≡ holding r left) where
+    -- what the run is told by, as far as a message needs it
+    abbrev end : Ended
+    end = record { outcome = r.outcome; entries = r.entries; report = r.report; left = left; text = text }
+
+    module _ {run : TextRun} {stop : TextStop} (is : run ≡ told r) (stop_is : stop ≡ stop_of r.report) where
       pub explained_alone : {room room' : List ℕ} (x : Told) → Message end room x room'
           → Explained t text bytes room (record { run = run; stop = stop; told = x.count; whole = x.whole }) after room'
       explained_alone x m = record {
@@ -69,6 +73,6 @@ module _ (t : Bool) (held : Held) (text bytes : List ℕ) (r : Finished Held) (w
         told = m.told;
         front = m.front;
         ended = λ z whole.
-            let ok : IsOk end.run.outcome = ended_well end.run.outcome (ap (λ (f : Finished Left). number_told f.outcome) same ∙ sym (ap (λ (u : TextRun). u.number) is) ∙ z) in
-            m.ended ok whole ∙ ap (λ (f : Finished Left). still_open f.held f.report) same ∙ ap (λ (l : Left). still_open l r.report) left_is;
+            let ok : IsOk r.outcome = ended_well r.outcome (sym (ap (λ (u : TextRun). u.number) is) ∙ z) in
+            m.ended ok whole ∙ ap (λ (l : Left). still_open l r.report) left_is;
       }

@@ -25,7 +25,7 @@ pub record AtFront (words told : List ℕ) (k : ℕ) (words' : List ℕ) : Type 
 pub record Message (e : Ended) (words : List ℕ) (r : Told) (words' : List ℕ) : Type 0 where
   pub told : List ℕ
   pub front : AtFront words told r.count words'
-  pub ended : IsOk e.run.outcome → r.whole ≡ true → told ≡ still_open e.run.held e.run.report
+  pub ended : IsOk e.outcome → r.whole ≡ true → told ≡ still_open e.left e.report
 
 -- the calls that a memory of sixteen processes leaves
 abbrev pub left_by : Memory → Left
