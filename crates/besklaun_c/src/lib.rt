@@ -39,8 +39,8 @@ use besklaun::seasons::{Added, Fractions};
 use besklaun::texts::{ReportedRun, TextRun};
 use besklaun::views::View;
 use besklaun::{
-    board_files, explained, held_lists, logs, marks, moir_lists, moir_texts, schedules, seasons, texts,
-    versions, views,
+    board_files, explained, held_lists, logs, marks, moir_lists, moir_texts, schedules, seasons,
+    texts, versions, views,
 };
 use board_commands::FileRun;
 use boards::Merged;

@@ -23,14 +23,7 @@ fn place(refusal: Refusal, ended: Ended<'_>) -> [Piece<'_>; 12] {
 
 fn why(refusal: Refusal, ended: Ended) -> [Piece<'static>; 6] {
     match ended.report {
-        StopReport::NotRead => [
-            Piece::Text(not_read(refusal)),
-            NONE,
-            NONE,
-            NONE,
-            NONE,
-            NONE,
-        ],
+        StopReport::NotRead => [Piece::Text(not_read(refusal)), NONE, NONE, NONE, NONE, NONE],
         StopReport::AtFault(place) => faults::why(refusal, ended.text, place),
         StopReport::AtNoItem(sizes) => numbers::why(refusal, sizes),
         StopReport::AtItem(sizes, item) => items::why(refusal, item.process, sizes, &ended.left),
