@@ -1,6 +1,6 @@
 -- A run by value with the message of what it leaves is the run of `OwnBench` with that of its last memory.
 use mathlib.Core.Path.{◌≡◌, refl, sym, ap, subst, ◌∙◌}
-use mathlib.Core.Bool.{Bool, true}
+use mathlib.Core.Bool.{Bool}
 use mathlib.Core.List.{List, map}
 use Prim.Native.Nat.{ℕ}
 use native.Mathlib.Omega.{arith}
@@ -29,7 +29,7 @@ use Rattle.text_runs.specs.declared.returned.TextRun.{TextRun}
 use Rattle.text_runs.specs.Returned.{told}
 use Rattle.text_model.specs.TextRun as bench
 use Rattle.text_model.specs.TextRun.{run_with}
-use Rattle.text_machine.specs.Finished.{TextRan, memory_of}
+use Rattle.text_machine.specs.Finished.{TextRan}
 use Rattle.besklaun.specs.declared.texts.TextStop.{TextStop}
 use Rattle.besklaun.specs.declared.explained.Told.{Told}
 use Rattle.besklaun.specs.OwnBench.{all_words, own_memory}
@@ -61,11 +61,8 @@ module _ (t : Bool) (held : Held) (text bytes : List ℕ) (r : Finished Held) (w
         ap (λ (f : Figure). record { figure = f; calls = left.calls }) figure
         ∙ ap (λ (cs : List (Option Call)). record { figure = Two; calls = cs }) (calls ∙ ap (map call_of) records_are)
 
-    -- what the run is told by, as far as a message needs it
-    abbrev end : Ended
-    end = record { outcome = r.outcome; entries = r.entries; report = r.report; left = left; text = text }
-
-    module _ {run : TextRun} {stop : TextStop} (is : run ≡ told r) (stop_is : stop ≡ stop_of r.report) where
+    module _ {run : TextRun} {stop : TextStop} (is : run ≡ told r) (stop_is : stop ≡ stop_of r.report)
+        (end : Ended) (outcome : end.outcome ≡ r.outcome) (report : end.report ≡ r.report) (held_is : end.left ≡ left) where
       pub explained_alone : {room room' : List ℕ} (x : Told) → Message end room x room'
           → Explained t text bytes room (record { run = run; stop = stop; told = x.count; whole = x.whole }) after room'
       explained_alone x m = record {
@@ -73,6 +70,6 @@ module _ (t : Bool) (held : Held) (text bytes : List ℕ) (r : Finished Held) (w
         told = m.told;
         front = m.front;
         ended = λ z whole.
-            let ok : IsOk r.outcome = ended_well r.outcome (sym (ap (λ (u : TextRun). u.number) is) ∙ z) in
-            m.ended ok whole ∙ ap (λ (l : Left). still_open l r.report) left_is;
+            let ok : IsOk end.outcome = subst IsOk (sym outcome) (ended_well r.outcome (sym (ap (λ (u : TextRun). u.number) is) ∙ z)) in
+            m.ended ok whole ∙ ap (still_open end.left) report ∙ ap (λ (l : Left). still_open l r.report) (held_is ∙ left_is);
       }

@@ -4,7 +4,6 @@ use mathlib.Core.List.{List}
 use Prim.Native.Nat.{ℕ}
 use Rattle.llsc.specs.Refusals.{number_told}
 use Rattle.text_runs.specs.declared.runs.Finished.{Finished}
-use Rattle.station.specs.Station.{StationMemory}
 use Rattle.held_model.specs.Memory.{laid_out}
 use Rattle.held_texts.specs.declared.running.Left.{Left}
 use Rattle.held_texts.specs.HeldRuns.{RanFirst}

@@ -1,5 +1,5 @@
 -- `besklaun::moir_texts::own_run`: what is seen of the run by value is what is seen of `text_runs`' own.
-use mathlib.Core.Path.{◌≡◌, refl, ap}
+use mathlib.Core.Path.{ap}
 use mathlib.Core.List.{List}
 use Prim.Native.Nat.{ℕ}
 use Rattle.text_runs.specs.declared.returned.TextRun.{TextRun}
