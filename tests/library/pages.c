@@ -105,7 +105,7 @@ static uint8_t *bytes(int room, size_t count)
 static size_t more;
 
 /* how many calls were not refused, of each group */
-enum { HELD, PLACES, MOIR, LOG, VIEW, TEXT, SEASON, TURNS, BOARD, GROUPS };
+enum { HELD, PLACES, FILES, FIRST, MOIR, LOG, VIEW, TEXT, EXPLAINED, SEASON, TURNS, BOARD, GROUPS };
 static long accepted[GROUPS];
 
 static void counts(int group, unsigned refusal)
@@ -274,10 +274,12 @@ static uint8_t *board(int room, size_t count, size_t process)
     size_t records = below((count - 12) / 12 + 1), start = count - 12 - 12 * records, tick = 0;
     for (size_t k = 0; k < records; k++) {
         uint8_t *at = list + start + 12 * k;
+        uint8_t order = (uint8_t)(drawn() % 2 ? 1 : below(4));
         four(at, tick += below(3));
-        four(at + 4, (size_t)number());
+        /* an SC's value; of another record a right one is 0 */
+        four(at + 4, order == 2 || drawn() % 16 == 0 ? (size_t)number() : 0);
         at[8] = (uint8_t)(process + below(2));
-        at[9] = (uint8_t)below(4);
+        at[9] = order;
         at[10] = at[11] = 0;
     }
     four(list + count - 12, start);
@@ -287,6 +289,25 @@ static uint8_t *board(int room, size_t count, size_t process)
         list[below(count)] = (uint8_t)drawn();
     }
     return list;
+}
+
+/* a schedule text, and a board's file, on a held list */
+static void held_files(void)
+{
+    size_t n = size(16), w = size(drawn() % 2 ? 64 : 2);
+    size_t count = cut(n <= 16 && w <= 64 ? BESKLAUN_HELD_COUNT(n, w, 1) : below(2000)), value_count = w <= 64 ? w : 64;
+    size_t file_count = few(200), text_count = few(60);
+    uint64_t *list = numbers(0, count), *value = numbers(1, value_count);
+    doing = "besklaun_held_set_up for a file";
+    counts(HELD, besklaun_held_set_up(list, told(count), n, w, 1, value, told(value_count)));
+    uint8_t *file = board(1, file_count, 0), *schedule = text(2, text_count);
+    doing = "besklaun_held_run_board";
+    counts(FILES, besklaun_held_run_board(list, told(count), file, told(file_count)).done == 0);
+    spoiled(list, count, BESKLAUN_HELD_WORDS(1));
+    doing = "besklaun_held_run_board of garbage";
+    counts(FILES, besklaun_held_run_board(list, told(count), file, told(file_count)).done == 0);
+    doing = "besklaun_held_text";
+    counts(FIRST, besklaun_held_text(list, told(count), schedule, told(text_count), drawn() % 4 ? below(40) : (size_t)number()).entries == 0);
 }
 
 static void text_calls(void)
@@ -305,6 +326,26 @@ static void text_calls(void)
     counts(TEXT, besklaun_moir_run_text(schedule, told(count), out, told(room)).entries == 0);
     doing = "besklaun_moir_trace_text";
     counts(TEXT, besklaun_moir_trace_text(schedule, told(count), out, told(room)).entries == 0);
+    doing = "besklaun_moir_run_text_with_report";
+    counts(TEXT, besklaun_moir_run_text_with_report(schedule, told(count), out, told(room)).run.entries == 0);
+    doing = "besklaun_moir_trace_text_with_report";
+    counts(TEXT, besklaun_moir_trace_text_with_report(schedule, told(count), out, told(room)).run.entries == 0);
+}
+
+/* what a run says goes to a second room, and the marks of its trace go there, too */
+static void told_text_calls(void)
+{
+    size_t count = few(60), room = drawn() % 2 ? few(4000) : few(12), second_room = drawn() % 2 ? few(4000) : few(12);
+    uint8_t *schedule = text(0, count), *out = bytes(1, room), *second = bytes(2, second_room);
+    doing = "besklaun_explain_text";
+    counts(EXPLAINED, besklaun_explain_text(schedule, told(count), out, told(room), second, told(second_room)).run.entries == 0);
+    doing = "besklaun_explain_trace";
+    struct besklaun_explained_run traced = besklaun_explain_trace(schedule, told(count), out, told(room), second, told(second_room));
+    counts(EXPLAINED, traced.run.entries == 0);
+    size_t written = drawn() % 2 ? traced.run.written : below(room + 1);
+    memmove(out + room - written, out, written);
+    doing = "besklaun_mark_trace";
+    counts(EXPLAINED, besklaun_mark_trace(out + room - written, told(written), second, told(second_room)) == 0);
 }
 
 static void season_calls(void)
@@ -364,8 +405,8 @@ static void touched(int signal)
 
 int main(int argc, char **argv)
 {
-    static void (*const all[])(void) = {held_calls, moir_calls, garbage_lists, judge_calls, text_calls,
-                                        season_calls, turn_calls, board_calls};
+    static void (*const all[])(void) = {held_calls, held_files, moir_calls, garbage_lists, judge_calls, text_calls,
+                                        told_text_calls, season_calls, turn_calls, board_calls};
     more = argc == 2 && strcmp(argv[1], "wrong") == 0;
     map_rooms();
     signal(SIGSEGV, touched);
