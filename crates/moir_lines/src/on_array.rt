@@ -1,23 +1,21 @@
 // The lines of Figure 6 that touch the array A.
 ghost use Rattle.std.specs.Prelude.{◌≡◌, ◌<◌};
 ghost use Rattle.moir_model.specs.Lines.{do_line4, do_line17};
-ghost use Rattle.moir_lines.specs.Copies.{copy_line, copy_header};
 ghost use Rattle.moir_lines.specs.Ranges.{Moving};
 
-use crate::copies::CopyOf;
 use crate::{points, records};
 use llsc::ProcessNumber;
 use moir_model::{Header, Process, Segment};
 
 // Line 4: a word of A is read into z.
-pub fn do_line_4(copy: CopyOf, word: u64, process: Process) -> Process
+pub fn do_line_4(line: u8, hdr: Header, word: u64, process: Process) -> Process
     requires { process.count < 4294967296 }
-    ensures { result ≡ do_line4 (copy_line copy 5) (copy_header copy process) word process }
+    ensures { result ≡ do_line4 line hdr word process }
 {
-    let tag = copy.header(process).tag;
+    let tag = hdr.tag;
     Process {
         z: Segment { tag, val: word },
-        ..records::to(copy.line(5), process)
+        ..records::to(line, process)
     }
 }
 

@@ -1,23 +1,21 @@
-// The lines of Figure 6 that touch a segment.
+// The lines of Figure 6 that touch a segment. `hdr` is the header that Copy was called with.
 ghost use Rattle.std.specs.Prelude.{◌≡◌, ◌<◌};
 ghost use Rattle.moir_model.specs.Lines.{do_line2, do_line5, do_line6};
-ghost use Rattle.moir_lines.specs.Copies.{copy_line, copy_header};
 
 use crate::compare_and_swap::cas;
-use crate::copies::CopyOf;
 use crate::records;
-use moir_model::{Process, Segment};
+use moir_model::{Header, Process, Segment};
 
-// Lines 2 and 3: the segment is read. If its tag is the one before, line 4 follows, else line 7.
-pub fn do_line_2(copy: CopyOf, segment: Segment, process: Process) -> Process
+// Lines 2 and 3: the segment is read. If its tag is the one before, `line4` follows, else `line7`.
+pub fn do_line_2(line4: u8, line7: u8, hdr: Header, segment: Segment, process: Process) -> Process
     requires { process.count < 4294967296 }
-    ensures { result ≡ do_line2 (copy_line copy 4) (copy_line copy 7) (copy_header copy process) segment process }
+    ensures { result ≡ do_line2 line4 line7 hdr segment process }
 {
-    let previous = copy.header(process).tag.wrapping_sub(1);
+    let previous = hdr.tag.wrapping_sub(1);
     let line = if segment.tag == previous {
-        copy.line(4)
+        line4
     } else {
-        copy.line(7)
+        line7
     };
     Process {
         y: segment,
@@ -33,12 +31,12 @@ pub fn do_line_5(segment: Segment, process: Process) -> Segment
 }
 
 // Line 6: the segment is read again.
-pub fn do_line_6(copy: CopyOf, segment: Segment, process: Process) -> Process
+pub fn do_line_6(line: u8, segment: Segment, process: Process) -> Process
     requires { process.count < 4294967296 }
-    ensures { result ≡ do_line6 (copy_line copy 7) segment process }
+    ensures { result ≡ do_line6 line segment process }
 {
     Process {
         y: segment,
-        ..records::to(copy.line(7), process)
+        ..records::to(line, process)
     }
 }
