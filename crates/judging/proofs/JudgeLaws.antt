@@ -7,7 +7,7 @@ use lib.Dec.{eqb}
 use Rattle.std.specs.Prelude.{Option, Some, None, Ok, Err}
 use Rattle.std.specs.Option.{is_some}
 use Rattle.llsc.specs.Object.{fresh}
-use Rattle.llsc.specs.Rows.{every}
+use Rattle.llsc.specs.Rows.{every, some}
 use Rattle.llsc.specs.declared.refusals.Refusal.{Refusal}
 use Rattle.verdicts.specs.declared.Verdict.TheVariants.{Refused, Yes, No}
 use Rattle.verdicts.specs.declared.Fault.{Fault}
@@ -15,9 +15,9 @@ use Rattle.verdicts.specs.declared.LogRefusal.{LogRefusal}
 use Rattle.verdicts.specs.Log.{Entry, entries}
 use Rattle.verdicts.specs.Verdicts.{each_two, kind_known, apart, differ, inside, served_alike, ll_before, earns_yes, said_of, judged}
 use Rattle.verdicts.specs.Reasons.{cause_of, log_refused, two_at_fault, not_alike, in_value, numbered_in_order}
-use Rattle.verdicts.proofs.ReasonLaws.{across, and_true, none, one_none, two_none, served_none, cause_told, checked_is}
+use Rattle.verdicts.proofs.ReasonLaws.{across, and_true, some_not, none, one_none, two_none, served_none, cause_told, checked_is}
 use Rattle.judging.specs.declared.heads.Head.{Head}
-use Rattle.judging.specs.Heads.{head, first_from, first_unled}
+use Rattle.judging.specs.Heads.{head, first_from, lacks_ll, first_unled}
 use Rattle.judging.proofs.CallLoops.{from_0, twice}
 use Rattle.judging.specs.Heads.{known as Heads·known, inside as Heads·inside, apart as Heads·apart}
 
@@ -50,20 +50,49 @@ wrong e = not (Heads·known e && Heads·inside e)
 abbrev pub clash : Head → Head → Bool
 clash e f = not (Heads·apart e f && not (eqb e.moment f.moment))
 
--- the conditions in the order in which the code looks
-pub in_order : (value : List ℕ) (es : List Entry) → earns_yes value es
-    ≡ (every (λ e. kind_known e && inside e) es && (each_two (λ e f. apart e f && differ e f) es && (every (ll_before es) es && served_alike value es)))
-unfolding earns_yes
-in_order value es =
-    sort_out (every kind_known es) (each_two apart es) (each_two differ es) (every inside es) (served_alike value es) (every (ll_before es) es)
-    ∙ ap₂ (λ x y. x && (y && (every (ll_before es) es && served_alike value es))) (join_every kind_known inside es) (join_two apart differ es)
-
 -- none is found where each passes
 pub first_none : (f : Entry → Bool) (es : List Entry) → none (first_from (λ e. not (f e)) 0 es) ≡ every f es
 first_none f es = ap none (from_0 (λ e. not (f e)) es) ∙ one_none f es
 
--- the same as the code looks for them, for the opposite: a first entry is found where one is at fault
+every_not : (f : Entry → Bool) (es : List Entry) → every f es ≡ not (some (λ e. not (f e)) es)
+every_not f es = twice _ _ refl ∙ ap not (sym (some_not f es))
+
 module _ (value : List ℕ) (es : List Entry) where
+  abbrev each_right : Bool
+  each_right = every (λ e. kind_known e && inside e) es
+
+  abbrev each_two_right : Bool
+  each_two_right = each_two (λ e f. apart e f && differ e f) es
+
+  abbrev each_led : Bool
+  each_led = every (ll_before es) es
+
+  abbrev some_wrong : Bool
+  some_wrong = some (λ e. wrong (head e)) es
+
+  abbrev some_clash : Bool
+  some_clash = not each_two_right
+
+  abbrev some_unled : Bool
+  some_unled = some (λ e. lacks_ll es (head e)) es
+
+  -- the conditions in the order in which the code looks, and for the opposite
+  pub earns_is : earns_yes value es ≡ (not some_wrong && (not some_clash && (not some_unled && served_alike value es)))
+  unfolding earns_yes
+  earns_is =
+      sort_out (every kind_known es) (each_two apart es) (each_two differ es) (every inside es) (served_alike value es) each_led
+      ∙ ap₂ (λ x y. x && (y && (each_led && served_alike value es)))
+      (join_every kind_known inside es ∙ every_not (λ e. kind_known e && inside e) es) (join_two apart differ es ∙ twice _ _ refl)
+      ∙ ap (λ x. not some_wrong && (not some_clash && (x && served_alike value es))) (every_not (ll_before es) es)
+
+  -- the same by what the four tests of the code answer, that nothing of the kind is there
+  pub in_order : earns_yes value es ≡ (each_right && (each_two_right && (each_led && served_alike value es)))
+  in_order =
+      earns_is
+      ∙ ap₂ (λ x y. x && (y && (not some_unled && served_alike value es))) (sym (every_not (λ e. kind_known e && inside e) es)) (sym (twice _ _ refl))
+      ∙ ap (λ x. each_right && (each_two_right && (x && served_alike value es))) (sym (every_not (ll_before es) es))
+
+  -- and by what is looked for: none is found first
   abbrev first_wrong : Option ℕ
   first_wrong = first_from (λ e. wrong (head e)) 0 es
 
@@ -73,10 +102,10 @@ module _ (value : List ℕ) (es : List Entry) where
   abbrev first_unlike : Option Fault
   first_unlike = not_alike (fresh value) in_value (numbered_in_order es)
 
-  pub earns_is : earns_yes value es ≡ (none first_wrong && (none first_clash && (none (first_unled es) && none first_unlike)))
-  earns_is =
-      in_order value es
-      ∙ ap₂ (λ x y. x && (y && (every (ll_before es) es && served_alike value es)))
+  pub earns_none : earns_yes value es ≡ (none first_wrong && (none first_clash && (none (first_unled es) && none first_unlike)))
+  earns_none =
+      in_order
+      ∙ ap₂ (λ x y. x && (y && (each_led && served_alike value es)))
       (sym (first_none (λ e. kind_known e && inside e) es)) (sym (two_none (λ e f. apart e f && differ e f) 0 es))
       ∙ ap₂ (λ x y. none first_wrong && (none first_clash && (x && y))) (sym (first_none (ll_before es) es)) (sym (served_none value es))
 
