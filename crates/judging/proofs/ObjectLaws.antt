@@ -13,15 +13,16 @@ use borrow.Author.Tests.{eq-eqb, ne_eqb, leb-false}
 use Rattle.std.specs.Prelude.{Option, Some}
 use Rattle.llsc.specs.Answers.{ll_words, sc_truth, vl_truth}
 use Rattle.llsc.specs.Object.{ll, sc, vl, Object, fresh, set_at, tell, feed}
-use Rattle.verdicts.specs.Log.{Entry}
+use Rattle.verdicts.specs.Log.{Entry, entries}
 use Rattle.verdicts.specs.declared.Fault.{Fault}
 use Rattle.verdicts.specs.declared.Fault.TheVariants.{Answer}
 use Rattle.verdicts.specs.Verdicts.{same_words, answers_alike}
-use Rattle.verdicts.specs.Reasons.{feed_entry, Standing, standing_after, in_value}
+use Rattle.verdicts.specs.Reasons.{feed_entry, Standing, standing_after, in_value, not_alike, numbered_in_order}
 use Rattle.judging.specs.declared.heads.Head.{Head}
 use Rattle.judging.specs.declared.object.Held.{Held}
+use Rattle.judging.specs.declared.order.Order.{Order}
 use Rattle.judging.specs.Heads.{head, entry_at}
-use Rattle.judging.specs.Orders.{count, numbered_at, Fits}
+use Rattle.judging.specs.Orders.{count, numbered_at, calls_of, Fits, SortedBy}
 use Rattle.judging.specs.Objects.{words_held, object_of, Sane, told_alike, MovedOn, shown_at, not_alike_at}
 use Rattle.judging.proofs.CallLoops.{none_of}
 
@@ -116,3 +117,8 @@ module _ (w : ℕ) (log : List ℕ) where
               ∙ ap₂ (λ o s. not_alike_at w log o s (drop (suc i) cs)) (m.moves value) (m.stands value)
               ∙ sym (ap (λ b. cond b more (Some (Answer k (shown_at w log k held)))) e) ∙ first_call;
         }
+
+-- the calls of the order, served, are the calls in moment order, served
+pub served_sorted : (w : ℕ) (log value : List ℕ) (o : Order) → SortedBy w log o
+    → (r : Option Fault) → r ≡ not_alike_at w log (fresh value) in_value (calls_of o) → r ≡ not_alike (fresh value) in_value (numbered_in_order (entries w log))
+served_sorted w log value o s r e = e ∙ ap (not_alike (fresh value) in_value) s.order

@@ -33,6 +33,7 @@ pub record MovedOn (w : ℕ) (log : List ℕ) (k : ℕ) (h r : Held) : Type 0 wh
 abbrev pub shown_at : ℕ → List ℕ → ℕ → Held → Shown
 shown_at w log k h = cond (eqb (entry_at w log k).kind 1) (words_shown h.from) (Truth (get_or h.links (entry_at w log k).process false))
 
--- the first of the calls of these indices that the object, begun as o, does not answer alike
+-- "Figure 1's object .. answers each call alike": the first of the calls of these indices, in their order, that the object,
+-- begun as o, does not
 abbrev pub not_alike_at : ℕ → List ℕ → Object → Standing → List ℕ → Option Fault
 not_alike_at w log o s ks = not_alike o s (map (numbered_at w log) ks)

@@ -3,8 +3,8 @@ ghost use Rattle.std.specs.Prelude.{◌≡◌, ◌≤◌, ◌<◌, length, None}
 ghost use Rattle.llsc.specs.Object.{fresh};
 ghost use Rattle.verdicts.specs.Reasons.{not_alike, in_value, numbered_in_order};
 ghost use Rattle.verdicts.specs.Log.{entries};
-ghost use Rattle.judging.specs.Orders.{count, calls_of, SortedBy};
-ghost use Rattle.judging.specs.Objects.{words_held, Sane, told_alike, MovedOn, shown_at};
+ghost use Rattle.judging.specs.Orders.{count, calls_of, Within, SortedBy};
+ghost use Rattle.judging.specs.Objects.{words_held, Sane, told_alike, MovedOn, shown_at, not_alike_at};
 
 use crate::calls::{Admitted, Calls};
 use crate::heads;
@@ -75,12 +75,15 @@ fn shown(admitted: &Admitted, held: &Held, k: usize) -> Shown
     }
 }
 
-// The first call, in the order of the moments, that the object, begun with the value, does not answer alike.
-#[tactic(auto, using(crate::proofs::ObjectLaws::serve_go))]
+// The first call, in the order given, that the object, begun with the value, does not answer alike.
+#[tactic(auto, using(crate::proofs::ObjectLaws::serve_go, crate::proofs::ObjectLaws::served_sorted))]
 pub fn first_unlike<'a>(admitted: &Admitted<'a>, value: &'a [u64], order: &Order) -> Option<Fault>
-    requires { SortedBy admitted.now.calls.w admitted.now.calls.log.now order.now }
-    ensures { let es = entries admitted.now.calls.w admitted.now.calls.log.now in
-        result ≡ not_alike (fresh value.now) in_value (numbered_in_order es) }
+    requires few { order.now.count ≤ 512 }
+    requires within { Within admitted.now.calls.w admitted.now.calls.log.now order.now }
+    ensures given { let calls = admitted.now.calls in
+        result ≡ not_alike_at calls.w calls.log.now (fresh value.now) in_value (calls_of order.now) }
+    ensures sorted { let calls = admitted.now.calls in SortedBy calls.w calls.log.now order.now
+        → result ≡ not_alike (fresh value.now) in_value (numbered_in_order (entries calls.w calls.log.now)) }
 {
     let mut held = Held {
         links: [false; 16],
