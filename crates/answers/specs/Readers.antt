@@ -151,7 +151,7 @@ abbrev pub GivesListing : Result (List Sum) Text → Result (List Sum) (List ℕ
 GivesListing (Ok l) a = a ≡ Ok l
 GivesListing (Err r) a = a ≡ Err r.now
 
--- the place of the first wrong byte in all bytes
+-- the place of the first wrong byte in all bytes, and that the bytes from there on are the rest
 abbrev pub GivesReading : List ℕ → Result (List Sum) ℕ → Result (List Sum) (List ℕ) → Type 0
 GivesReading bs (Ok l) a = a ≡ Ok l
-GivesReading bs (Err at) a = IsErrAnd a (λ rest. at ≡ length bs - length rest)
+GivesReading bs (Err at) a = IsErrAnd a (λ rest. (rest ≡ drop at bs) × (at ≡ length bs - length rest))

@@ -43,7 +43,7 @@ fn read_lines(n: u64, w: u64, each: [Sum; 16], text: &[u8]) -> Result<[Sum; 16],
 }
 
 // A listing on top of the sums of the processes, or the place of its first wrong byte.
-#[tactic(auto, using(crate::proofs::RestLaws::listing_left))]
+#[tactic(auto, using(crate::proofs::RestLaws::listing_left, crate::proofs::RestLaws::listing_ends))]
 pub fn read_listing(n: u64, w: u64, each: [Sum; 16], text: &[u8]) -> Result<[Sum; 16], usize>
     requires { Readable n each text.now }
     ensures { GivesReading text.now result (listing_in n w each text.now) }

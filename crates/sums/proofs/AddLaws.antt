@@ -9,7 +9,7 @@ use Rattle.std.specs.Prelude.{Option, Some, None, Result, Ok, Err}
 use Rattle.std.specs.Option.{unwrap_or}
 use Rattle.std.specs.Result.{is_ok, result_err, result_unwrap_or, IsErrAnd}
 use Rattle.std.proofs.lemmas.Result.{err_from_is_err_and}
-use lib.ListN.{length}
+use lib.ListN.{length, drop}
 use Rattle.llsc.specs.declared.refusals.Refusal.{Refusal}
 use Rattle.llsc.specs.Refusals.{refusal_number}
 use Rattle.answers.specs.declared.Sum.{Sum}
@@ -83,11 +83,11 @@ module _ (s : Sums) (bs : List ℕ) where
           simp (le-leb (length bs) longest_listing k)
           (ap (λ (o : Option (List ℕ)). length bs - length (unwrap_or o [])) (sym (same_rest s.n s.w [] s.each bs ∙ ap result_err e)))
 
-      pub wrong : {at : ℕ} → IsErrAnd read (λ rest. at ≡ length bs - length rest) → not_taken 18 (Some at) ≡ added s bs
+      pub wrong : {at : ℕ} → IsErrAnd read (λ rest. (rest ≡ drop at bs) × (at ≡ length bs - length rest)) → not_taken 18 (Some at) ≡ added s bs
       unfolding add_refusal
       wrong {at} e =
           let p = err_from_is_err_and read e in
-          as_refused s bs 18 (Some at) (simp (z, lt-ltb s.taken most_listings h, right_of (ap is_ok p.1))) refl (ap Some (p.2 ∙ broken p.1))
+          as_refused s bs 18 (Some at) (simp (z, lt-ltb s.taken most_listings h, right_of (ap is_ok p.1))) refl (ap Some (p.2.1 ∙ broken p.1))
 
       pub right : {each : List Sum} → read ≡ Ok each → Ok (record { n = s.n; w = s.w; taken = s.taken + 1; each = each }) ≡ added s bs
       unfolding add_refusal taking
