@@ -62,8 +62,15 @@ module _ (v d : ℕ) (rest : List ℕ) (h : d ≤ 9) where
   unfolding digits_after
   digit_on z k = simp (the_digit d h, ne_eqb v 0 z, back d, le-leb (v * 10 + d) largest k)
 
+  -- by what the digits make with d: below 10 only behind a zero
+  pub below_ten : v * 10 + d < 10 → digits_after v ((48 + d) ∷ rest) ≡ Err ((48 + d) ∷ rest)
+  below_ten k = after_zero (omega arith)
+
+  pub from_ten : 10 ≤ v * 10 + d → v * 10 + d ≤ largest → digits_after v ((48 + d) ∷ rest) ≡ digits_after (v * 10 + d) rest
+  from_ten l k = digit_on (λ z. omega arith) k
+
 -- what is read of a text by its first byte
-pub ruleset reading_digits = (digits_end, after_zero, too_large, digit_on)
+pub ruleset reading_digits = (digits_end, below_ten, too_large, from_ten)
 
 pub after_space : (c : ℕ) (rest : List ℕ) → c ≡ space → spaced_number (c ∷ rest) ≡ number_in rest
 unfolding spaced_number expected

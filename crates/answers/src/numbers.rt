@@ -31,16 +31,18 @@ fn digits_after(value: u64, text: &[u8]) -> Read<'_, u64>
     requires { value ≤ largest }
     ensures { GivesNumber result (digits_after value text.now) }
 {
-    match digit(text) {
-        None => Ok((value, text)),
-        Some((digit, rest)) => {
-            if value == 0 || LARGEST < value * 10 + digit {
-                Err(text)
-            } else {
-                digits_after(value * 10 + digit, rest)
-            }
+    let mut so_far = value;
+    let mut rest = text;
+    while let Some((digit, more)) = digit(rest) {
+        let longer = so_far * 10 + digit;
+        // Kept: one test for both: behind a zero alone a digit makes less than 10.
+        if longer < 10 || LARGEST < longer {
+            return Err(rest);
         }
+        so_far = longer;
+        rest = more;
     }
+    Ok((so_far, rest))
 }
 
 // A number.
