@@ -1,4 +1,5 @@
 mod Appending
 pub mod CallLaws
 mod LineLaws
+mod PieceLaws
 pub mod Points

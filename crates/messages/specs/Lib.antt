@@ -1,3 +1,4 @@
 pub mod OpenCalls
 pub mod OpenLines
+pub mod Pieces
 pub mod Shown

@@ -1,5 +1,9 @@
 // A message in pieces: what stands in it one after another. A function that chooses among messages chooses by value among
 // their pieces, and one loop writes them: each choice that writes by itself would be proved for any writer.
+ghost use Rattle.std.specs.Prelude.{OnOk};
+ghost use Rattle.std.specs.Io.KnownBytes.{Appends};
+ghost use Rattle.messages.specs.Pieces.{piece_text, pieces_text};
+
 use crate::calls::Told;
 use llsc::refusals::Refusal;
 use saying::{Named, Place};
@@ -38,14 +42,19 @@ pub(crate) fn position<'a>(refusal: Refusal, place: Place) -> [Piece<'a>; 12] {
     pieces
 }
 
-pub(crate) fn say(to: &mut impl Write, pieces: &[Piece]) -> io::Result<()> {
+#[tactic(auto, using(crate::proofs::PieceLaws::piece_laws))]
+pub(crate) fn say<W: Write>(to: &mut W, pieces: &[Piece]) -> io::Result<()>
+    ensures { OnOk result (Appends (W.contents to.old) (W.contents to.new) (pieces_text pieces.now)) }
+{
     for piece in pieces {
         show(to, *piece)?;
     }
     Ok(())
 }
 
-fn show(to: &mut impl Write, piece: Piece) -> io::Result<()> {
+fn show<W: Write>(to: &mut W, piece: Piece) -> io::Result<()>
+    ensures { OnOk result (Appends (W.contents to.old) (W.contents to.new) (piece_text piece.entry)) }
+{
     match piece {
         Piece::Text(bytes) => to.write_all(bytes),
         Piece::Number(n) => console::print_decimal(to, n),
