@@ -10,9 +10,9 @@ use saying::{Named, Place};
 // The bytes with which some editors begin a text.
 const ORDER_MARK: [u8; 3] = [0xEF, 0xBB, 0xBF];
 
-// Why the text is refused at a place of it.
+// Why the text is refused at a place of it, by what was seen before that.
 // Kept: the place beside its text, as a run reports by a number where it stopped; the text is cut there here.
-pub(crate) fn why(refusal: Refusal, text: &[u8], place: usize) -> [Piece<'static>; 6] {
+pub(crate) fn why(refusal: Refusal, text: &[u8], place: usize, seen: Seen) -> [Piece<'static>; 6] {
     match refusal {
         Refusal::TooDeep => {
             let text = b"groups nest at most eight deep, and this ( would open a ninth\n";
@@ -20,19 +20,19 @@ pub(crate) fn why(refusal: Refusal, text: &[u8], place: usize) -> [Piece<'static
         }
         _ => {
             let (before, rest) = text.split_at(saying::within(place, text));
-            broken(before, rest)
+            broken(before, rest, seen)
         }
     }
 }
 
 // The text breaks the notation between these bytes and the rest.
-fn broken(before: &[u8], rest: &[u8]) -> [Piece<'static>; 6] {
+fn broken(before: &[u8], rest: &[u8], seen: Seen) -> [Piece<'static>; 6] {
     if is_order_mark(rest) {
         let text = b"the text begins with a byte order mark; save it as plain text, without one\n";
         return [Piece::Text(text), NONE, NONE, NONE, NONE, NONE];
     }
     let here = rest.first().copied();
-    let expected = Piece::Text(expected(positions::look(before), here).as_bytes());
+    let expected = Piece::Text(expected(seen, here).as_bytes());
     match here {
         Some(here) => [
             expected,
