@@ -3,15 +3,16 @@
 
 #![tactic(auto)]
 
-use std::alloc::AllocError;
+ghost use Rattle.std.specs.Prelude.{◌≡◌, length, IfOk};
+
+use std::alloc::{AllocError, Global};
 use std::process::ExitCode;
 
 fn main(rt: HostRuntime) -> Result<ExitCode, AllocError> {
     let mut text = [0; 16385];
     let got = console::read_full(&mut rt.stdin(), &mut text);
     let given = &text[..got];
-    // room for the trace of 60,000 entries
-    let mut list = vec![in rt.alloc(); 0; 3145728]?;
+    let mut list = room(rt.alloc())?;
     let out = moir_text_machine::texts::run_text(given, true, &mut list);
     let left = moir_messages::left(out.held);
     let ended = messages::Ended {
@@ -28,4 +29,11 @@ fn main(rt: HostRuntime) -> Result<ExitCode, AllocError> {
         ended,
     );
     Ok(status)
+}
+
+// Room for the trace of 60,000 entries.
+fn room(alloc: Global) -> Result<Vec<u8>, AllocError>
+    ensures { IfOk result (λ room. 3145728 ≡ length room.items) }
+{
+    vec![in alloc; 0; 3145728]
 }

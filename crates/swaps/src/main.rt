@@ -4,7 +4,9 @@
 
 #![tactic(auto)]
 
-use std::alloc::AllocError;
+ghost use Rattle.std.specs.Prelude.{◌≡◌, length, IfOk};
+
+use std::alloc::{AllocError, Global};
 use std::process::ExitCode;
 use text_entry::state::Held;
 
@@ -12,10 +14,8 @@ fn main(rt: HostRuntime) -> Result<ExitCode, AllocError> {
     let mut text = [0; 16385];
     let got = console::read_full(&mut rt.stdin(), &mut text);
     let given = &text[..got];
-    // room for the trace of 60,000 entries
-    let mut list = vec![in rt.alloc(); 0; 3145728]?;
-    // room for it with two columns before each line
-    let mut marked = vec![in rt.alloc(); 0; 3265730]?;
+    let mut list = room(rt.alloc())?;
+    let mut marked = marked_room(rt.alloc())?;
     let mut words = [0; 5120];
     let held = Held::empty();
     let out = text_machine::text_run::run_by_value(held, 16, true, &mut words, given, &mut list);
@@ -36,4 +36,18 @@ fn main(rt: HostRuntime) -> Result<ExitCode, AllocError> {
         ended,
     );
     Ok(status)
+}
+
+// Room for the trace of 60,000 entries.
+fn room(alloc: Global) -> Result<Vec<u8>, AllocError>
+    ensures { IfOk result (λ room. 3145728 ≡ length room.items) }
+{
+    vec![in alloc; 0; 3145728]
+}
+
+// Room for it with two columns before each line.
+fn marked_room(alloc: Global) -> Result<Vec<u8>, AllocError>
+    ensures { IfOk result (λ room. 3265730 ≡ length room.items) }
+{
+    vec![in alloc; 0; 3265730]
 }
