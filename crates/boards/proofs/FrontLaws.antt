@@ -1,24 +1,18 @@
 -- A file's records, cut into their bytes; their tests, as the library makes them.
 use mathlib.Core.Path.{◌≡◌, refl, sym, ap, ap₂, subst, ◌∙◌}
 use mathlib.Core.List.{List, [], ◌∷◌}
-use mathlib.Core.Bool.{Bool, true, false, cond, ◌&&◌}
-use Prim.Native.Nat.{ℕ, zero, suc, ◌+◌, ◌*◌, ◌≤◌, ◌<◌}
+use mathlib.Core.Bool.{Bool, true, false, ◌&&◌}
+use Prim.Native.Nat.{ℕ, zero, suc, ◌+◌, ◌*◌, ◌<◌}
 use native.Mathlib.Omega.{arith}
-use lib.Dec.{eqb, leb, ltb}
+use lib.Dec.{eqb, leb}
 use lib.ListN.{length, get_or, take, drop}
-use native.Mathlib.Numerals.{add-one}
-use borrow.Author.Tests.{le-leb, leb-true, eq-eqb, ltb-false}
+use borrow.Author.Tests.{le-leb}
 use lib.Seq.{get_or-drop}
 use Rattle.std.proofs.lemmas.List.{get_or-take, take-take, drop-take}
 use Rattle.std.specs.Simd.{first_chunks}
 use Rattle.std.specs.List.{IsAllAdjacentAnswer}
-use Rattle.std.specs.Ordering.{is_le, nat_cmp}
-use Rattle.std.proofs.lemmas.Bool.{false≢true}
-use Rattle.std.proofs.lemmas.Map.Keys.{le_from_is_le}
-use Rattle.std.specs.declared.cmp.Ordering.TheVariants.{Less, Equal, Greater}
-use Rattle.laws.proofs.AndLaws.{left, right}
 use Rattle.boards.specs.Files.{BoardRecord, byte_at, number4, record_of, records_of, good_record, good_front, good_fronts, rising}
-use Rattle.boards.specs.Places.{read, all_good}
+use Rattle.boards.specs.Places.{read, all_good, follows}
 
 -- the number at a place is at the front of what is left from there
 pub four_drop : (bs : List ℕ) (at i : ℕ) → number4 (drop at bs) i ≡ number4 bs (at + i)
@@ -73,44 +67,47 @@ chunks_taken (suc k) bs =
     let e : suc k * 12 ≡ 12 + k * 12 = omega arith in
     rw (e, take-take 12 (12 + k * 12) bs (omega arith), drop-take 12 (k * 12) bs) (ap (take 12 bs ∷◌) (chunks_taken k (drop 12 bs)))
 
--- ticks that the library finds sorted never fall
-abbrev ticks : (k : ℕ) → List (List ℕ) → List ℕ → ℕ
-ticks k rs d = (record_of (get_or rs k d)).tick
+-- what the library finds of each two neighbours: the records after the first are good, and their ticks never fall
+mixed : (g a c d : Bool) → ((g && a) && (c && d)) ≡ ((g && c) && (a && d))
+mixed true a true d = refl
+mixed true true false d = refl
+mixed true false false d = refl
+mixed false a c d = refl
 
-rising_if : (t : ℕ) (rs : List (List ℕ)) → ((d : List ℕ) → 0 < length rs → t ≤ ticks 0 rs d)
-    → ((k : ℕ) (d : List ℕ) → suc k < length rs → ticks k rs d ≤ ticks (suc k) rs d) → rising t (read rs) ≡ true
+and_no : (a : Bool) {b : Bool} → false ≡ b → false ≡ (a && b)
+and_no true e = e
+and_no false e = refl
+
+module _ (r s : List ℕ) (rs : List (List ℕ)) where
+  -- the neighbours of the rest
+  next : (t : Bool) (k : ℕ) (d : List ℕ) → t ≡ follows (get_or (r ∷ s ∷ rs) (suc k) d) (get_or (r ∷ s ∷ rs) (suc k + 1) d)
+      → t ≡ follows (get_or (s ∷ rs) k d) (get_or (s ∷ rs) (k + 1) d)
+  next t k d = subst (λ (j : ℕ). t ≡ follows (get_or (s ∷ rs) k d) (get_or (r ∷ s ∷ rs) j d)) (let e : suc k + 1 ≡ suc (k + 1) = omega arith in e)
+
+  module _ (later : Bool) (rest : (t : Bool) → IsAllAdjacentAnswer (λ x y b. b ≡ follows x y) (s ∷ rs) t → t ≡ later) where
+    fault : (k : ℕ) → k + 1 < suc (suc (length rs)) → ((d : List ℕ) → false ≡ follows (get_or (r ∷ s ∷ rs) k d) (get_or (r ∷ s ∷ rs) (k + 1) d))
+        → false ≡ (follows r s && later)
+    fault zero l h = ap (λ (b : Bool). b && later) (h [])
+    fault (suc k) l h = and_no (follows r s) (rest false (k, omega (arith, l), λ d. next false k d (h d)))
+
+    both : (t : Bool) → IsAllAdjacentAnswer (λ x y b. b ≡ follows x y) (r ∷ s ∷ rs) t → t ≡ (follows r s && later)
+    both true h = ap₂ ◌&&◌ (h 0 [] (omega arith)) (rest true (λ k d l. next true k d (h (suc k) d (omega (arith, l)))))
+    both false h = fault h.0 h.1 h.2
+
+after_first : (r : List ℕ) (rs : List (List ℕ)) (t : Bool) → IsAllAdjacentAnswer (λ x y b. b ≡ follows x y) (r ∷ rs) t
+    → t ≡ (all_good rs && rising (record_of r).tick (read rs))
 unfolding rising
-rising_if t [] f h = refl
-rising_if t (r ∷ rs) f h =
-    ap₂ ◌&&◌ (le-leb t (record_of r).tick (f [] (omega arith)))
-    (rising_if (record_of r).tick rs (λ d l. h 0 d (omega (arith, l))) (λ k d l. h (suc k) d (omega (arith, l))))
+after_first r [] true h = refl
+after_first r [] false h = absurd (omega (arith, h.1))
+after_first r (s ∷ rs) t h =
+    both r s rs (all_good rs && rising (record_of s).tick (read rs)) (λ u m. after_first s rs u m) t h
+    ∙ sym (mixed (good_front s) (all_good rs) (leb (record_of r).tick (record_of s).tick) (rising (record_of s).tick (read rs)))
 
-each_rises : (t : ℕ) (rs : List (List ℕ)) → rising t (read rs) ≡ true → (k : ℕ) (d : List ℕ) → suc k < length rs → ticks k rs d ≤ ticks (suc k) rs d
+pub neighbours : (rs : List (List ℕ)) (t : Bool) → (0 < length rs → good_front (get_or rs 0 []) ≡ true)
+    → IsAllAdjacentAnswer (λ x y b. b ≡ follows x y) rs t → t ≡ (all_good rs && rising 0 (read rs))
 unfolding rising
-each_rises t [] e k d l = absurd (omega (arith, l))
-each_rises t (r ∷ []) e k d l = absurd (omega (arith, l))
-each_rises t (r ∷ s ∷ rs) e zero d l =
-    let more = right (leb t (record_of r).tick) (rising (record_of r).tick (read (s ∷ rs))) e in
-    leb-true (record_of r).tick (record_of s).tick (left (leb (record_of r).tick (record_of s).tick) (rising (record_of s).tick (read rs)) more)
-each_rises t (r ∷ s ∷ rs) e (suc k) d l =
-    each_rises (record_of r).tick (s ∷ rs) (right (leb t (record_of r).tick) (rising (record_of r).tick (read (s ∷ rs))) e) k d (omega (arith, l))
-
-le_if : (a b : ℕ) → a ≤ b → is_le (nat_cmp a b) ≡ true
-le_if a b h = by (ltb a b) refl
-  where
-    by : (t : Bool) → ltb a b ≡ t → is_le (cond t Less (cond (eqb a b) Equal Greater)) ≡ true
-    by true e = refl
-    by false e = rw (eq-eqb a b (let z = ltb-false a b e in omega (arith, z, h))) refl
-
-pub rising_is : (rs : List (List ℕ)) (t : Bool)
-    → IsAllAdjacentAnswer (λ x y b. b ≡ is_le (nat_cmp (record_of x).tick (record_of y).tick)) rs t → t ≡ rising 0 (read rs)
-rising_is rs true h =
-    sym (rising_if 0 rs (λ d l. omega arith)
-    (λ k d l. subst (λ (j : ℕ). ticks k rs d ≤ ticks j rs d) (add-one k) (le_from_is_le _ _ (sym (h k d (omega (arith, l)))))))
-rising_is rs false h = by (rising 0 (read rs)) refl
-  where
-    by : (t : Bool) → rising 0 (read rs) ≡ t → false ≡ t
-    by true e =
-        absurd (false≢true (h.2 [] ∙ le_if _ _
-        (subst (λ (j : ℕ). ticks h.0 rs [] ≤ ticks j rs []) (sym (add-one h.0)) (each_rises 0 rs e h.0 [] (omega (arith, h.1))))))
-    by false e = refl
+neighbours [] true f h = refl
+neighbours [] false f h = absurd (omega (arith, h.1))
+neighbours (r ∷ rs) t f h =
+    after_first r rs t h
+    ∙ sym (ap₂ (λ (a b : Bool). (a && all_good rs) && (b && rising (record_of r).tick (read rs))) (f (omega arith)) (le-leb 0 (record_of r).tick (omega arith)))

@@ -1,7 +1,7 @@
 // Records, each its twelve bytes: what they say, and which are good.
 ghost use Rattle.std.specs.Prelude.{◌≡◌, ◌&&◌};
 ghost use Rattle.boards.specs.Files.{number4, record_of, good_front, rising};
-ghost use Rattle.boards.specs.Places.{all_good, read};
+ghost use Rattle.boards.specs.Places.{all_good, read, follows};
 
 pub const RECORD_SIZE: usize = 12;
 
@@ -61,10 +61,18 @@ fn is_good(bytes: &Record) -> bool
         && bytes[11] == 0
 }
 
+// A good record, whose tick is not below that of the one before it.
+fn follows(before: &Record, next: &Record) -> bool
+    ensures { result ≡ follows before.now next.now }
+{
+    is_good(next) && tick(before) <= tick(next)
+}
+
 // What row 26 asks of a file: good records, whose ticks never fall.
-// Kept: two passes of the library's; one that held each record's tick for the next would be a loop by hand.
+// Kept: one pass of the library's over each two neighbours, so that a file is left at its first fault.
 pub fn good_records(records: &[Record]) -> bool
     ensures { result ≡ (all_good records.now && rising 0 (read records.now)) }
 {
-    records.iter().all(|record| is_good(record)) && records.is_sorted_by_key(|record| tick(record))
+    records.first().is_none_or(|first| is_good(first))
+        && records.is_sorted_by(|before, next| follows(before, next))
 }
