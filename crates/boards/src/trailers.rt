@@ -3,7 +3,8 @@ ghost use Rattle.std.specs.Prelude.{◌≡◌, ◌<◌, false, MatchOption};
 ghost use Rattle.boards.specs.Files.{good_trailer, trailer};
 ghost use Rattle.boards.specs.Places.{RecordsOf};
 
-use crate::records::{RECORD_SIZE, Record, two_numbers};
+pub use crate::records::RECORD_SIZE;
+use crate::records::{Record, two_numbers};
 
 // CR 12: "a file over 16,777,216 bytes".
 pub const LARGEST: usize = 16777216;
