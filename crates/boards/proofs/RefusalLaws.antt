@@ -278,7 +278,7 @@ module _ (a b out : List ℕ) where
         ∙ ap (λ (x : ℕ). merged x (merged_file a b) out) (sym h.number)
 
 -- what `records_of` rests on
-pub ruleset records_laws = (too_short, too_long, not_marked, ends_elsewhere, is_good, cut_there, offset_is, count_is)
+pub ruleset records_laws = (too_short, too_long, not_marked, ends_elsewhere, is_good, cut_there)
 
 -- what `records_of_both` rests on
 pub ruleset both_laws = (err_from_is_err_and, no_records, its_records, few, first_trailer, second_trailer)
