@@ -67,44 +67,45 @@ chunks_taken (suc k) bs =
     let e : suc k * 12 ≡ 12 + k * 12 = omega arith in
     rw (e, take-take 12 (12 + k * 12) bs (omega arith), drop-take 12 (k * 12) bs) (ap (take 12 bs ∷◌) (chunks_taken k (drop 12 bs)))
 
--- what the library finds of each two neighbours: the records after the first are good, and their ticks never fall
-mixed : (g a c d : Bool) → ((g && a) && (c && d)) ≡ ((g && c) && (a && d))
-mixed true a true d = refl
-mixed true true false d = refl
-mixed true false false d = refl
-mixed false a c d = refl
+pub and_last : (a : Bool) {b : Bool} → b ≡ false → (a && b) ≡ false
+and_last true e = e
+and_last false e = refl
 
-and_no : (a : Bool) {b : Bool} → false ≡ b → false ≡ (a && b)
-and_no true e = e
-and_no false e = refl
-
+-- what the library finds of each two neighbours, of the first two and then of the rest
 module _ (r s : List ℕ) (rs : List (List ℕ)) where
-  -- the neighbours of the rest
-  next : (t : Bool) (k : ℕ) (d : List ℕ) → t ≡ follows (get_or (r ∷ s ∷ rs) (suc k) d) (get_or (r ∷ s ∷ rs) (suc k + 1) d)
+  later : (t : Bool) (k : ℕ) (d : List ℕ) → t ≡ follows (get_or (r ∷ s ∷ rs) (suc k) d) (get_or (r ∷ s ∷ rs) (suc k + 1) d)
       → t ≡ follows (get_or (s ∷ rs) k d) (get_or (s ∷ rs) (k + 1) d)
-  next t k d = subst (λ (j : ℕ). t ≡ follows (get_or (s ∷ rs) k d) (get_or (r ∷ s ∷ rs) j d)) (let e : suc k + 1 ≡ suc (k + 1) = omega arith in e)
+  later t k d = subst (λ (j : ℕ). t ≡ follows (get_or (s ∷ rs) k d) (get_or (r ∷ s ∷ rs) j d)) (let e : suc k + 1 ≡ suc (k + 1) = omega arith in e)
 
-  module _ (later : Bool) (rest : (t : Bool) → IsAllAdjacentAnswer (λ x y b. b ≡ follows x y) (s ∷ rs) t → t ≡ later) where
+  module _ (b : Bool) (rest : (t : Bool) → IsAllAdjacentAnswer (λ x y u. u ≡ follows x y) (s ∷ rs) t → t ≡ b) where
     fault : (k : ℕ) → k + 1 < suc (suc (length rs)) → ((d : List ℕ) → false ≡ follows (get_or (r ∷ s ∷ rs) k d) (get_or (r ∷ s ∷ rs) (k + 1) d))
-        → false ≡ (follows r s && later)
-    fault zero l h = ap (λ (b : Bool). b && later) (h [])
-    fault (suc k) l h = and_no (follows r s) (rest false (k, omega (arith, l), λ d. next false k d (h d)))
+        → false ≡ (follows r s && b)
+    fault zero l h = ap (λ (a : Bool). a && b) (h [])
+    fault (suc k) l h = sym (and_last (follows r s) (sym (rest false (k, omega (arith, l), λ d. later false k d (h d)))))
 
-    both : (t : Bool) → IsAllAdjacentAnswer (λ x y b. b ≡ follows x y) (r ∷ s ∷ rs) t → t ≡ (follows r s && later)
-    both true h = ap₂ ◌&&◌ (h 0 [] (omega arith)) (rest true (λ k d l. next true k d (h (suc k) d (omega (arith, l)))))
+    both : (t : Bool) → IsAllAdjacentAnswer (λ x y u. u ≡ follows x y) (r ∷ s ∷ rs) t → t ≡ (follows r s && b)
+    both true h = ap₂ ◌&&◌ (h 0 [] (omega arith)) (rest true (λ k d l. later true k d (h (suc k) d (omega (arith, l)))))
     both false h = fault h.0 h.1 h.2
 
-after_first : (r : List ℕ) (rs : List (List ℕ)) (t : Bool) → IsAllAdjacentAnswer (λ x y b. b ≡ follows x y) (r ∷ rs) t
+-- the records after the first are good, and their ticks never fall
+after_first : (r : List ℕ) (rs : List (List ℕ)) (t : Bool) → IsAllAdjacentAnswer (λ x y u. u ≡ follows x y) (r ∷ rs) t
     → t ≡ (all_good rs && rising (record_of r).tick (read rs))
 unfolding rising
 after_first r [] true h = refl
 after_first r [] false h = absurd (omega (arith, h.1))
 after_first r (s ∷ rs) t h =
-    both r s rs (all_good rs && rising (record_of s).tick (read rs)) (λ u m. after_first s rs u m) t h
-    ∙ sym (mixed (good_front s) (all_good rs) (leb (record_of r).tick (record_of s).tick) (rising (record_of s).tick (read rs)))
+    let part = both r s rs (all_good rs && rising (record_of s).tick (read rs)) (λ u m. after_first s rs u m) t h in
+    part ∙ apart (good_front s) (all_good rs) (leb (record_of r).tick (record_of s).tick) (rising (record_of s).tick (read rs))
+  where
+    apart : (g a c d : Bool) → ((g && c) && (a && d)) ≡ ((g && a) && (c && d))
+    apart true true c d = refl
+    apart true false true d = refl
+    apart true false false d = refl
+    apart false a c d = refl
 
+-- with the first, all are
 pub neighbours : (rs : List (List ℕ)) (t : Bool) → (0 < length rs → good_front (get_or rs 0 []) ≡ true)
-    → IsAllAdjacentAnswer (λ x y b. b ≡ follows x y) rs t → t ≡ (all_good rs && rising 0 (read rs))
+    → IsAllAdjacentAnswer (λ x y u. u ≡ follows x y) rs t → t ≡ (all_good rs && rising 0 (read rs))
 unfolding rising
 neighbours [] true f h = refl
 neighbours [] false f h = absurd (omega (arith, h.1))

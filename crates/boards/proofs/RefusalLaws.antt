@@ -30,7 +30,7 @@ use Rattle.boards.specs.Merged.{Ready, file_merged, Both, RefusedWith}
 use Rattle.boards.specs.Merged as of_left
 use Rattle.boards.specs.declared.merging.Left.{Left}
 use Rattle.boards.specs.declared.Merged.{Merged}
-use Rattle.boards.proofs.FrontLaws.{four_drop, read_chunks, good_chunks, so_many, chunks_taken}
+use Rattle.boards.proofs.FrontLaws.{and_last, four_drop, read_chunks, good_chunks, so_many, chunks_taken}
 use Rattle.boards.proofs.LoopLaws.{length_read}
 use Rattle.std.proofs.lemmas.Result.{err_from_is_err_and}
 
@@ -53,10 +53,6 @@ trailed bs e =
 -- the bytes that mark a trailer
 mark_tests : (a b c d : ℕ) → pointwise nat_eq (84 ∷ 82 ∷ 65 ∷ 76 ∷ []) (a ∷ b ∷ c ∷ d ∷ []) ≡ (eqb a 84 && (eqb b 82 && (eqb c 65 && eqb d 76)))
 mark_tests a b c d = grind (arith, common_steps)
-
-and_last : (a : Bool) {b : Bool} → b ≡ false → (a && b) ≡ false
-and_last true e = e
-and_last false e = refl
 
 -- the last four bytes
 module _ (bs : List ℕ) (long : 12 ≤ length bs) where
