@@ -12,6 +12,7 @@ use Rattle.listing.specs.Quoted.{quoted}
 use Rattle.answers.specs.declared.Sum.{Sum}
 use Rattle.answers.specs.Gains.{no_sum, tally}
 use Rattle.answers.specs.Readers.{digits_after, number_in, spaced_number, expected, words_in, ll_tail, truth_tail, by_letter, answer_in, finished, end_in, refused_in, last_in, lines_in, listing_in}
+use Rattle.answers.specs.Readers.{sums_in, sums_read}
 
 abbrev sum : ℕ → ℕ → ℕ → ℕ → Sum
 sum a b c d = record { successes = a; scs = b; steps = c; lls = d }
@@ -21,6 +22,11 @@ unfoldable read : ℕ → List Sum → String → Result (List Sum) (List ℕ)
 unfolding tally digits_after number_in spaced_number expected words_in ll_tail truth_tail by_letter answer_in
     finished end_in refused_in last_in lines_in listing_in
 read w before s = listing_in 2 w before (quoted s)
+
+-- the sums that are read, of a wrong listing too
+unfoldable sums_before : ℕ → String → List Sum
+unfolding tally digits_after number_in spaced_number expected words_in ll_tail truth_tail by_letter answer_in sums_in sums_read
+sums_before w s = sums_read 2 w (replicate 2 no_sum) (quoted s)
 
 unfoldable sums : ℕ → String → List Sum
 unfolding read
@@ -43,6 +49,24 @@ case_a = refl
 failed_sc : sums 1 "0 L 10 5\n0 S 6 1\n0 S 6 0\nrefused 12 21\n" ≡ sum 1 2 10 1 ∷ no_sum ∷ []
 unfolding sums
 failed_sc = refl
+
+-- the sums that are read: of a right listing; of one whose third line is an LL without its word; of one that breaks in
+-- its last line; of one that breaks in its first
+read_right : sums_before 1 "0 L 10 5\n0 S 6 1\n1 L 10 7\n0 V 1 0\nend 31\n" ≡ sum 1 1 10 1 ∷ sum 0 0 10 1 ∷ []
+unfolding sums_before
+read_right = refl
+
+breaks_third : sums_before 1 "0 L 10 5\n0 S 6 1\n1 L 10\n0 V 1 0\nend 31\n" ≡ sum 1 1 10 1 ∷ no_sum ∷ []
+unfolding sums_before
+breaks_third = refl
+
+breaks_last : sums_before 1 "1 S 6 0\n0 L 10 5\nend 031\n" ≡ sum 0 0 10 1 ∷ sum 0 1 0 0 ∷ []
+unfolding sums_before
+breaks_last = refl
+
+breaks_first : sums_before 1 "0 L 08 5\n0 S 6 1\nend 31\n" ≡ no_sum ∷ no_sum ∷ []
+unfolding sums_before
+breaks_first = refl
 
 two_words : right 2 "0 L 14 5 6\nend 15\n" ∷ right 2 "0 L 14 5\nend 15\n" ∷ right 1 "0 L 14 5 6\nend 15\n" ∷ [] ≡ true ∷ false ∷ false ∷ []
 unfolding right

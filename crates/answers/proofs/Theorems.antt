@@ -8,10 +8,12 @@ use lib.ListN.{length, length-append}
 use Rattle.std.specs.Prelude.{Result, Ok, Err, IfOk}
 use Rattle.std.specs.Option.{is_some}
 use Rattle.std.specs.Result.{is_ok, result_err, IsOk}
+use Rattle.std.proofs.lemmas.Result.{IfOk-at_ok}
 use Rattle.answers.specs.declared.Sum.{Sum}
+use Rattle.answers.specs.declared.Gain.{Gain}
 use Rattle.answers.specs.Shape.{Answer, line_of, lines_of, last_of, Shaped}
 use Rattle.answers.specs.Gains.{tally, gained}
-use Rattle.answers.specs.Readers.{first, is_digit, read_on, answer_in, last_in, lines_in, listing_in}
+use Rattle.answers.specs.Readers.{first, is_digit, Read, Ended, read_on, answer_in, last_in, lines_in, listing_in, with_line, sums_in, sums_read}
 use Rattle.answers.proofs.Sound.{lines_sound}
 use Rattle.answers.proofs.Complete.{lines_read}
 use Rattle.answers.proofs.WholeLaws.{line_bytes_lem}
@@ -41,6 +43,35 @@ shape_of (Err b) e h = absurd (true≢false (sym e))
 pub shaped_read : (n w : ℕ) (l : List Sum) (bs : List ℕ) → IsOk (listing_in n w l bs) → Shaped n w bs
 unfolding listing_in
 shaped_read n w l bs h = shape_of (listing_in n w l bs) h (lines_sound n w (suc (length bs)) l bs)
+
+-- The sums that are read of a right listing are its sums.
+abbrev Its : Result (List Sum) (List ℕ) → List Sum → Type 0
+Its r m = IfOk r (λ l. m ≡ l)
+
+its_either : (t : Bool) (r x : Result (List Sum) (List ℕ)) (m y : List Sum) → Its r m → Its x y → Its (cond t r x) (cond t m y)
+its_either true r x m y h k = h
+its_either false r x m y h k = k
+
+its_read : (r : Read Gain) (l : List Sum) (f : Gain × List ℕ → Result (List Sum) (List ℕ)) (g : Gain × List ℕ → List Sum)
+    → ((a : Gain × List ℕ) → Its (f a) (g a)) → Its (read_on r f) (with_line r l g)
+its_read (Ok a) l f g h = h a
+its_read (Err rest) l f g h = tt
+
+its_last : (z : Ended) (l : List Sum) → Its (read_on z (λ _. Ok l)) l
+its_last (Ok done) l = refl
+its_last (Err rest) l = tt
+
+its : (n w f : ℕ) (l : List Sum) (bs : List ℕ) → Its (lines_in n w f l bs) (sums_in n w f l bs)
+unfolding lines_in sums_in
+its n w zero l bs = tt
+its n w (suc f) l bs =
+    its_either (is_digit (first bs)) _ _ _ _
+    (its_read (answer_in n w bs) l _ _ (λ a. its n w f (tally l a.0.process a.0.sum) a.1))
+    (its_last (last_in bs) l)
+
+pub sums_of_right : (n w : ℕ) (l : List Sum) (bs : List ℕ) {m : List Sum} → listing_in n w l bs ≡ Ok m → sums_read n w l bs ≡ m
+unfolding listing_in sums_read
+sums_of_right n w l bs {m} e = IfOk-at_ok (λ k. sums_in n w (suc (length bs)) l bs ≡ k) e (its n w (suc (length bs)) l bs)
 
 -- Whether and where a listing breaks does not depend on the sums.
 abbrev Alike : {A B : Type 0} → Result A (List ℕ) → Result B (List ℕ) → Type 0

@@ -13,7 +13,7 @@ use Rattle.answers.specs.declared.Sum.{Sum}
 use Rattle.answers.specs.declared.Gain.{Gain}
 use Rattle.answers.specs.Shape.{largest, Answer, ll, sc, vl, line_of, Fits, ll_fits, sc_fits, vl_fits}
 use Rattle.answers.specs.Gains.{no_sum, plus, bit, gain_of, process_of, tally}
-use Rattle.answers.specs.Readers.{first, is_digit, Ended, read_on, answer_in, last_in, lines_in, listing_in}
+use Rattle.answers.specs.Readers.{first, is_digit, Read, Ended, read_on, answer_in, last_in, lines_in, listing_in, with_line, sums_in, sums_read}
 use Rattle.answers.specs.Ranges.{Below, AllBelow, Readable}
 use Rattle.answers.proofs.SumLaws.{tally_below, weaker}
 use Rattle.answers.proofs.Sound.{Tells, answer_sound}
@@ -81,6 +81,20 @@ same_fuel n w (suc f) (suc g) l bs p q =
     (λ _. read_same (Takes n bs) (answer_in n w bs) _ _ (takes n w bs)
     (λ t k. same_fuel n w f g (tally l t.0.process t.0.sum) t.1 (omega (arith, k.shorter)) (omega (arith, k.shorter))))
 
+line_same : (P : Gain × List ℕ → Type 0) (r : Read Gain) (l : List Sum) (f g : Gain × List ℕ → List Sum) → IfOk r P
+    → ((a : Gain × List ℕ) → P a → f a ≡ g a) → with_line r l f ≡ with_line r l g
+line_same P (Ok a) l f g h k = k a h
+line_same P (Err rest) l f g h k = refl
+
+same_sums_fuel : (n w f g : ℕ) (l : List Sum) (bs : List ℕ) → length bs < f → length bs < g → sums_in n w f l bs ≡ sums_in n w g l bs
+unfolding sums_in
+same_sums_fuel n w zero g l bs p q = absurd (omega arith)
+same_sums_fuel n w (suc f) zero l bs p q = absurd (omega arith)
+same_sums_fuel n w (suc f) (suc g) l bs p q =
+    choose (is_digit (first bs)) _ _ _
+    (λ _. line_same (Takes n bs) (answer_in n w bs) l _ _ (takes n w bs)
+    (λ t k. same_sums_fuel n w f g (tally l t.0.process t.0.sum) t.1 (omega (arith, k.shorter)) (omega (arith, k.shorter))))
+
 module _ (n w : ℕ) (l : List Sum) (bs : List ℕ) where
   next_line : {gain : Gain} {more : List ℕ} → is_digit (first bs) ≡ true → answer_in n w bs ≡ Ok (gain, more)
       → listing_in n w l bs ≡ listing_in n w (tally l gain.process gain.sum) more
@@ -97,9 +111,26 @@ module _ (n w : ℕ) (l : List Sum) (bs : List ℕ) where
   unfolding listing_in lines_in
   last_line d = simp (d)
 
--- the loop: the rest of the listing, on top of the sums so far, is the whole listing on top of the first ones
+  next_sums : {gain : Gain} {more : List ℕ} → is_digit (first bs) ≡ true → answer_in n w bs ≡ Ok (gain, more)
+      → sums_read n w l bs ≡ sums_read n w (tally l gain.process gain.sum) more
+  unfolding sums_read sums_in
+  next_sums {gain} {more} d e =
+      simp (d, e)
+      (same_sums_fuel n w (length bs) (suc (length more)) (tally l gain.process gain.sum) more (taken n w bs e).shorter (omega arith))
+
+  stopped_sums : {rest : List ℕ} → is_digit (first bs) ≡ true → answer_in n w bs ≡ Err rest → sums_read n w l bs ≡ l
+  unfolding sums_read sums_in
+  stopped_sums d e = simp (d, e)
+
+  last_sums : is_digit (first bs) ≡ false → sums_read n w l bs ≡ l
+  unfolding sums_read sums_in
+  last_sums d = simp (d)
+
+-- the loop: the rest of the listing, on top of the sums so far, is the whole listing on top of the first ones, and so are
+-- the sums that are read
 pub record Going (n w : ℕ) (l₀ : List Sum) (bs : List ℕ) (l : List Sum) (rest : List ℕ) : Type 0 where
   pub same : listing_in n w l rest ≡ listing_in n w l₀ bs
+  pub sums : sums_read n w l rest ≡ sums_read n w l₀ bs
   pub within : length rest ≤ length bs
   pub below : AllBelow n (72057594037927935 + (length bs - length rest) * largest) l
 
@@ -114,6 +145,12 @@ module _ {n w : ℕ} {l₀ : List Sum} {bs : List ℕ} {l : List Sum} {rest : Li
 
   pub stops : {r : List ℕ} → is_digit (first rest) ≡ true → answer_in n w rest ≡ Err r → listing_in n w l₀ bs ≡ Err r
   stops d e = sym g.same ∙ no_line n w l rest d e
+
+  pub ends_sums : is_digit (first rest) ≡ false → l ≡ sums_read n w l₀ bs
+  ends_sums d = sym (last_sums n w l rest d) ∙ g.sums
+
+  pub stops_sums : {r : List ℕ} → is_digit (first rest) ≡ true → answer_in n w rest ≡ Err r → l ≡ sums_read n w l₀ bs
+  stops_sums d e = sym (stopped_sums n w l rest d e) ∙ g.sums
 
   -- a turn of the loop: a digit stands there, and a line is read
   module _ (gain : Gain) (more : List ℕ) (e : answer_in n w rest ≡ Ok (gain, more)) where
@@ -157,10 +194,11 @@ module _ {n w : ℕ} {l₀ : List Sum} {bs : List ℕ} {l : List Sum} {rest : Li
         let so_far : ℕ = length bs - length rest in
         record {
           same = sym (next_line n w l rest d e) ∙ g.same;
+          sums = sym (next_sums n w l rest d e) ∙ g.sums;
           within = omega (arith, further, g.within);
           below = weaker n (b + so_far * largest + largest) (b + (length bs - length more) * largest) next
               (omega (arith, further, g.within))
               (tally_below n (b + so_far * largest) largest l gain.process gain.sum took.gain g.below);
         }
 
-pub ruleset reading_lines = (ends, ends_wrong, stops, own, further)
+pub ruleset reading_lines = (ends, ends_wrong, stops, ends_sums, stops_sums, own, further)

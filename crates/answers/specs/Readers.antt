@@ -9,6 +9,7 @@ use Rattle.listing.specs.Quoted.{quoted, byte}
 use Rattle.listing.specs.Lines.{space, line_feed, letter_l, letter_s, letter_v}
 use Rattle.answers.specs.declared.Sum.{Sum}
 use Rattle.answers.specs.declared.Gain.{Gain}
+use Rattle.answers.specs.declared.Wrong.{Wrong}
 use Rattle.answers.specs.Shape.{largest}
 use Rattle.answers.specs.Gains.{no_sum, ll_gain, sc_gain, tally}
 
@@ -121,6 +122,23 @@ lines_in n w (suc f) l bs =
 unfoldable pub listing_in : ℕ → ℕ → List Sum → List ℕ → Result (List Sum) (List ℕ)
 listing_in n w l bs = lines_in n w (suc (length bs)) l bs
 
+-- a whole line is counted by f; where none is, the sums stay
+abbrev pub with_line : Read Gain → List Sum → (Gain × List ℕ → List Sum) → List Sum
+with_line (Ok a) l f = f a
+with_line (Err rest) l f = l
+
+-- CR 2: "successful SCs over SCs answered, and the total of LL steps over LLs answered": the sums with all whole answer
+-- lines from the first on, at a wrong listing those before its first wrong line. Those of a right one are the sums of
+-- `listing_in`: `sums_of_right`, proofs/Theorems
+unfoldable pub sums_in : ℕ → ℕ → ℕ → List Sum → List ℕ → List Sum
+sums_in n w zero l bs = l
+sums_in n w (suc f) l bs =
+    cond (is_digit (first bs))
+    (with_line (answer_in n w bs) l (λ a. sums_in n w f (tally l a.0.process a.0.sum) a.1)) l
+
+unfoldable pub sums_read : ℕ → ℕ → List Sum → List ℕ → List Sum
+sums_read n w l bs = sums_in n w (suc (length bs)) l bs
+
 -- the same of what the code returns: a value and the text behind it, or the text from the first wrong byte on
 abbrev pub Text : Type 0
 Text = Bor (List ℕ)
@@ -147,11 +165,17 @@ abbrev pub GivesLine : Result (Gain × Text) Text → Read Gain → Type 0
 GivesLine (Ok p) t = t ≡ Ok (p.0, p.1.now)
 GivesLine (Err r) t = t ≡ Err r.now
 
-abbrev pub GivesListing : Result (List Sum) Text → Result (List Sum) (List ℕ) → Type 0
-GivesListing (Ok l) a = a ≡ Ok l
-GivesListing (Err r) a = a ≡ Err r.now
+-- the sums are those so far, where the listing is right or wrong
+abbrev pub GivesListing : Result (Unit {0}) Text → List Sum → Result (List Sum) (List ℕ) → Type 0
+GivesListing (Ok done) l a = a ≡ Ok l
+GivesListing (Err r) l a = a ≡ Err r.now
 
 -- the place of the first wrong byte in all bytes, and that the bytes from there on are the rest
-abbrev pub GivesReading : List ℕ → Result (List Sum) ℕ → Result (List Sum) (List ℕ) → Type 0
+abbrev pub GivesReading : List ℕ → Result (List Sum) Wrong → Result (List Sum) (List ℕ) → Type 0
 GivesReading bs (Ok l) a = a ≡ Ok l
-GivesReading bs (Err at) a = IsErrAnd a (λ rest. (rest ≡ drop at bs) × (at ≡ length bs - length rest))
+GivesReading bs (Err wrong) a = IsErrAnd a (λ rest. (rest ≡ drop wrong.at bs) × (wrong.at ≡ length bs - length rest))
+
+-- the sums that it has, read to its end or not
+abbrev pub sums_told : Result (List Sum) Wrong → List Sum
+sums_told (Ok l) = l
+sums_told (Err wrong) = wrong.each

@@ -36,5 +36,13 @@ pub struct Gain {
     pub sum: Sum,
 }
 
+// A listing that is wrong: the sums with the answers of its whole answer lines before the wrong one, and the place of
+// its first wrong byte.
+#[derive(Clone, Copy)]
+pub struct Wrong {
+    pub each: [Sum; 16],
+    pub at: usize,
+}
+
 // What the first bytes of a text say, and the text behind them; or the text from the first wrong byte on.
 pub type Read<'a, T> = Result<(T, &'a [u8]), &'a [u8]>;

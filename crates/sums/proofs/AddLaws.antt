@@ -13,6 +13,7 @@ use lib.ListN.{length, drop}
 use Rattle.llsc.specs.declared.refusals.Refusal.{Refusal}
 use Rattle.llsc.specs.Refusals.{refusal_number}
 use Rattle.answers.specs.declared.Sum.{Sum}
+use Rattle.answers.specs.declared.Wrong.{Wrong}
 use Rattle.answers.specs.Shape.{longest_listing}
 use Rattle.answers.specs.Readers.{listing_in}
 use Rattle.answers.specs.Ranges.{Readable}
@@ -83,11 +84,12 @@ module _ (s : Sums) (bs : List ℕ) where
           simp (le-leb (length bs) longest_listing k)
           (ap (λ (o : Option (List ℕ)). length bs - length (unwrap_or o [])) (sym (same_rest s.n s.w [] s.each bs ∙ ap result_err e)))
 
-      pub wrong : {at : ℕ} → IsErrAnd read (λ rest. (rest ≡ drop at bs) × (at ≡ length bs - length rest)) → not_taken 18 (Some at) ≡ added s bs
+      pub wrong : (found : Wrong) → IsErrAnd read (λ rest. (rest ≡ drop found.at bs) × (found.at ≡ length bs - length rest))
+          → not_taken 18 (Some found.at) ≡ added s bs
       unfolding add_refusal
-      wrong {at} e =
+      wrong found e =
           let p = err_from_is_err_and read e in
-          as_refused s bs 18 (Some at) (simp (z, lt-ltb s.taken most_listings h, right_of (ap is_ok p.1))) refl (ap Some (p.2.1 ∙ broken p.1))
+          as_refused s bs 18 (Some found.at) (simp (z, lt-ltb s.taken most_listings h, right_of (ap is_ok p.1))) refl (ap Some (p.2.1 ∙ broken p.1))
 
       pub right : {each : List Sum} → read ≡ Ok each → Ok (record { n = s.n; w = s.w; taken = s.taken + 1; each = each }) ≡ added s bs
       unfolding add_refusal taking

@@ -118,7 +118,7 @@ pub fn add_listing(sums: Sums, listing: &[u8]) -> Result<Sums, NotAdded>
             taken: sums.taken + 1,
             each,
         }),
-        Err(at) => Err(NotAdded::NoListing { at }),
+        Err(wrong) => Err(NotAdded::NoListing { at: wrong.at }),
     }
 }
 

@@ -3,7 +3,7 @@ use Rattle.answers.proofs.WholeLaws.{Going}
 use Rattle.answers.proofs.whole.read_lines.Given as goal
 
 abbrev pub invariant-loop-rest : goal.invariant-loop-rest
-invariant-loop-rest l = Going l.n l.w l.initial.sums l.text l.sums l.rest
+invariant-loop-rest l = Going l.n l.w l.fn.sums l.text l.sums l.rest
 
 abbrev pub decreases-loop-rest : goal.decreases-loop-rest
 decreases-loop-rest l = length l.rest
