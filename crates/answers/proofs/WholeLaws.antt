@@ -126,11 +126,9 @@ module _ (n w : ℕ) (l : List Sum) (bs : List ℕ) where
   unfolding sums_read sums_in
   last_sums d = simp (d)
 
--- the loop: the rest of the listing, on top of the sums so far, is the whole listing on top of the first ones, and so are
--- the sums that are read
+-- the loop: the rest of the listing, on top of the sums so far, is the whole listing on top of the first ones
 pub record Going (n w : ℕ) (l₀ : List Sum) (bs : List ℕ) (l : List Sum) (rest : List ℕ) : Type 0 where
   pub same : listing_in n w l rest ≡ listing_in n w l₀ bs
-  pub sums : sums_read n w l rest ≡ sums_read n w l₀ bs
   pub within : length rest ≤ length bs
   pub below : AllBelow n (72057594037927935 + (length bs - length rest) * largest) l
 
@@ -145,12 +143,6 @@ module _ {n w : ℕ} {l₀ : List Sum} {bs : List ℕ} {l : List Sum} {rest : Li
 
   pub stops : {r : List ℕ} → is_digit (first rest) ≡ true → answer_in n w rest ≡ Err r → listing_in n w l₀ bs ≡ Err r
   stops d e = sym g.same ∙ no_line n w l rest d e
-
-  pub ends_sums : is_digit (first rest) ≡ false → l ≡ sums_read n w l₀ bs
-  ends_sums d = sym (last_sums n w l rest d) ∙ g.sums
-
-  pub stops_sums : {r : List ℕ} → is_digit (first rest) ≡ true → answer_in n w rest ≡ Err r → l ≡ sums_read n w l₀ bs
-  stops_sums d e = sym (stopped_sums n w l rest d e) ∙ g.sums
 
   -- a turn of the loop: a digit stands there, and a line is read
   module _ (gain : Gain) (more : List ℕ) (e : answer_in n w rest ≡ Ok (gain, more)) where
@@ -194,11 +186,28 @@ module _ {n w : ℕ} {l₀ : List Sum} {bs : List ℕ} {l : List Sum} {rest : Li
         let so_far : ℕ = length bs - length rest in
         record {
           same = sym (next_line n w l rest d e) ∙ g.same;
-          sums = sym (next_sums n w l rest d e) ∙ g.sums;
           within = omega (arith, further, g.within);
           below = weaker n (b + so_far * largest + largest) (b + (length bs - length more) * largest) next
               (omega (arith, further, g.within))
               (tally_below n (b + so_far * largest) largest l gain.process gain.sum took.gain g.below);
         }
+
+-- the same, and the sums that are read of the rest, on top of those so far, are those of the whole listing
+pub record Summing (n w : ℕ) (l₀ : List Sum) (bs : List ℕ) (l : List Sum) (rest : List ℕ) : Type 0 where
+  pub going : Going n w l₀ bs l rest
+  pub sums : sums_read n w l rest ≡ sums_read n w l₀ bs
+
+module _ {n w : ℕ} {l₀ : List Sum} {bs : List ℕ} {l : List Sum} {rest : List ℕ}
+    (h : Readable n l₀ bs) (g : Summing n w l₀ bs l rest) where
+  pub ends_sums : is_digit (first rest) ≡ false → l ≡ sums_read n w l₀ bs
+  ends_sums d = sym (last_sums n w l rest d) ∙ g.sums
+
+  pub stops_sums : {r : List ℕ} → is_digit (first rest) ≡ true → answer_in n w rest ≡ Err r → l ≡ sums_read n w l₀ bs
+  stops_sums d e = sym (stopped_sums n w l rest d e) ∙ g.sums
+
+  pub goes_sums : (gain : Gain) (more : List ℕ) → answer_in n w rest ≡ Ok (gain, more) → is_digit (first rest) ≡ true
+      → Summing n w l₀ bs (set l gain.process (plus (get_or l gain.process no_sum) gain.sum)) more
+  unfolding tally
+  goes_sums gain more e d = record { going = goes h g.going gain more e d; sums = sym (next_sums n w l rest d e) ∙ g.sums }
 
 pub ruleset reading_lines = (ends, ends_wrong, stops, ends_sums, stops_sums, own, further)

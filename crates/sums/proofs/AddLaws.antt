@@ -1,6 +1,6 @@
 -- Laws of adding a listing: for each `return` of the code, that this is what `added` says.
 use Prim.Native.Nat.{ℕ, ◌+◌, ◌-◌, ◌≤◌, ◌<◌}
-use mathlib.Core.Path.{◌≡◌, refl, sym, ap, ◌∙◌}
+use mathlib.Core.Path.{◌≡◌, refl, sym, ap, subst, ◌∙◌}
 use mathlib.Core.List.{List, []}
 use mathlib.Core.Bool.{Bool, true, false, not, ◌&&◌, cond}
 use borrow.Author.Tests.{lt-ltb, le-ltb, le-leb, lt-leb, ne_eqb, eqb-false}
@@ -84,12 +84,18 @@ module _ (s : Sums) (bs : List ℕ) where
           simp (le-leb (length bs) longest_listing k)
           (ap (λ (o : Option (List ℕ)). length bs - length (unwrap_or o [])) (sym (same_rest s.n s.w [] s.each bs ∙ ap result_err e)))
 
-      pub wrong : (found : Wrong) → IsErrAnd read (λ rest. (rest ≡ drop found.at bs) × (found.at ≡ length bs - length rest))
-          → not_taken 18 (Some found.at) ≡ added s bs
+      pub wrong : {at : ℕ} → IsErrAnd read (λ rest. at ≡ length bs - length rest) → not_taken 18 (Some at) ≡ added s bs
       unfolding add_refusal
-      wrong found e =
+      wrong {at} e =
           let p = err_from_is_err_and read e in
-          as_refused s bs 18 (Some found.at) (simp (z, lt-ltb s.taken most_listings h, right_of (ap is_ok p.1))) refl (ap Some (p.2.1 ∙ broken p.1))
+          as_refused s bs 18 (Some at) (simp (z, lt-ltb s.taken most_listings h, right_of (ap is_ok p.1))) refl (ap Some (p.2 ∙ broken p.1))
+
+      -- by what `read_listing` tells: the place, and that the bytes from there on are the rest
+      pub wrong_found : (found : Wrong) → IsErrAnd read (λ rest. (rest ≡ drop found.at bs) × (found.at ≡ length bs - length rest))
+          → not_taken 18 (Some found.at) ≡ added s bs
+      wrong_found found e =
+          let p = err_from_is_err_and read e in
+          wrong (subst (λ r. IsErrAnd r (λ rest. found.at ≡ length bs - length rest)) (sym p.1) p.2.1)
 
       pub right : {each : List Sum} → read ≡ Ok each → Ok (record { n = s.n; w = s.w; taken = s.taken + 1; each = each }) ≡ added s bs
       unfolding add_refusal taking
@@ -97,4 +103,4 @@ module _ (s : Sums) (bs : List ℕ) where
           ap (λ (x : Result (List Sum) (List ℕ)). Ok (record { n = s.n; w = s.w; taken = s.taken + 1; each = result_unwrap_or x s.each })) (sym e)
           ∙ as_taken s bs (simp (z, lt-ltb s.taken most_listings h, right_of (ap is_ok e)))
 
-pub ruleset adding = (refused, full, long, readable, wrong, right)
+pub ruleset adding = (refused, full, long, readable, wrong_found, right)
